@@ -1,0 +1,3 @@
+pub mod Spellings
+pub mod Comparing
+pub mod Storing
