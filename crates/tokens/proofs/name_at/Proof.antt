@@ -1,0 +1,72 @@
+-- `tokens::name_at` meets its contract: a run ends within the text. Assumes nothing.
+use borrow.Author.Needs.{needs}
+use borrow.Author.Tests.{le-leb, lt-leb}
+use Rattle.laws.specs.Choice.{pick}
+use Rattle.tokens.specs.Classes.{isNameByte, run}
+use Rattle.tokens.specs.Tokens.{nameAt}
+use Rattle.tokens.proofs.Laws.{run-within}
+use Prim.Native.Nat.{_+_, _-_, _<_, _≤_}
+use mathlib.Core.Path.{_≡_}
+use native.Mathlib.Omega.{arith}
+use lib.ListN.{drop, length}
+use Rattle.tokens.proofs.name_at.Statement.{statement}
+use Rattle.tokens.proofs.name_at.Tie as tie
+
+name-end-requires : tie.Need-name-end-requires
+name-end-requires c κs = search needs
+
+sub-if1 : tie.Need-sub-if1
+sub-if1 c = search needs
+
+sub-name-kind : tie.Need-sub-name-kind
+sub-name-kind c = search needs
+
+part-name-kind-start : tie.Need-part-name-kind-start
+part-name-kind-start c = search needs
+
+part-name-kind-end : tie.Need-part-name-kind-end
+part-name-kind-end c =
+    let a = c .before .before .before .args in
+    let h : a .i ≤ length (a .text .now) = omega (arith, c .before .before .before .pre) in
+    omega (arith, c .before .name-end .ensures, run-within isNameByte (a .text .now) (a .i) h)
+
+name-kind-requires : tie.Need-name-kind-requires
+name-kind-requires c κs = search needs
+
+found-requires : tie.Need-found-requires
+found-requires c κs = search needs
+
+returns : tie.Need-returns
+unfolding nameAt pick
+returns c =
+    let a = c .before .before .before .before .before .before .args in
+    let n : run isNameByte (drop (a .i) (a .text .now)) ≡ c .before .before .before .before .name-end .result - a .i = omega (
+      arith,
+      c .before .before .before .before .name-end .ensures,
+    ) in
+    let m : a .i + (c .before .before .before .before .name-end .result - a .i) ≡ c .before .before .before .before .name-end .result = omega (
+      arith,
+      c .before .before .before .before .name-end .ensures,
+    ) in
+    rw (n, m, le-leb _ _ (c .before .before .before .if1 .taken), ← c .before .name-kind .ensures) (c .found .ensures)
+
+returns-2 : tie.Need-returns-2
+unfolding nameAt pick
+returns-2 c =
+    let a = c .before .before .before .args in
+    let h : 32 < run isNameByte (drop (a .i) (a .text .now)) = omega (arith, c .before .name-end .ensures, c .if1 .left) in
+    rw (lt-leb _ _ h)
+
+pub name-at-spec : {M : Type 1} → statement M
+name-at-spec =
+    tie.close
+    (tie.spec
+    name-end-requires
+    sub-if1
+    sub-name-kind
+    part-name-kind-start
+    part-name-kind-end
+    name-kind-requires
+    found-requires
+    returns
+    returns-2)
