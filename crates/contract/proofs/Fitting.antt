@@ -1,0 +1,244 @@
+-- What `fits` says of each part of a contract, by name. Assumes nothing.
+use mathlib.Core.Path.{_≡_, refl, sym}
+use mathlib.Core.Bool.{Bool, true, false, _&&_}
+use mathlib.Core.List.{List, [], _∷_}
+use Prim.Native.Nat.{ℕ, zero, suc, _<_, _≤_}
+use native.Mathlib.Omega.{arith}
+use lib.ListN.{length, getD}
+use lib.Dec.{ltb, leb}
+use borrow.Author.Tests.{ltb-true, leb-true}
+use Rattle.laws.proofs.Choice.{true-false}
+use Rattle.tokens.specs.Classes.{isLetter, isNameByte, isStringByte}
+use Rattle.contract.specs.Limits.{maxParties, maxAssets, maxFields, maxStates, maxStrings, maxClauses, maxFunctions, maxEvents, maxNodes, maxValues, maxParameters, maxStatements, maxName, maxString}
+use Rattle.contract.specs.Tree.{Word, Event, Function, Clause, Contract}
+use Rattle.contract.specs.Sizes.{statements, functionSize}
+use Rattle.contract.specs.Fits.{every, total, isName, isString, expressionIn, blockIn, preconditionIn, scopeOf, eventIn, functionIn, clauseIn, wordsIn, fits}
+
+-- ---- tests joined by &&
+
+pub both-left : (a b : Bool) → a && b ≡ true → a ≡ true
+both-left true b e = refl
+both-left false b e = e
+
+pub both-right : (a b : Bool) → a && b ≡ true → b ≡ true
+both-right true b e = e
+both-right false b e = true-false (sym e)
+
+pub both-true : (a b : Bool) → a ≡ true → b ≡ true → a && b ≡ true
+both-true true b e f = f
+both-true false b e f = e
+
+-- a chain of tests, x && (y && .. z)
+abbrev pub chain : List Bool → Bool
+chain [] = true
+chain (x ∷ []) = x
+chain (x ∷ y ∷ l) = x && chain (y ∷ l)
+
+-- each test of a chain
+pub link : (l : List Bool) → chain l ≡ true → (i : ℕ) → getD l i true ≡ true
+link [] h i = refl
+link (x ∷ []) h zero = h
+link (x ∷ []) h (suc i) = refl
+link (x ∷ y ∷ l) h zero = both-left x (chain (y ∷ l)) h
+link (x ∷ y ∷ l) h (suc i) = link (y ∷ l) (both-right x (chain (y ∷ l)) h) i
+
+-- ---- every member of a list
+
+pub every-at : {A : Type 0} (p : A → Bool) (l : List A) → every p l ≡ true → (i : ℕ) → i < length l → (d : A) → p (getD l i d) ≡ true
+unfolding every
+every-at p [] e i h d = absurd (omega arith)
+every-at p (x ∷ l) e zero h d = both-left (p x) (every p l) e
+every-at p (x ∷ l) e (suc i) h d = every-at p l (both-right (p x) (every p l) e) i (omega arith) d
+
+pub every-head : {A : Type 0} (p : A → Bool) (x : A) (l : List A) → every p (x ∷ l) ≡ true → p x ≡ true
+unfolding every
+every-head p x l e = both-left (p x) (every p l) e
+
+pub every-tail : {A : Type 0} (p : A → Bool) (x : A) (l : List A) → every p (x ∷ l) ≡ true → every p l ≡ true
+unfolding every
+every-tail p x l e = both-right (p x) (every p l) e
+
+-- what follows from a test holds of every member that passes it
+pub every-so : {A : Type 0} (p q : A → Bool) → ((x : A) → p x ≡ true → q x ≡ true) → (l : List A) → every p l ≡ true → every q l ≡ true
+unfolding every
+every-so p q f [] e = refl
+every-so p q f (x ∷ l) e =
+    both-true (q x) (every q l) (f x (both-left (p x) (every p l) e)) (every-so p q f l (both-right (p x) (every p l) e))
+
+-- ---- words
+
+-- a name has 1 to 32 bytes
+pub name-length : (n : Word) → isName n ≡ true → length n ≤ maxName
+unfolding isName
+name-length [] e = true-false (sym e)
+name-length (x ∷ xs) e = ltb-true (length xs) maxName (link (isLetter x ∷ every isNameByte xs ∷ ltb (length xs) maxName ∷ []) e 2)
+
+pub name-some : (n : Word) → isName n ≡ true → 1 ≤ length n
+unfolding isName
+name-some [] e = true-false (sym e)
+name-some (x ∷ xs) e = omega arith
+
+pub string-length : (s : Word) → isString s ≡ true → length s ≤ maxString
+unfolding isString
+string-length s e = leb-true (length s) maxString (both-right (every isStringByte s) (leb (length s) maxString) e)
+
+-- ---- the parts of a contract
+
+pub record FitsClause (c : Contract) (k : Clause) : Type 0 where
+  pub party : k .party < length (c .parties)
+  pub fields : every (λ x. ltb x (length (c .fields))) (k .fields) ≡ true
+  pub fields-few : length (k .fields) ≤ maxFields
+
+pub record FitsEvent (c : Contract) (f : Function) (e : Event) : Type 0 where
+  pub guard : expressionIn (scopeOf c (f .values) (f .parameters)) (e .guard) ≡ true
+  pub state : e .state < length (c .states)
+  pub handler : blockIn (scopeOf c 0 0) (e .handler) ≡ true
+  pub handler-few : statements (e .handler) ≤ maxStatements
+  pub last : e .last < length (c .states)
+
+pub record FitsFunction (c : Contract) (f : Function) : Type 0 where
+  pub state : f .state < length (c .states)
+  pub party : f .party < length (c .parties)
+  pub name : isName (f .name) ≡ true
+  pub values : f .values ≤ maxValues
+  pub parameters : f .parameters ≤ maxParameters
+  pub precondition : preconditionIn (scopeOf c (f .values) (f .parameters)) (f .precondition) ≡ true
+  pub body : blockIn (scopeOf c (f .values) (f .parameters)) (f .body) ≡ true
+  pub body-few : statements (f .body) ≤ maxStatements
+  pub events : every (eventIn c f) (f .events) ≡ true
+  pub last : f .last < length (c .states)
+
+pub record FitsContract (c : Contract) : Type 0 where
+  pub name : isName (c .name) ≡ true
+  pub parties : every isName (c .parties) ≡ true
+  pub parties-few : length (c .parties) ≤ maxParties
+  pub assets : every isName (c .assets) ≡ true
+  pub assets-few : length (c .assets) ≤ maxAssets
+  pub fields : every isName (c .fields) ≡ true
+  pub fields-few : length (c .fields) ≤ maxFields
+  pub states : every isName (c .states) ≡ true
+  pub states-few : length (c .states) ≤ maxStates
+  pub strings : every isString (c .strings) ≡ true
+  pub strings-few : length (c .strings) ≤ maxStrings
+  pub clauses : every (clauseIn c) (c .clauses) ≡ true
+  pub clauses-few : length (c .clauses) ≤ maxClauses
+  pub initial : c .initial < length (c .states)
+  pub functions : every (functionIn c) (c .functions) ≡ true
+  pub functions-few : length (c .functions) ≤ maxFunctions
+  pub events-few : total (λ f. length (f .events)) (c .functions) ≤ maxEvents
+  pub nodes-few : total functionSize (c .functions) ≤ maxNodes
+
+pub fits-clause : (c : Contract) (k : Clause) → clauseIn c k ≡ true → FitsClause c k
+unfolding clauseIn
+fits-clause c k e =
+    let t =
+    link
+    (ltb (k .party) (length (c .parties))
+    ∷ every (λ x. ltb x (length (c .fields))) (k .fields)
+    ∷ leb (length (k .fields)) maxFields
+    ∷ [])
+    e in
+    record {
+      party = ltb-true _ _ (t 0);
+      fields = t 1;
+      fields-few = leb-true _ _ (t 2);
+    }
+
+pub fits-event : (c : Contract) (f : Function) (e : Event) → eventIn c f e ≡ true → FitsEvent c f e
+unfolding eventIn
+fits-event c f e h =
+    let t =
+    link
+    (expressionIn (scopeOf c (f .values) (f .parameters)) (e .guard)
+    ∷ ltb (e .state) (length (c .states))
+    ∷ blockIn (scopeOf c 0 0) (e .handler)
+    ∷ leb (statements (e .handler)) maxStatements
+    ∷ ltb (e .last) (length (c .states))
+    ∷ [])
+    h in
+    record {
+      guard = t 0;
+      state = ltb-true _ _ (t 1);
+      handler = t 2;
+      handler-few = leb-true _ _ (t 3);
+      last = ltb-true _ _ (t 4);
+    }
+
+pub fits-function : (c : Contract) (f : Function) → functionIn c f ≡ true → FitsFunction c f
+unfolding functionIn
+fits-function c f h =
+    let t =
+    link
+    (ltb (f .state) (length (c .states))
+    ∷ ltb (f .party) (length (c .parties))
+    ∷ isName (f .name)
+    ∷ leb (f .values) maxValues
+    ∷ leb (f .parameters) maxParameters
+    ∷ preconditionIn (scopeOf c (f .values) (f .parameters)) (f .precondition)
+    ∷ blockIn (scopeOf c (f .values) (f .parameters)) (f .body)
+    ∷ leb (statements (f .body)) maxStatements
+    ∷ every (eventIn c f) (f .events)
+    ∷ ltb (f .last) (length (c .states))
+    ∷ [])
+    h in
+    record {
+      state = ltb-true _ _ (t 0);
+      party = ltb-true _ _ (t 1);
+      name = t 2;
+      values = leb-true _ _ (t 3);
+      parameters = leb-true _ _ (t 4);
+      precondition = t 5;
+      body = t 6;
+      body-few = leb-true _ _ (t 7);
+      events = t 8;
+      last = ltb-true _ _ (t 9);
+    }
+
+words-right : (p : Word → Bool) (n : ℕ) (l : List Word) → wordsIn p n l ≡ true → every p l ≡ true
+unfolding wordsIn
+words-right p n l e = both-left (every p l) (leb (length l) n) e
+
+words-few : (p : Word → Bool) (n : ℕ) (l : List Word) → wordsIn p n l ≡ true → length l ≤ n
+unfolding wordsIn
+words-few p n l e = leb-true _ _ (both-right (every p l) (leb (length l) n) e)
+
+pub fits-contract : (c : Contract) → fits c ≡ true → FitsContract c
+unfolding fits
+fits-contract c h =
+    let t =
+    link
+    (isName (c .name)
+    ∷ wordsIn isName maxParties (c .parties)
+    ∷ wordsIn isName maxAssets (c .assets)
+    ∷ wordsIn isName maxFields (c .fields)
+    ∷ wordsIn isName maxStates (c .states)
+    ∷ wordsIn isString maxStrings (c .strings)
+    ∷ every (clauseIn c) (c .clauses)
+    ∷ leb (length (c .clauses)) maxClauses
+    ∷ ltb (c .initial) (length (c .states))
+    ∷ every (functionIn c) (c .functions)
+    ∷ leb (length (c .functions)) maxFunctions
+    ∷ leb (total (λ f. length (f .events)) (c .functions)) maxEvents
+    ∷ leb (total functionSize (c .functions)) maxNodes
+    ∷ [])
+    h in
+    record {
+      name = t 0;
+      parties = words-right _ _ _ (t 1);
+      parties-few = words-few _ _ _ (t 1);
+      assets = words-right _ _ _ (t 2);
+      assets-few = words-few _ _ _ (t 2);
+      fields = words-right _ _ _ (t 3);
+      fields-few = words-few _ _ _ (t 3);
+      states = words-right _ _ _ (t 4);
+      states-few = words-few _ _ _ (t 4);
+      strings = words-right _ _ _ (t 5);
+      strings-few = words-few _ _ _ (t 5);
+      clauses = t 6;
+      clauses-few = leb-true _ _ (t 7);
+      initial = ltb-true _ _ (t 8);
+      functions = t 9;
+      functions-few = leb-true _ _ (t 10);
+      events-few = leb-true _ _ (t 11);
+      nodes-few = leb-true _ _ (t 12);
+    }

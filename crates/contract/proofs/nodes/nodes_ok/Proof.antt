@@ -1,0 +1,91 @@
+use borrow.Author.Needs.{needs}
+use Rattle.contract.proofs.nodes.nodes_ok.Statement.{statement}
+use Rattle.contract.proofs.nodes.nodes_ok.Tie as tie
+use Rattle.contract.proofs.nodes.nodes_ok.Reads as reads
+use Rattle.contract.proofs.nodes.nodes_ok.Lts as lts
+use Rattle.contract.proofs.nodes.counted.Reads as counted-reads
+use Rattle.contract.proofs.nodes.node_ok.Reads as node-ok-reads
+use mathlib.Core.Path.{_≡_, refl, sym, ap, _∙_}
+use mathlib.Core.Bool.{true, _&&_}
+use Prim.Native.Nat.{_≤_, _-_, _+_}
+use native.Mathlib.Omega.{arith}
+use lib.Dec.{leb}
+use Rattle.contract.specs.Check.{allBelow, isSort, statement as a-statement, nodeOk, scopeAt, statementsIn, nodesOk}
+use Rattle.contract.specs.Table.{kindAt}
+use Rattle.contract.proofs.Tests.{all-more, all-stop, all-end}
+use Rattle.contract.proofs.Checked.{statements-more, counted-most}
+
+abbrev Inv-loop : tie.InvT-loop
+Inv-loop table values parameters from n count₀ j₀ count j =
+    (j ≤ n) × (count ≤ j) × (count ≡ statementsIn table from j) × (allBelow j (λ i. nodeOk table (scopeAt table values parameters) from (from + i)) ≡ true)
+
+abbrev μ-loop : tie.MeasureT-loop
+μ-loop table values parameters from n count₀ j₀ count j =
+    n - j
+
+-- src/nodes.rt:236:5
+loop-holds : tie.Need-loop-holds Inv-loop μ-loop
+unfolding allBelow statementsIn
+loop-holds c =
+    (omega arith, omega arith, refl, refl)
+
+-- src/nodes.rt:237:53
+add-node-ok : tie.Need-add-node-ok Inv-loop μ-loop
+add-node-ok c = search needs
+
+-- src/nodes.rt:237:12
+node-ok-requires : tie.Need-node-ok-requires Inv-loop μ-loop
+node-ok-requires c κs = search needs
+
+-- src/nodes.rt:238:36
+add-counted : tie.Need-add-counted Inv-loop μ-loop
+add-counted c = search needs
+
+-- src/nodes.rt:238:13
+counted-requires : tie.Need-counted-requires Inv-loop μ-loop
+counted-requires c κs = search needs
+
+-- src/nodes.rt:239:13
+add-j : tie.Need-add-j Inv-loop μ-loop
+add-j c = search needs
+
+-- src/nodes.rt:236:5
+loop-less : tie.Need-loop-less Inv-loop μ-loop
+loop-less c = search needs
+
+-- src/nodes.rt:236:5
+loop-again : tie.Need-loop-again Inv-loop μ-loop
+loop-again c =
+    (omega arith, omega (arith, counted-most (isSort a-statement (kindAt (c .before .before .before .before .before .before .args .table .now) (c .before .before .before .before .before .before .args .from + c .before .before .before .before .loop .j))) (c .before .before .before .before .loop .count) (c .counted .ensures)),
+    statements-more (c .before .before .before .before .before .before .args .table .now) (c .before .before .before .before .before .before .args .from) (c .before .before .before .before .loop .j) (c .before .before .before .before .loop .count) (c .before .before .before .before .loop .inv .2) (c .counted .ensures),
+    all-more _ _ (c .before .before .before .before .loop .inv .3) (sym (c .before .before .node-ok .ensures) ∙ c .before .if1 .taken))
+
+-- src/nodes.rt:241:13
+returns : tie.Need-returns Inv-loop μ-loop
+unfolding nodesOk
+returns c =
+    λ i. all-stop (λ j. nodeOk (c .before .before .before .before .before .args .table .now) (scopeAt (c .before .before .before .before .before .args .table .now) (c .before .before .before .before .before .args .values) (c .before .before .before .before .before .args .parameters)) (c .before .before .before .before .before .args .from) (c .before .before .before .before .before .args .from + j)) (c .before .before .before .loop .j) (c .before .before .before .before .before .args .n) (c .before .before .loop-test .taken) (sym (c .before .node-ok .ensures) ∙ c .if1 .left) i && leb (statementsIn (c .before .before .before .before .before .args .table .now) (c .before .before .before .before .before .args .from) (c .before .before .before .before .before .args .n)) 64
+
+-- src/nodes.rt:230:1
+returns-2 : tie.Need-returns-2 Inv-loop μ-loop
+unfolding nodesOk
+returns-2 c =
+    let e : c .before .loop .j ≡ c .before .before .before .args .n = omega arith in
+    λ i. all-end (λ j. nodeOk (c .before .before .before .args .table .now) (scopeAt (c .before .before .before .args .table .now) (c .before .before .before .args .values) (c .before .before .before .args .parameters)) (c .before .before .before .args .from) (c .before .before .before .args .from + j)) (c .before .loop .j) (c .before .before .before .args .n) (c .before .loop .inv .0) (c .loop-test .left) (c .before .loop .inv .3) i && leb ((c .before .loop .inv .2 ∙ ap (statementsIn (c .before .before .before .args .table .now) (c .before .before .before .args .from)) e) i) 64
+
+pub nodes-ok-spec : {M : Type 1} → statement M
+nodes-ok-spec =
+    tie.close
+    (tie.spec
+    Inv-loop
+    μ-loop
+    loop-holds
+    add-node-ok
+    node-ok-requires
+    add-counted
+    counted-requires
+    add-j
+    loop-less
+    loop-again
+    returns
+    returns-2)

@@ -1,0 +1,10 @@
+pub mod Limits
+pub mod Tree
+pub mod Sizes
+pub mod Fits
+pub mod Table
+pub mod Encode
+pub mod Decode
+pub mod Check
+pub mod Rows
+pub mod Places

@@ -1,0 +1,325 @@
+// The table of a contract: its limits, its rows and nodes, and the check that every step asks of it.
+ghost use mathlib.Core.Path.{_≡_};
+ghost use Prim.Native.Nat.{ℕ, _+_, _*_, _≤_, _<_};
+ghost use mathlib.Core.Bool.{true};
+ghost use lib.Dec.{ltb};
+ghost use Rattle.contract.specs.Table.{wordAt, clauseWord};
+ghost use Rattle.contract.specs.Rows.{headOf, functionRowOf, eventRowOf, clauseRowOf, nodeOf};
+ghost use Rattle.contract.specs.Check.{allBelow, headOk, namesOk, clauseOk, passes};
+ghost use Rattle.contract.specs.Places.{RowAt};
+
+mod functions;
+mod names;
+mod nodes;
+
+// The head of a table: how many there are of each, and the initial state.
+pub struct Contract {
+    pub parties: usize,
+    pub assets: usize,
+    pub fields: usize,
+    pub states: usize,
+    pub strings: usize,
+    pub clauses: usize,
+    pub functions: usize,
+    pub events: usize,
+    pub nodes: usize,
+    pub initial: usize,
+}
+
+impl Contract {
+    pub const PARTIES: usize = 8;
+    pub const ASSETS: usize = 16;
+    pub const FIELDS: usize = 32;
+    pub const STATES: usize = 32;
+    // Distinct strings.
+    pub const STRINGS: usize = 32;
+    // Each party has at most one SET and one OK.
+    pub const CLAUSES: usize = 16;
+    pub const FUNCTIONS: usize = 64;
+    pub const EVENTS: usize = 64;
+    pub const NODES: usize = 4096;
+    // The words of a table.
+    pub const TABLE: usize = 20819;
+}
+
+// A function's row. Its nodes start at `first`: those of the precondition, those of the body, its events.
+pub struct Function {
+    pub state: usize,
+    pub party: usize,
+    pub last: usize,
+    pub values: usize,
+    pub parameters: usize,
+    pub first: usize,
+    pub precondition: usize,
+    pub body: usize,
+    pub event: usize,
+    pub events: usize,
+}
+
+impl Function {
+    // Value parameters and asset parameters.
+    pub const VALUES: usize = 8;
+    pub const PARAMETERS: usize = 4;
+    // Statements in a body or a handler, nested ones counted.
+    pub const STATEMENTS: usize = 64;
+}
+
+// An event's row: its states, and its node, which stands after its guard and its handler.
+pub struct Event {
+    pub state: usize,
+    pub last: usize,
+    pub node: usize,
+}
+
+// A clause's row: its party, its verb (0 SET, 1 OK), and how many fields it names.
+pub struct Clause {
+    pub party: usize,
+    pub verb: usize,
+    pub fields: usize,
+}
+
+// A node: its parts stand before it. Of an expression, a condition or an event its size counts the nodes of its whole, of a
+// statement those of its block up to and with it.
+pub struct Node {
+    pub kind: u64,
+    pub argument: u64,
+    pub size: usize,
+}
+
+impl Node {
+    // Expressions.
+    pub const CONSTANT: u64 = 1;
+    pub const STRING: u64 = 2;
+    pub const NOW: u64 = 3;
+    pub const FIELD: u64 = 4;
+    pub const ASSET: u64 = 5;
+    pub const VALUE: u64 = 6;
+    pub const PARAMETER: u64 = 7;
+    pub const PLUS: u64 = 8;
+    pub const MINUS: u64 = 9;
+    pub const TIMES: u64 = 10;
+    pub const OVER: u64 = 11;
+    // Conditions.
+    pub const TRUE: u64 = 12;
+    pub const FALSE: u64 = 13;
+    pub const EQUAL: u64 = 14;
+    pub const UNEQUAL: u64 = 15;
+    pub const LESS: u64 = 16;
+    pub const AT_MOST: u64 = 17;
+    pub const GREATER: u64 = 18;
+    pub const AT_LEAST: u64 = 19;
+    pub const NOT: u64 = 20;
+    pub const AND: u64 = 21;
+    pub const OR: u64 = 22;
+    // A party, as the target of a statement.
+    pub const PARTY: u64 = 23;
+    // Statements: E -> t; E -o h, t; h -o t; (B) { S }.
+    pub const VALUE_MOVE: u64 = 24;
+    pub const ASSET_MOVE: u64 = 25;
+    pub const WHOLE_MOVE: u64 = 26;
+    pub const CONDITIONAL: u64 = 27;
+    pub const EVENT: u64 = 28;
+}
+
+// Where the sections of a table start: rows of names, strings, clauses, functions, events and nodes.
+const NAME: usize = 10;
+const PARTIES: usize = NAME + 33;
+const ASSETS: usize = PARTIES + Contract::PARTIES * 33;
+const FIELDS: usize = ASSETS + Contract::ASSETS * 33;
+const STATES: usize = FIELDS + Contract::FIELDS * 33;
+const STRINGS: usize = STATES + Contract::STATES * 33;
+const CLAUSES: usize = STRINGS + Contract::STRINGS * 65;
+const FUNCTIONS: usize = CLAUSES + Contract::CLAUSES * 35;
+const EVENTS: usize = FUNCTIONS + Contract::FUNCTIONS * 43;
+const NODES: usize = EVENTS + Contract::EVENTS * 3;
+
+// Word i of a table, and 0 past its end.
+pub fn word(table: &[u64], i: usize) -> u64
+    ensures { λ r. ⌜ r ≡ wordAt (now (table .entry)) i ⌝ }
+{
+    if i < table.len() { table[i] } else { 0 }
+}
+
+// Where row i of a section stands, or the table's end where the row is past it.
+fn row(table: &[u64], start: usize, width: usize, i: usize) -> usize
+    requires { ⌜ (0 < width) × (width ≤ start) × (start ≤ 20819) ⌝ }
+    ensures { λ r. ⌜ RowAt (now (table .entry)) start width i r ⌝ }
+{
+    if table.len() / width <= i {
+        return table.len();
+    }
+    start + i * width
+}
+
+pub fn head(table: &[u64]) -> Contract
+    ensures { λ r. ⌜ r ≡ headOf (now (table .entry)) ⌝ }
+{
+    Contract {
+        parties: word(table, 0) as usize,
+        assets: word(table, 1) as usize,
+        fields: word(table, 2) as usize,
+        states: word(table, 3) as usize,
+        strings: word(table, 4) as usize,
+        clauses: word(table, 5) as usize,
+        functions: word(table, 6) as usize,
+        events: word(table, 7) as usize,
+        nodes: word(table, 8) as usize,
+        initial: word(table, 9) as usize,
+    }
+}
+
+pub fn function_at(table: &[u64], i: usize) -> Function
+    ensures { λ r. ⌜ r ≡ functionRowOf (now (table .entry)) i ⌝ }
+{
+    let at = row(table, FUNCTIONS, 43, i);
+    Function {
+        state: word(table, at) as usize,
+        party: word(table, at + 1) as usize,
+        last: word(table, at + 2) as usize,
+        values: word(table, at + 3) as usize,
+        parameters: word(table, at + 4) as usize,
+        first: word(table, at + 5) as usize,
+        precondition: word(table, at + 6) as usize,
+        body: word(table, at + 7) as usize,
+        event: word(table, at + 8) as usize,
+        events: word(table, at + 9) as usize,
+    }
+}
+
+pub fn event_at(table: &[u64], i: usize) -> Event
+    ensures { λ r. ⌜ r ≡ eventRowOf (now (table .entry)) i ⌝ }
+{
+    let at = row(table, EVENTS, 3, i);
+    Event {
+        state: word(table, at) as usize,
+        last: word(table, at + 1) as usize,
+        node: word(table, at + 2) as usize,
+    }
+}
+
+pub fn clause_at(table: &[u64], i: usize) -> Clause
+    ensures { λ r. ⌜ r ≡ clauseRowOf (now (table .entry)) i ⌝ }
+{
+    let at = row(table, CLAUSES, 35, i);
+    Clause {
+        party: word(table, at) as usize,
+        verb: word(table, at + 1) as usize,
+        fields: word(table, at + 2) as usize,
+    }
+}
+
+// Field j of clause i.
+pub fn clause_field(table: &[u64], i: usize, j: usize) -> usize
+    ensures { λ r. ⌜ r ≡ clauseWord (now (table .entry)) i (3 + j) ⌝ }
+{
+    if table.len() <= j {
+        return 0;
+    }
+    word(table, row(table, CLAUSES, 35, i) + (3 + j)) as usize
+}
+
+pub fn node_at(table: &[u64], k: usize) -> Node
+    ensures { λ r. ⌜ r ≡ nodeOf (now (table .entry)) k ⌝ }
+{
+    let at = row(table, NODES, 3, k);
+    Node {
+        kind: word(table, at),
+        argument: word(table, at + 1),
+        size: word(table, at + 2) as usize,
+    }
+}
+
+fn head_ok(table: &[u64]) -> bool
+    ensures { λ r. ⌜ r ≡ headOk (now (table .entry)) ⌝ }
+{
+    let h = head(table);
+    (h.parties <= Contract::PARTIES)
+        & ((h.assets <= Contract::ASSETS)
+            & ((h.fields <= Contract::FIELDS)
+                & ((h.states <= Contract::STATES)
+                    & ((h.strings <= Contract::STRINGS)
+                        & ((h.clauses <= Contract::CLAUSES)
+                            & ((h.functions <= Contract::FUNCTIONS)
+                                & ((h.events <= Contract::EVENTS)
+                                    & ((h.nodes <= Contract::NODES) & (h.initial < h.states)))))))))
+}
+
+fn clause_fields_ok(table: &[u64], i: usize, n: usize) -> bool
+    ensures { λ r. ⌜ r ≡ allBelow n (λ j. ltb (clauseWord (now (table .entry)) i (3 + j)) (wordAt (now (table .entry)) 2)) ⌝ }
+{
+    let fields = word(table, 2) as usize;
+    let mut j: usize = 0;
+    while j < n {
+        if clause_field(table, i, j) < fields {
+            j += 1;
+        } else {
+            return false;
+        }
+    }
+    true
+}
+
+fn clause_ok(table: &[u64], i: usize) -> bool
+    ensures { λ r. ⌜ r ≡ clauseOk (now (table .entry)) i ⌝ }
+{
+    let c = clause_at(table, i);
+    if c.party < word(table, 0) as usize {
+        if c.verb <= 1 {
+            if c.fields <= Contract::FIELDS {
+                return clause_fields_ok(table, i, c.fields);
+            }
+        }
+    }
+    false
+}
+
+fn clauses_ok(table: &[u64], count: usize) -> bool
+    ensures { λ r. ⌜ r ≡ allBelow count (clauseOk (now (table .entry))) ⌝ }
+{
+    let mut i: usize = 0;
+    while i < count {
+        if clause_ok(table, i) {
+            i += 1;
+        } else {
+            return false;
+        }
+    }
+    true
+}
+
+// The contract's name, and those of its parties, assets, fields and states; its strings.
+fn words_ok(table: &[u64]) -> bool
+    requires { ⌜ headOk (now table) ≡ true ⌝ }
+    ensures { λ r. ⌜ r ≡ namesOk (now (table .entry)) ⌝ }
+{
+    let h = head(table);
+    if names::name_ok(table, NAME) {
+        if names::names_ok(table, PARTIES, h.parties) {
+            if names::names_ok(table, ASSETS, h.assets) {
+                if names::names_ok(table, FIELDS, h.fields) {
+                    if names::names_ok(table, STATES, h.states) {
+                        return names::strings_ok(table, h.strings);
+                    }
+                }
+            }
+        }
+    }
+    false
+}
+
+// Question 3: whether a table passes the check of docs/TABLE.md.
+pub fn table_passes(table: &[u64]) -> bool
+    ensures { λ r. ⌜ r ≡ passes (now (table .entry)) ⌝ }
+{
+    if table.len() != Contract::TABLE {
+        return false;
+    }
+    if head_ok(table) {
+        if words_ok(table) {
+            if clauses_ok(table, word(table, 5) as usize) {
+                return functions::functions_ok(table);
+            }
+        }
+    }
+    false
+}
