@@ -19,7 +19,7 @@ row-past w start width i p s h =
     let l : length w < length w / width * width + width = lt-div-mul-add p in
     record {
       bound = omega arith;
-      same = λ j. past-end w (length w + j) (omega arith) ∙ sym (past-end w (start + i * width + j) (omega arith))
+      same = λ j. past-end w (length w + j) (omega arith) ∙ sym (past-end w (start + i * width + j) (omega arith));
     }
 
 -- any other starts before it

@@ -20,7 +20,7 @@ headOf w =
       functions = wordAt w 6;
       events = wordAt w 7;
       nodes = wordAt w 8;
-      initial = wordAt w 9
+      initial = wordAt w 9;
     }
 
 abbrev pub functionRowOf : List ℕ → ℕ → Function
@@ -35,7 +35,7 @@ functionRowOf w i =
       precondition = functionWord w i 6;
       body = functionWord w i 7;
       event = functionWord w i 8;
-      events = functionWord w i 9
+      events = functionWord w i 9;
     }
 
 abbrev pub eventRowOf : List ℕ → ℕ → Event

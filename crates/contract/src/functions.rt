@@ -7,6 +7,9 @@ ghost use Rattle.contract.specs.Table.{wordAt, functionWord};
 ghost use Rattle.contract.specs.Rows.{functionRowOf};
 ghost use Rattle.contract.specs.Places.{eventPasses};
 ghost use Rattle.contract.specs.Check.{allBelow, scopeAt, preconditionOk, bodyOk, eventNodesOk, eventOk, eventFirst, firstNode, firstEvent, functionNodesOk, functionOk};
+use crate::Contract;
+use crate::Function;
+use crate::Node;
 use crate::event_at;
 use crate::function_at;
 use crate::names::name_ok;
@@ -16,9 +19,6 @@ use crate::nodes::block_ok;
 use crate::nodes::is_sort;
 use crate::nodes::nodes_ok;
 use crate::word;
-use crate::Contract;
-use crate::Function;
-use crate::Node;
 
 // A precondition in the n nodes from `first` on: none, or a condition that counts them all.
 fn precondition_ok(table: &[u64], values: usize, parameters: usize, first: usize, n: usize) -> bool

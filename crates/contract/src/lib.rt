@@ -28,15 +28,21 @@ pub struct Contract {
 
 impl Contract {
     pub const PARTIES: usize = 8;
+
     pub const ASSETS: usize = 16;
+
     pub const FIELDS: usize = 32;
+
     pub const STATES: usize = 32;
     // Distinct strings.
     pub const STRINGS: usize = 32;
     // Each party has at most one SET and one OK.
     pub const CLAUSES: usize = 16;
+
     pub const FUNCTIONS: usize = 64;
+
     pub const EVENTS: usize = 64;
+
     pub const NODES: usize = 4096;
     // The words of a table.
     pub const TABLE: usize = 20819;
@@ -59,6 +65,7 @@ pub struct Function {
 impl Function {
     // Value parameters and asset parameters.
     pub const VALUES: usize = 8;
+
     pub const PARAMETERS: usize = 4;
     // Statements in a body or a handler, nested ones counted.
     pub const STATEMENTS: usize = 64;
@@ -89,48 +96,81 @@ pub struct Node {
 impl Node {
     // Expressions.
     pub const CONSTANT: u64 = 1;
+
     pub const STRING: u64 = 2;
+
     pub const NOW: u64 = 3;
+
     pub const FIELD: u64 = 4;
+
     pub const ASSET: u64 = 5;
+
     pub const VALUE: u64 = 6;
+
     pub const PARAMETER: u64 = 7;
+
     pub const PLUS: u64 = 8;
+
     pub const MINUS: u64 = 9;
+
     pub const TIMES: u64 = 10;
+
     pub const OVER: u64 = 11;
     // Conditions.
     pub const TRUE: u64 = 12;
+
     pub const FALSE: u64 = 13;
+
     pub const EQUAL: u64 = 14;
+
     pub const UNEQUAL: u64 = 15;
+
     pub const LESS: u64 = 16;
+
     pub const AT_MOST: u64 = 17;
+
     pub const GREATER: u64 = 18;
+
     pub const AT_LEAST: u64 = 19;
+
     pub const NOT: u64 = 20;
+
     pub const AND: u64 = 21;
+
     pub const OR: u64 = 22;
     // A party, as the target of a statement.
     pub const PARTY: u64 = 23;
     // Statements: E -> t; E -o h, t; h -o t; (B) { S }.
     pub const VALUE_MOVE: u64 = 24;
+
     pub const ASSET_MOVE: u64 = 25;
+
     pub const WHOLE_MOVE: u64 = 26;
+
     pub const CONDITIONAL: u64 = 27;
+
     pub const EVENT: u64 = 28;
 }
 
 // Where the sections of a table start: rows of names, strings, clauses, functions, events and nodes.
 const NAME: usize = 10;
+
 const PARTIES: usize = NAME + 33;
+
 const ASSETS: usize = PARTIES + Contract::PARTIES * 33;
+
 const FIELDS: usize = ASSETS + Contract::ASSETS * 33;
+
 const STATES: usize = FIELDS + Contract::FIELDS * 33;
+
 const STRINGS: usize = STATES + Contract::STATES * 33;
+
 const CLAUSES: usize = STRINGS + Contract::STRINGS * 65;
+
 const FUNCTIONS: usize = CLAUSES + Contract::CLAUSES * 35;
+
 const EVENTS: usize = FUNCTIONS + Contract::FUNCTIONS * 43;
+
 const NODES: usize = EVENTS + Contract::EVENTS * 3;
 
 // Word i of a table, and 0 past its end.

@@ -6,11 +6,11 @@ ghost use Rattle.laws.specs.Choice.{pick};
 ghost use Rattle.contract.specs.Table.{kindAt};
 ghost use Rattle.contract.specs.Check.{isSort, statement, expression, holder, assetTarget, partStart, partsStart, wholeFrom, statementFrom, blockOk, conditionalStart, leafOk, wholeOk, isLeaf, nodeOk, nodesOk, scopeAt};
 ghost use Rattle.contract.specs.Places.{sortOf, startOf, StartsBy};
+use crate::Function;
+use crate::Node;
 use crate::names::ranges;
 use crate::node_at;
 use crate::word;
-use crate::Function;
-use crate::Node;
 
 // What a part of a node may be.
 pub(crate) enum Sort {
@@ -227,7 +227,13 @@ fn counted(table: &[u64], k: usize, count: usize) -> usize
 }
 
 // The n nodes from `from` on, each with its parts among them, and not too many statements.
-pub(crate) fn nodes_ok(table: &[u64], values: usize, parameters: usize, from: usize, n: usize) -> bool
+pub(crate) fn nodes_ok(
+    table: &[u64],
+    values: usize,
+    parameters: usize,
+    from: usize,
+    n: usize,
+) -> bool
     requires { ⌜ from + n ≤ 4096 ⌝ }
     ensures { λ r. ⌜ r ≡ nodesOk (now (table .entry)) (scopeAt (now (table .entry)) values parameters) from n ⌝ }
 {

@@ -39,7 +39,7 @@ returns c =
     λ t. record {
       party = (c .before .before .word .ensures ∙ row-first (c .before .before .before .before .before .args .table .now) 5027 35 (c .before .before .before .before .before .args .i) _ a) t;
       verb = (c .before .word2 .ensures ∙ a .same 1) t;
-      fields = (c .word3 .ensures ∙ a .same 2) t
+      fields = (c .word3 .ensures ∙ a .same 2) t;
     }
 
 pub clause-at-spec : {M : Type 1} → statement M

@@ -39,7 +39,7 @@ returns c =
     λ t. record {
       state = (c .before .before .word .ensures ∙ row-first (c .before .before .before .before .before .args .table .now) 8339 3 (c .before .before .before .before .before .args .i) _ a) t;
       last = (c .before .word2 .ensures ∙ a .same 1) t;
-      node = (c .word3 .ensures ∙ a .same 2) t
+      node = (c .word3 .ensures ∙ a .same 2) t;
     }
 
 pub event-at-spec : {M : Type 1} → statement M

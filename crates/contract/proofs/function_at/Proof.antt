@@ -102,7 +102,7 @@ returns c =
       precondition = (c .before .before .before .word7 .ensures ∙ a .same 6) t;
       body = (c .before .before .word8 .ensures ∙ a .same 7) t;
       event = (c .before .word9 .ensures ∙ a .same 8) t;
-      events = (c .word10 .ensures ∙ a .same 9) t
+      events = (c .word10 .ensures ∙ a .same 9) t;
     }
 
 pub function-at-spec : {M : Type 1} → statement M

@@ -58,7 +58,7 @@ returns c =
       functions = c .before .before .before .word7 .ensures i;
       events = c .before .before .word8 .ensures i;
       nodes = c .before .word9 .ensures i;
-      initial = c .word10 .ensures i
+      initial = c .word10 .ensures i;
     }
 
 pub head-spec : {M : Type 1} → statement M

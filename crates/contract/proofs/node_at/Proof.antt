@@ -41,7 +41,7 @@ returns c =
     λ t. record {
       kind = (c .before .before .word .ensures ∙ row-first (c .before .before .before .before .before .args .table .now) 8531 3 (c .before .before .before .before .before .args .k) _ a ∙ ap (wordAt (c .before .before .before .before .before .args .table .now)) (add-zero _)) t;
       argument = (c .before .word2 .ensures ∙ a .same 1) t;
-      size = (c .word3 .ensures ∙ a .same 2) t
+      size = (c .word3 .ensures ∙ a .same 2) t;
     }
 
 pub node-at-spec : {M : Type 1} → statement M

@@ -67,10 +67,14 @@ loop-less c = search needs
 -- src/functions.rt:203:5
 loop-again : tie.Need-loop-again Inv-loop μ-loop
 loop-again c =
-    let d = ended (c .before .before .before .before .before .before .before .before .before .args .table .now) (c .before .before .before .before .before .before .loop .i) (c .before .before .before .before .function-at .result) (c .before .before .before .before .function-at .ensures) (sym (c .before .before .before .function-ok .ensures) ∙ c .before .before .if1 .taken) in
-    (omega arith, c .before .function-end .ensures ∙ function-next (c .before .before .before .before .before .before .before .before .before .args .table .now) (c .before .before .before .before .before .before .loop .i) (c .before .before .before .before .function-at .result) (c .before .before .before .before .function-at .ensures), function-next-event (c .before .before .before .before .before .before .before .before .before .args .table .now) (c .before .before .before .before .before .before .loop .i) (c .before .before .before .before .function-at .result) (c .before .before .before .before .function-at .ensures),
-    omega (arith, c .before .function-end .ensures, d .end, c .before .before .before .before .before .before .before .before .before .pre .1), omega (arith, d .event, d .few, c .before .before .before .before .before .before .loop .inv .2, c .before .before .before .before .before .before .loop .inv .4),
-    all-more _ _ (c .before .before .before .before .before .before .loop .inv .5) (sym (c .before .before .before .function-ok .ensures) ∙ c .before .before .if1 .taken))
+    let d = ended (c .before .before .before .before .before .before .before .before .before .args .table .now) (c .before .before .before .before .before .before .loop .i) (c .before .before .before .before .function-at .result) (c .before .before .before .before .function-at .ensures) (sym (c .before .before .before .function-ok .ensures) ∙ c .before .before .if1 .taken) in (
+      omega arith,
+      c .before .function-end .ensures ∙ function-next (c .before .before .before .before .before .before .before .before .before .args .table .now) (c .before .before .before .before .before .before .loop .i) (c .before .before .before .before .function-at .result) (c .before .before .before .before .function-at .ensures),
+      function-next-event (c .before .before .before .before .before .before .before .before .before .args .table .now) (c .before .before .before .before .before .before .loop .i) (c .before .before .before .before .function-at .result) (c .before .before .before .before .function-at .ensures),
+      omega (arith, c .before .function-end .ensures, d .end, c .before .before .before .before .before .before .before .before .before .pre .1),
+      omega (arith, d .event, d .few, c .before .before .before .before .before .before .loop .inv .2, c .before .before .before .before .before .before .loop .inv .4),
+      all-more _ _ (c .before .before .before .before .before .before .loop .inv .5) (sym (c .before .before .before .function-ok .ensures) ∙ c .before .before .if1 .taken),
+    )
 
 -- src/functions.rt:210:13
 returns : tie.Need-returns Inv-loop μ-loop

@@ -55,10 +55,12 @@ loop-less c = search needs
 
 -- src/nodes.rt:236:5
 loop-again : tie.Need-loop-again Inv-loop μ-loop
-loop-again c =
-    (omega arith, omega (arith, counted-most (isSort a-statement (kindAt (c .before .before .before .before .before .before .args .table .now) (c .before .before .before .before .before .before .args .from + c .before .before .before .before .loop .j))) (c .before .before .before .before .loop .count) (c .counted .ensures)),
-    statements-more (c .before .before .before .before .before .before .args .table .now) (c .before .before .before .before .before .before .args .from) (c .before .before .before .before .loop .j) (c .before .before .before .before .loop .count) (c .before .before .before .before .loop .inv .2) (c .counted .ensures),
-    all-more _ _ (c .before .before .before .before .loop .inv .3) (sym (c .before .before .node-ok .ensures) ∙ c .before .if1 .taken))
+loop-again c = (
+  omega arith,
+  omega (arith, counted-most (isSort a-statement (kindAt (c .before .before .before .before .before .before .args .table .now) (c .before .before .before .before .before .before .args .from + c .before .before .before .before .loop .j))) (c .before .before .before .before .loop .count) (c .counted .ensures)),
+  statements-more (c .before .before .before .before .before .before .args .table .now) (c .before .before .before .before .before .before .args .from) (c .before .before .before .before .loop .j) (c .before .before .before .before .loop .count) (c .before .before .before .before .loop .inv .2) (c .counted .ensures),
+  all-more _ _ (c .before .before .before .before .loop .inv .3) (sym (c .before .before .node-ok .ensures) ∙ c .before .if1 .taken),
+)
 
 -- src/nodes.rt:241:13
 returns : tie.Need-returns Inv-loop μ-loop

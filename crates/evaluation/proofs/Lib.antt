@@ -1,0 +1,3 @@
+pub mod Fuel
+pub mod Values
+pub mod Truths

@@ -1,0 +1,50 @@
+-- `evaluation::run_at` meets its contract. The invariant: the run from the node reached is the run from node k. Assumes nothing.
+use mathlib.Core.Path.{_≡_, refl, sym, _∙_}
+use mathlib.Core.Bool.{false}
+use native.Mathlib.Omega.{arith}
+use Rattle.evaluation.specs.Nodes.{runFrom}
+use Rattle.evaluation.proofs.Truths.{run-on, run-stops, run-first}
+use borrow.Author.Needs.{needs}
+use Rattle.evaluation.proofs.run_at.Statement.{statement}
+use Rattle.evaluation.proofs.run_at.Tie as tie
+
+abbrev Inv-loop : tie.InvT-loop
+Inv-loop table k end₀ odd₀ end odd = runFrom table end odd ≡ runFrom table k false
+
+abbrev μ-loop : tie.MeasureT-loop
+μ-loop table k end₀ odd₀ end odd = end
+
+loop-holds : tie.Need-loop-holds Inv-loop μ-loop
+loop-holds c = refl
+
+node-at-requires : tie.Need-node-at-requires Inv-loop μ-loop
+node-at-requires c κs = search needs
+
+sub-end : tie.Need-sub-end Inv-loop μ-loop
+sub-end c = search needs
+
+loop-less : tie.Need-loop-less Inv-loop μ-loop
+loop-less c = search needs
+
+loop-again : tie.Need-loop-again Inv-loop μ-loop
+loop-again c = sym (run-on _ _ _ _ (c .before .before .node-at .ensures) (c .before .before .before .loop-test .taken) (c .if1 .taken)) ∙ c .before .before .before .before .loop .inv
+
+returns : tie.Need-returns Inv-loop μ-loop
+returns c = run-stops _ _ _ _ (c .before .before .node-at .ensures) (c .if1 .left) ∙ c .before .before .before .before .loop .inv
+
+returns-2 : tie.Need-returns-2 Inv-loop μ-loop
+returns-2 c = run-first _ _ _ (omega arith) ∙ c .before .loop .inv
+
+pub run-at-spec : {M : Type 1} → statement M
+run-at-spec =
+    tie.close
+    (tie.spec
+    Inv-loop
+    μ-loop
+    loop-holds
+    node-at-requires
+    sub-end
+    loop-less
+    loop-again
+    returns
+    returns-2)

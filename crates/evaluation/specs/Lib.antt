@@ -1,0 +1,3 @@
+pub mod Memory
+pub mod Meaning
+pub mod Nodes
