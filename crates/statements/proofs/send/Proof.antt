@@ -1,0 +1,48 @@
+-- `statements::send` meets its contract. Assumes nothing.
+use borrow.Author.Needs.{needs}
+use native.Mathlib.Omega.{arith}
+use mir.Syntax.{w64}
+use mir.Val.{SFits}
+use mir.Facts.{toZ-ofZ, toZ-pos}
+use Rattle.statements.proofs.send.Statement.{statement}
+use Rattle.statements.proofs.send.Tie as tie
+use Rattle.statements.proofs.Writes.{send-integer, send-text}
+
+enum-known-value : tie.Need-enum-known-value
+enum-known-value c = search needs
+
+add-label-requires : tie.Need-add-label-requires
+add-label-requires c κs = search needs
+
+enum-known-value-2 : tie.Need-enum-known-value-2
+enum-known-value-2 c = search needs
+
+cast-add-label : tie.Need-cast-add-label
+cast-add-label c = search needs
+
+add-label-requires-2 : tie.Need-add-label-requires-2
+add-label-requires-2 c κs = search needs
+
+returns : tie.Need-returns
+returns c =
+    let s = c .before .before .before .before in
+    let fz : SFits w64 (c .before .before .value .given .0 .0) = record { sfits = c .before .known-told .given .0 .1 } in
+    send-integer (s .args .work) (s .args .party) (s .args .value) _ _ _ (c .before .before .value .given .1) (toZ-ofZ fz) (c .add-label .ensures)
+
+returns-2 : tie.Need-returns-2
+returns-2 c =
+    let s = c .before .before .before .before in
+    send-text (s .args .work) (s .args .party) (s .args .value) _ _ _ (c .before .before .value2 .given .1) (toZ-pos w64 (omega arith))
+    (c .add-label2 .ensures)
+
+pub send-spec : {M : Type 1} → statement M
+send-spec =
+    tie.close
+    (tie.spec
+    enum-known-value
+    add-label-requires
+    enum-known-value-2
+    cast-add-label
+    add-label-requires-2
+    returns
+    returns-2)
