@@ -1,0 +1,11 @@
+pub mod Decoded
+pub mod Below
+pub mod Lengths
+pub mod Parts
+pub mod Rows
+pub mod First
+pub mod Kept
+pub mod Each
+pub mod Dues
+pub mod Fresh
+pub mod Within

@@ -1,0 +1,74 @@
+use borrow.Author.Needs.{needs}
+use Rattle.state.proofs.events_ok.Statement.{statement}
+use Rattle.state.proofs.events_ok.Tie as tie
+use mathlib.Core.Path.{_≡_, sym, _∙_}
+use mathlib.Core.Bool.{true}
+use Prim.Native.Nat.{_-_, _≤_}
+use native.Mathlib.Omega.{arith}
+use Rattle.contract.specs.Check.{allBelow}
+use Rattle.contract.specs.Decode.{contractOf}
+use Rattle.state.specs.States.{pendingSlotOk}
+use Rattle.state.proofs.Parts.{pendingAt}
+use Rattle.state.proofs.Below.{all-none, all-more, all-stop}
+
+abbrev Inv-loop : tie.InvT-loop
+Inv-loop table clock pending events i₀ i =
+    (i ≤ 64) × (allBelow i (pendingAt (contractOf table) clock pending events) ≡ true)
+
+abbrev μ-loop : tie.MeasureT-loop
+μ-loop table clock pending events i₀ i =
+    64 - i
+
+loop-holds : tie.Need-loop-holds Inv-loop μ-loop
+loop-holds c =
+    (omega arith, all-none _)
+
+mul-p : tie.Need-mul-p Inv-loop μ-loop
+mul-p c = search needs
+
+array-copy-out-p : tie.Need-array-copy-out-p Inv-loop μ-loop
+array-copy-out-p c = search needs
+
+pending-slot-ok-requires : tie.Need-pending-slot-ok-requires Inv-loop μ-loop
+pending-slot-ok-requires c κs = search needs
+
+add-i : tie.Need-add-i Inv-loop μ-loop
+add-i c = search needs
+
+loop-less : tie.Need-loop-less Inv-loop μ-loop
+loop-less c = search needs
+
+loop-again : tie.Need-loop-again Inv-loop μ-loop
+loop-again c =
+    let s = c .before .before .before .before .before .before .before in
+    let h = c .before .before .before .before in
+    (omega arith, all-more (pendingAt (contractOf (s .args .table .now)) (s .args .s .clock) (s .args .s .pending) (s .args .s .events)) (h .loop .i) (h .loop .inv .1) (sym (c .before .pending-slot-ok .ensures) ∙ c .if1 .taken))
+
+returns : tie.Need-returns Inv-loop μ-loop
+unfolding pendingSlotOk
+returns c =
+    let s = c .before .before .before .before .before .before .before in
+    let h = c .before .before .before .before in
+    sym (all-stop (pendingAt (contractOf (s .args .table .now)) (s .args .s .clock) (s .args .s .pending) (s .args .s .events)) 64 (h .loop .i) (omega arith) (sym (c .before .pending-slot-ok .ensures) ∙ c .if1 .left))
+
+returns-2 : tie.Need-returns-2 Inv-loop μ-loop
+unfolding pendingSlotOk
+returns-2 c =
+    let e : c .before .loop .i ≡ 64 = omega arith in
+    sym (rw e at (c .before .loop .inv .1))
+
+pub events-ok-spec : {M : Type 1} → statement M
+events-ok-spec =
+    tie.close
+    (tie.spec
+    Inv-loop
+    μ-loop
+    loop-holds
+    mul-p
+    array-copy-out-p
+    pending-slot-ok-requires
+    add-i
+    loop-less
+    loop-again
+    returns
+    returns-2)

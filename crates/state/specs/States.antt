@@ -1,0 +1,168 @@
+-- The state of a contract: fresh, within its ranges (question 4), and which pending event is due.
+use Prim.Native.Nat.{ℕ, zero, suc, _-_}
+use mathlib.Core.Bool.{Bool, true, false, not, _&&_}
+use mathlib.Core.List.{List, [], _∷_, _++_}
+use lib.ListN.{length, getD, take, drop, set}
+use lib.Dec.{eqb, leb, ltb}
+use lib.IntN.{ℤ, pos}
+use Rattle.laws.specs.Choice.{pick}
+use Rattle.numbers.specs.Numbers.{eqZ}
+use Rattle.contract.specs.Limits.{top, maxAssets, maxFields}
+use Rattle.contract.specs.Check.{allBelow}
+use Rattle.contract.specs.Tree.{Contract, Function, Event, none, omitted, brokenExpression}
+use Rattle.state.specs.declared.State.{State}
+use Rattle.state.specs.declared.Pending.{Pending}
+use Rattle.state.specs.declared.Due.{Due}
+use Rattle.state.specs.declared.Due.the-variants.{At, Nothing}
+
+-- at most so many events are pending
+abbrev pub maxPending : ℕ
+maxPending = 64
+
+-- n times the same
+unfoldable pub repeated : {A : Type 0} → ℕ → A → List A
+repeated zero x = []
+repeated (suc n) x = x ∷ repeated n x
+
+-- a slot for a pending event that is not in use
+abbrev pub blank : Pending
+blank = record { function = 0; event = 0; time = 0 }
+
+-- none, nothing, zeros, a given clock
+unfoldable pub freshAt : ℕ → State
+freshAt clock =
+    record {
+      agreed = false;
+      state = 0;
+      kinds = repeated maxFields 0;
+      numbers = repeated maxFields (pos 0);
+      texts = repeated maxFields 0;
+      assets = repeated maxAssets 0;
+      clock = clock;
+      pending = 0;
+      events = repeated maxPending blank;
+    }
+
+-- what no function of a contract is, and no event
+abbrev pub noFunction : Function
+noFunction =
+    record { state = 0; party = 0; name = []; values = 0; parameters = 0; precondition = omitted; body = none; events = []; last = 0 }
+
+abbrev pub noEvent : Event
+noEvent = record { guard = brokenExpression; state = 0; handler = none; last = 0 }
+
+-- a pending event in the contract's text: an event of one of its functions
+unfoldable pub eventOf : Contract → Pending → Event
+eventOf c p = getD (getD (c .functions) (p .function) noFunction .events) (p .event) noEvent
+
+-- the pending events, oldest first
+abbrev pub live : State → List Pending
+live s = take (s .pending) (s .events)
+
+-- ---- question 4
+
+-- a field's value: nothing, an integer, or a string of the contract
+unfoldable pub fieldOk : ℕ → ℕ → ℤ → ℕ → Bool
+fieldOk strings kind number text =
+    pick (eqb kind 0) (eqZ number (pos 0) && eqb text 0)
+    (pick (eqb kind 1) (eqb text 0)
+    (eqb kind 2 && (eqZ number (pos 0) && ltb text strings)))
+
+-- field i: one of the contract's, or nothing
+unfoldable pub fieldSlotOk : ℕ → ℕ → State → ℕ → Bool
+fieldSlotOk strings used s i =
+    fieldOk strings (getD (s .kinds) i 0) (getD (s .numbers) i (pos 0)) (getD (s .texts) i 0)
+    && pick (ltb i used) true (eqb (getD (s .kinds) i 0) 0)
+
+-- asset i: one of the contract's, or 0
+unfoldable pub assetSlotOk : ℕ → State → ℕ → Bool
+assetSlotOk used s i = pick (ltb i used) (leb (getD (s .assets) i 0) top) (eqb (getD (s .assets) i 0) 0)
+
+-- a pending event: of the contract, its time not before the clock
+unfoldable pub pendingOk : Contract → ℕ → Pending → Bool
+pendingOk c clock p =
+    ltb (p .function) (length (c .functions))
+    && (ltb (p .event) (length (getD (c .functions) (p .function) noFunction .events))
+    && (leb clock (p .time) && leb (p .time) top))
+
+unfoldable pub isBlank : Pending → Bool
+isBlank p = eqb (p .function) 0 && (eqb (p .event) 0 && eqb (p .time) 0)
+
+unfoldable pub pendingSlotOk : Contract → State → ℕ → Bool
+pendingSlotOk c s i =
+    pick (ltb i (s .pending)) (pendingOk c (s .clock) (getD (s .events) i blank)) (isBlank (getD (s .events) i blank))
+
+-- an unagreed state uses nothing
+abbrev pub used : State → ℕ → ℕ
+used s n = pick (s .agreed) n 0
+
+-- within the ranges and, unagreed, fresh
+unfoldable pub stateOk : Contract → State → Bool
+stateOk c s =
+    leb (s .clock) top
+    && (pick (s .agreed) (ltb (s .state) (length (c .states))) (eqb (s .state) 0 && eqb (s .pending) 0)
+    && (leb (s .pending) maxPending
+    && (allBelow maxFields (fieldSlotOk (length (c .strings)) (used s (length (c .fields))) s)
+    && (allBelow maxAssets (assetSlotOk (used s (length (c .assets))) s)
+    && allBelow maxPending (pendingSlotOk c s)))))
+
+-- ---- due
+
+-- its time equals the clock and its state equals the current one
+unfoldable pub isDue : Contract → State → Pending → Bool
+isDue c s p = eqb (p .time) (s .clock) && eqb (eventOf c p .state) (s .state)
+
+-- the place of the first of these that is due, counted from i
+unfoldable pub firstDue : Contract → State → ℕ → List Pending → Due
+firstDue c s i [] = Nothing
+firstDue c s i (p ∷ ps) = pick (isDue c s p) (At i) (firstDue c s (suc i) ps)
+
+-- the oldest due event comes first
+unfoldable pub dueIn : Contract → State → Due
+dueIn c s = firstDue c s 0 (live s)
+
+-- ---- the pending events change
+
+unfoldable pub keep : {A : Type 0} → (A → Bool) → List A → List A
+keep p [] = []
+keep p (x ∷ xs) = pick (p x) (x ∷ keep p xs) (keep p xs)
+
+-- the state with these pending events
+unfoldable pub withPending : State → List Pending → State
+withPending s ps =
+    record {
+      agreed = s .agreed;
+      state = s .state;
+      kinds = s .kinds;
+      numbers = s .numbers;
+      texts = s .texts;
+      assets = s .assets;
+      clock = s .clock;
+      pending = length ps;
+      events = ps ++ repeated (maxPending - length ps) blank;
+    }
+
+-- without the events whose time equals the clock
+unfoldable pub lapsed : State → State
+lapsed s = withPending s (keep (λ p. not (eqb (p .time) (s .clock))) (live s))
+
+-- without the event at place i
+unfoldable pub removed : State → ℕ → State
+removed s i = withPending s (take i (live s) ++ drop (suc i) (live s))
+
+-- with one more after the last, if there is room
+unfoldable pub joinedBy : State → Pending → State
+joinedBy s p =
+    pick (ltb (s .pending) maxPending)
+    (record {
+      agreed = s .agreed;
+      state = s .state;
+      kinds = s .kinds;
+      numbers = s .numbers;
+      texts = s .texts;
+      assets = s .assets;
+      clock = s .clock;
+      pending = suc (s .pending);
+      events = set (s .events) (s .pending) p;
+    })
+    s
