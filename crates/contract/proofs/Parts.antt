@@ -1,10 +1,10 @@
 -- Parts of nodes: where they start, and how a node counts them. Assumes nothing.
-use mathlib.Core.Path.{_≡_, refl, sym, ap, subst, _∙_}
+use mathlib.Core.Path.{_≡_, refl, sym, ap, _∙_}
 use mathlib.Core.Bool.{Bool, true, false, _&&_, _||_}
 use mathlib.Core.List.{List, [], _∷_}
 use Prim.Native.Nat.{ℕ, _+_, _-_, _<_, _≤_}
 use native.Mathlib.Omega.{arith}
-use native.Mathlib.Nat.{le-trans, le-refl}
+use native.Mathlib.Nat.{le-refl}
 use lib.Dec.{eqb, ltb, leb}
 use borrow.Author.Tests.{lt-ltb, le-ltb, le-leb, lt-leb, eq-eqb, ne-eqb, eqb-true, eqb-false}
 use Rattle.laws.specs.Choice.{pick}

@@ -4,7 +4,7 @@ use mathlib.Core.List.{List}
 use Prim.Native.Nat.{ℕ, _+_, _*_, _/_, _<_, _≤_}
 use native.Mathlib.Omega.{arith}
 use native.Mathlib.Nat.{lt-div-mul-add, le-div-iff-mul-le, mul-le-mul-right, add-zero, le-of-lt}
-use lib.ListN.{length, getD, List·getD-eq-default}
+use lib.ListN.{length, List·getD-eq-default}
 use Rattle.contract.specs.Table.{wordAt}
 use Rattle.contract.specs.Places.{RowAt}
 

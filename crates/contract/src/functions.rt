@@ -1,7 +1,7 @@
 // Functions and events of a table: each one's nodes and events follow those of the one before.
 ghost use mathlib.Core.Path.{_≡_};
 ghost use mathlib.Core.Bool.{_&&_};
-ghost use Prim.Native.Nat.{ℕ, _+_, _≤_, _<_};
+ghost use Prim.Native.Nat.{_+_, _≤_, _<_};
 ghost use lib.Dec.{eqb};
 ghost use Rattle.contract.specs.Table.{wordAt, functionWord};
 ghost use Rattle.contract.specs.Rows.{functionRowOf};

@@ -1,6 +1,6 @@
 // The table of a contract: its limits, its rows and nodes, and the check that every step asks of it.
 ghost use mathlib.Core.Path.{_≡_};
-ghost use Prim.Native.Nat.{ℕ, _+_, _*_, _≤_, _<_};
+ghost use Prim.Native.Nat.{_+_, _*_, _≤_, _<_};
 ghost use mathlib.Core.Bool.{true};
 ghost use lib.Dec.{ltb};
 ghost use Rattle.contract.specs.Table.{wordAt, clauseWord};

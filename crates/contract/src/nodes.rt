@@ -1,7 +1,7 @@
 // Nodes of a table: each names what is there, and stands after its parts and counts them.
 ghost use mathlib.Core.Path.{_≡_};
 ghost use mathlib.Core.List.{[], _∷_};
-ghost use Prim.Native.Nat.{ℕ, suc, _+_, _≤_, _<_};
+ghost use Prim.Native.Nat.{suc, _+_, _≤_, _<_};
 ghost use Rattle.laws.specs.Choice.{pick};
 ghost use Rattle.contract.specs.Table.{kindAt};
 ghost use Rattle.contract.specs.Check.{isSort, statement, expression, holder, assetTarget, partStart, partsStart, wholeFrom, statementFrom, blockOk, conditionalStart, leafOk, wholeOk, isLeaf, nodeOk, nodesOk, scopeAt};

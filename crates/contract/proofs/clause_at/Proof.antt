@@ -1,43 +1,34 @@
+-- `contract::clause_at` meets its contract. Assumes nothing.
 use borrow.Author.Needs.{needs}
-use Rattle.contract.proofs.clause_at.Statement.{statement}
-use Rattle.contract.proofs.clause_at.Tie as tie
-use Rattle.contract.proofs.clause_at.Reads as reads
-use Rattle.contract.proofs.clause_at.Lts as lts
-use Rattle.contract.proofs.row.Reads as row-reads
-use Rattle.contract.proofs.word.Reads as word-reads
 use mathlib.Core.Path.{_∙_}
 use Rattle.contract.proofs.Rows.{row-first}
+use Rattle.contract.proofs.clause_at.Statement.{statement}
+use Rattle.contract.proofs.clause_at.Tie as tie
 
--- src/lib.rt:160:9
 row-requires : tie.Need-row-requires
 row-requires c κs = search needs
 
--- src/lib.rt:162:16
 word-requires : tie.Need-word-requires
 word-requires c κs = search needs
 
--- src/lib.rt:163:27
 add-word : tie.Need-add-word
 add-word c = search needs
 
--- src/lib.rt:163:15
 word-requires-2 : tie.Need-word-requires-2
 word-requires-2 c κs = search needs
 
--- src/lib.rt:164:29
 add-word-2 : tie.Need-add-word-2
 add-word-2 c = search needs
 
--- src/lib.rt:164:17
 word-requires-3 : tie.Need-word-requires-3
 word-requires-3 c κs = search needs
 
--- src/lib.rt:157:1
 returns : tie.Need-returns
 returns c =
+    let s = c .before .before .before .before .before in
     let a = c .before .before .before .row .ensures in
     λ t. record {
-      party = (c .before .before .word .ensures ∙ row-first (c .before .before .before .before .before .args .table .now) 5027 35 (c .before .before .before .before .before .args .i) _ a) t;
+      party = (c .before .before .word .ensures ∙ row-first (s .args .table .now) 5027 35 (s .args .i) _ a) t;
       verb = (c .before .word2 .ensures ∙ a .same 1) t;
       fields = (c .word3 .ensures ∙ a .same 2) t;
     }

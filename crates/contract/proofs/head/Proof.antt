@@ -1,51 +1,38 @@
+-- `contract::head` meets its contract. Assumes nothing.
 use borrow.Author.Needs.{needs}
 use Rattle.contract.proofs.head.Statement.{statement}
 use Rattle.contract.proofs.head.Tie as tie
-use Rattle.contract.proofs.head.Reads as reads
-use Rattle.contract.proofs.head.Lts as lts
-use Rattle.contract.proofs.word.Reads as word-reads
 
--- src/lib.rt:115:18
 word-requires : tie.Need-word-requires
 word-requires c κs = search needs
 
--- src/lib.rt:116:17
 word-requires-2 : tie.Need-word-requires-2
 word-requires-2 c κs = search needs
 
--- src/lib.rt:117:17
 word-requires-3 : tie.Need-word-requires-3
 word-requires-3 c κs = search needs
 
--- src/lib.rt:118:17
 word-requires-4 : tie.Need-word-requires-4
 word-requires-4 c κs = search needs
 
--- src/lib.rt:119:18
 word-requires-5 : tie.Need-word-requires-5
 word-requires-5 c κs = search needs
 
--- src/lib.rt:120:18
 word-requires-6 : tie.Need-word-requires-6
 word-requires-6 c κs = search needs
 
--- src/lib.rt:121:20
 word-requires-7 : tie.Need-word-requires-7
 word-requires-7 c κs = search needs
 
--- src/lib.rt:122:17
 word-requires-8 : tie.Need-word-requires-8
 word-requires-8 c κs = search needs
 
--- src/lib.rt:123:16
 word-requires-9 : tie.Need-word-requires-9
 word-requires-9 c κs = search needs
 
--- src/lib.rt:124:18
 word-requires-10 : tie.Need-word-requires-10
 word-requires-10 c κs = search needs
 
--- src/lib.rt:111:1
 returns : tie.Need-returns
 returns c =
     λ i. record {

@@ -1,18 +1,14 @@
+-- `contract::head_ok` meets its contract. Assumes nothing.
 use borrow.Author.Needs.{needs}
-use Rattle.contract.proofs.head_ok.Statement.{statement}
-use Rattle.contract.proofs.head_ok.Tie as tie
-use Rattle.contract.proofs.head_ok.Reads as reads
-use Rattle.contract.proofs.head_ok.Lts as lts
-use Rattle.contract.proofs.head.Reads as head-reads
 use mathlib.Core.Bool.{_&&_}
 use lib.Dec.{leb, ltb}
 use Rattle.contract.specs.Check.{headOk}
+use Rattle.contract.proofs.head_ok.Statement.{statement}
+use Rattle.contract.proofs.head_ok.Tie as tie
 
--- src/lib.rt:235:9
 head-requires : tie.Need-head-requires
 head-requires c κs = search needs
 
--- src/lib.rt:232:1
 returns : tie.Need-returns
 unfolding headOk
 returns c =

@@ -1,45 +1,36 @@
+-- `contract::node_at` meets its contract. Assumes nothing.
 use borrow.Author.Needs.{needs}
-use Rattle.contract.proofs.node_at.Statement.{statement}
-use Rattle.contract.proofs.node_at.Tie as tie
-use Rattle.contract.proofs.node_at.Reads as reads
-use Rattle.contract.proofs.node_at.Lts as lts
-use Rattle.contract.proofs.row.Reads as row-reads
-use Rattle.contract.proofs.word.Reads as word-reads
 use mathlib.Core.Path.{ap, _∙_}
 use native.Mathlib.Nat.{add-zero}
 use Rattle.contract.specs.Table.{wordAt}
 use Rattle.contract.proofs.Rows.{row-first}
+use Rattle.contract.proofs.node_at.Statement.{statement}
+use Rattle.contract.proofs.node_at.Tie as tie
 
--- src/lib.rt:181:9
 row-requires : tie.Need-row-requires
 row-requires c κs = search needs
 
--- src/lib.rt:183:15
 word-requires : tie.Need-word-requires
 word-requires c κs = search needs
 
--- src/lib.rt:184:31
 add-word : tie.Need-add-word
 add-word c = search needs
 
--- src/lib.rt:184:19
 word-requires-2 : tie.Need-word-requires-2
 word-requires-2 c κs = search needs
 
--- src/lib.rt:185:27
 add-word-2 : tie.Need-add-word-2
 add-word-2 c = search needs
 
--- src/lib.rt:185:15
 word-requires-3 : tie.Need-word-requires-3
 word-requires-3 c κs = search needs
 
--- src/lib.rt:178:1
 returns : tie.Need-returns
 returns c =
+    let s = c .before .before .before .before .before in
     let a = c .before .before .before .row .ensures in
     λ t. record {
-      kind = (c .before .before .word .ensures ∙ row-first (c .before .before .before .before .before .args .table .now) 8531 3 (c .before .before .before .before .before .args .k) _ a ∙ ap (wordAt (c .before .before .before .before .before .args .table .now)) (add-zero _)) t;
+      kind = (c .before .before .word .ensures ∙ row-first (s .args .table .now) 8531 3 (s .args .k) _ a ∙ ap (wordAt (s .args .table .now)) (add-zero _)) t;
       argument = (c .before .word2 .ensures ∙ a .same 1) t;
       size = (c .word3 .ensures ∙ a .same 2) t;
     }

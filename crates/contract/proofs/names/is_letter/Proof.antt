@@ -1,27 +1,21 @@
+-- `contract::names::is_letter` meets its contract. Assumes nothing.
 use borrow.Author.Needs.{needs}
-use Rattle.contract.proofs.names.is_letter.Statement.{statement}
-use Rattle.contract.proofs.names.is_letter.Tie as tie
-use Rattle.contract.proofs.names.is_letter.Reads as reads
-use Rattle.contract.proofs.names.is_letter.Lts as lts
-use Rattle.contract.proofs.names.within.Reads as within-reads
-use Rattle.contract.proofs.Tests.{or-pick}
 use mathlib.Core.Path.{_∙_}
 use mathlib.Core.Bool.{_||_}
 use Rattle.tokens.specs.Classes.{isLetter}
+use Rattle.contract.proofs.Tests.{or-pick}
+use Rattle.contract.proofs.names.is_letter.Statement.{statement}
+use Rattle.contract.proofs.names.is_letter.Tie as tie
 
--- src/names.rt:25:5
 within-requires : tie.Need-within-requires
 within-requires c κs = search needs
 
--- src/names.rt:25:29
 within-requires-2 : tie.Need-within-requires-2
 within-requires-2 c κs = search needs
 
--- src/names.rt:22:1
 returns : tie.Need-returns
 unfolding isLetter
-returns c =
-    (λ i. c .before .within .ensures i || c .within2 .ensures i) ∙ or-pick _ _
+returns c = (λ i. c .before .within .ensures i || c .within2 .ensures i) ∙ or-pick _ _
 
 pub is-letter-spec : {M : Type 1} → statement M
 is-letter-spec = tie.close (tie.spec within-requires within-requires-2 returns)

@@ -1,29 +1,22 @@
+-- `contract::names::is_name_byte` meets its contract. Assumes nothing.
 use borrow.Author.Needs.{needs}
-use Rattle.contract.proofs.names.is_name_byte.Statement.{statement}
-use Rattle.contract.proofs.names.is_name_byte.Tie as tie
-use Rattle.contract.proofs.names.is_name_byte.Reads as reads
-use Rattle.contract.proofs.names.is_name_byte.Lts as lts
-use Rattle.contract.proofs.names.is_letter.Reads as is-letter-reads
-use Rattle.contract.proofs.names.within.Reads as within-reads
-use Rattle.contract.proofs.Tests.{or-pick-two}
 use mathlib.Core.Path.{_∙_}
 use mathlib.Core.Bool.{_||_}
 use lib.Dec.{eqb}
 use Rattle.tokens.specs.Classes.{isNameByte, isDigit}
+use Rattle.contract.proofs.Tests.{or-pick-two}
+use Rattle.contract.proofs.names.is_name_byte.Statement.{statement}
+use Rattle.contract.proofs.names.is_name_byte.Tie as tie
 
--- src/names.rt:31:5
 is-letter-requires : tie.Need-is-letter-requires
 is-letter-requires c κs = search needs
 
--- src/names.rt:31:21
 within-requires : tie.Need-within-requires
 within-requires c κs = search needs
 
--- src/names.rt:31:51
 cast-result : tie.Need-cast-result
 cast-result c = search needs
 
--- src/names.rt:28:1
 returns : tie.Need-returns
 unfolding isNameByte isDigit
 returns c =

@@ -1,32 +1,24 @@
+-- `contract::names::is_string_byte` meets its contract. Assumes nothing.
 use borrow.Author.Needs.{needs}
-use Rattle.contract.proofs.names.is_string_byte.Statement.{statement}
-use Rattle.contract.proofs.names.is_string_byte.Tie as tie
-use Rattle.contract.proofs.names.is_string_byte.Reads as reads
-use Rattle.contract.proofs.names.is_string_byte.Lts as lts
-use Rattle.contract.proofs.names.within.Reads as within-reads
 use borrow.Author.Tests.{eq-eqb, ne-eqb}
 use Rattle.laws.specs.Choice.{pick}
 use Rattle.tokens.specs.Classes.{isStringByte, isPrintable}
+use Rattle.contract.proofs.names.is_string_byte.Statement.{statement}
+use Rattle.contract.proofs.names.is_string_byte.Tie as tie
 
--- src/names.rt:37:13
 cast-if1 : tie.Need-cast-if1
 cast-if1 c = search needs
 
--- src/names.rt:40:9
 within-requires : tie.Need-within-requires
 within-requires c κs = search needs
 
--- src/names.rt:34:1
 returns : tie.Need-returns
 unfolding isStringByte pick
-returns c =
-    rw (eq-eqb _ _ (c .if1 .taken))
+returns c = rw (eq-eqb _ _ (c .if1 .taken))
 
--- src/names.rt:34:1
 returns-2 : tie.Need-returns-2
 unfolding isStringByte isPrintable pick
-returns-2 c =
-    rw (ne-eqb _ _ (c .before .if1 .left)) (c .within .ensures)
+returns-2 c = rw (ne-eqb _ _ (c .before .if1 .left)) (c .within .ensures)
 
 pub is-string-byte-spec : {M : Type 1} → statement M
 is-string-byte-spec = tie.close (tie.spec cast-if1 within-requires returns returns-2)

@@ -1,12 +1,5 @@
+-- `contract::names::name_ok` meets its contract. Assumes nothing.
 use borrow.Author.Needs.{needs}
-use Rattle.contract.proofs.names.name_ok.Statement.{statement}
-use Rattle.contract.proofs.names.name_ok.Tie as tie
-use Rattle.contract.proofs.names.name_ok.Reads as reads
-use Rattle.contract.proofs.names.name_ok.Lts as lts
-use Rattle.contract.proofs.names.is_letter.Reads as is-letter-reads
-use Rattle.contract.proofs.names.name_bytes_ok.Reads as name-bytes-ok-reads
-use Rattle.contract.proofs.names.ranges.Reads as ranges-reads
-use Rattle.contract.proofs.word.Reads as word-reads
 use mathlib.Core.Path.{sym, ap, _∙_}
 use Prim.Native.Nat.{ℕ, _+_, _-_}
 use native.Mathlib.Omega.{arith}
@@ -14,55 +7,47 @@ use Rattle.tokens.specs.Classes.{isLetter, isNameByte}
 use Rattle.contract.specs.Check.{allBelow, ranges, nameOk}
 use Rattle.contract.specs.Table.{wordAt}
 use Rattle.contract.proofs.Tests.{told, ranges-low, ranges-high}
+use Rattle.contract.proofs.names.name_ok.Statement.{statement}
+use Rattle.contract.proofs.names.name_ok.Tie as tie
 
--- src/names.rt:80:9
 word-requires : tie.Need-word-requires
 word-requires c κs = search needs
 
--- src/names.rt:81:8
 ranges-requires : tie.Need-ranges-requires
 ranges-requires c κs = search needs
 
--- src/names.rt:82:34
 add-word : tie.Need-add-word
 add-word c = search needs
 
--- src/names.rt:82:22
 word-requires-2 : tie.Need-word-requires-2
 word-requires-2 c κs = search needs
 
--- src/names.rt:82:12
 is-letter-requires : tie.Need-is-letter-requires
 is-letter-requires c κs = search needs
 
--- src/names.rt:83:41
 add-name-bytes-ok : tie.Need-add-name-bytes-ok
 add-name-bytes-ok c = search needs
 
--- src/names.rt:83:48
 sub-name-bytes-ok : tie.Need-sub-name-bytes-ok
 sub-name-bytes-ok c =
     omega (arith, ranges-low 1 (c .before .before .before .before .before .word .result) 32 (sym (c .before .before .before .before .ranges .ensures) ∙ c .before .before .before .if1 .taken))
 
--- src/names.rt:83:13
 name-bytes-ok-requires : tie.Need-name-bytes-ok-requires
 name-bytes-ok-requires c κs =
     omega (arith, ranges-high 1 (c .before .before .before .before .before .word .result) 32 (sym (c .before .before .before .before .ranges .ensures) ∙ c .before .before .before .if1 .taken))
 
--- src/names.rt:83:13
 returns : tie.Need-returns
 unfolding nameOk
 returns c =
+    let s = c .before .before .before .before .before .before .before .before in
     simp (told (λ x. ranges 1 x 32) (c .before .before .before .before .before .before .word .ensures) (c .before .before .before .before .before .ranges .ensures) (c .before .before .before .before .if1 .taken), told isLetter (c .before .before .before .word2 .ensures) (c .before .before .is-letter .ensures) (c .before .if2 .taken))
-    (c .name-bytes-ok .ensures ∙ ap (λ (n : ℕ). allBelow (n - 1) (λ j. isNameByte (wordAt (c .before .before .before .before .before .before .before .before .args .table .now) (c .before .before .before .before .before .before .before .before .args .o + 2 + j)))) (c .before .before .before .before .before .before .word .ensures))
+    (c .name-bytes-ok .ensures ∙ ap (λ (n : ℕ). allBelow (n - 1) (λ j. isNameByte (wordAt (s .args .table .now) (s .args .o + 2 + j)))) (c .before .before .before .before .before .before .word .ensures))
 
--- src/names.rt:76:1
 returns-2 : tie.Need-returns-2
 unfolding nameOk
 returns-2 c =
     simp (told (λ x. ranges 1 x 32) (c .before .before .before .before .before .word .ensures) (c .before .before .before .before .ranges .ensures) (c .before .before .before .if1 .taken), told isLetter (c .before .before .word2 .ensures) (c .before .is-letter .ensures) (c .if2 .left))
 
--- src/names.rt:76:1
 returns-3 : tie.Need-returns-3
 unfolding nameOk
 returns-3 c =

@@ -1,15 +1,12 @@
-use Rattle.contract.proofs.names.ranges.Statement.{statement}
-use Rattle.contract.proofs.names.ranges.Tie as tie
-use Rattle.contract.proofs.names.ranges.Reads as reads
-use Rattle.contract.proofs.names.ranges.Lts as lts
+-- `contract::names::ranges` meets its contract. Assumes nothing.
 use mathlib.Core.Path.{refl}
 use Rattle.contract.specs.Check.{ranges}
+use Rattle.contract.proofs.names.ranges.Statement.{statement}
+use Rattle.contract.proofs.names.ranges.Tie as tie
 
--- src/names.rt:10:1
 returns : tie.Need-returns
 unfolding ranges
-returns c =
-    refl
+returns c = refl
 
 pub ranges-spec : {M : Type 1} → statement M
 ranges-spec = tie.close (tie.spec returns)

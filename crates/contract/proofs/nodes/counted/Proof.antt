@@ -1,34 +1,26 @@
+-- `contract::nodes::counted` meets its contract. Assumes nothing.
 use borrow.Author.Needs.{needs}
-use Rattle.contract.proofs.nodes.counted.Statement.{statement}
-use Rattle.contract.proofs.nodes.counted.Tie as tie
-use Rattle.contract.proofs.nodes.counted.Reads as reads
-use Rattle.contract.proofs.nodes.counted.Lts as lts
-use Rattle.contract.proofs.node_at.Reads as node-at-reads
-use Rattle.contract.proofs.nodes.is_sort.Reads as is-sort-reads
-use mathlib.Core.Path.{_≡_, refl, sym, ap, _∙_}
+use mathlib.Core.Path.{sym, ap, _∙_}
 use native.Mathlib.Numerals.{add-one}
 use Rattle.contract.specs.declared.Node.{Node}
 use Rattle.laws.proofs.Choice.{pick-true, pick-false}
 use Rattle.contract.specs.Check.{isSort, statement as a-statement}
+use Rattle.contract.proofs.nodes.counted.Statement.{statement}
+use Rattle.contract.proofs.nodes.counted.Tie as tie
 
--- src/nodes.rt:222:33
 node-at-requires : tie.Need-node-at-requires
 node-at-requires c κs = search needs
 
--- src/nodes.rt:222:8
 is-sort-requires : tie.Need-is-sort-requires
 is-sort-requires c κs = search needs
 
--- src/nodes.rt:223:9
 add-result : tie.Need-add-result
 add-result c = search needs
 
--- src/nodes.rt:218:1
 returns : tie.Need-returns
 returns c =
     add-one _ ∙ sym (pick-true _ _ _ (sym (c .before .is-sort .ensures ∙ ap (λ (n : Node). isSort a-statement (n .kind)) (c .before .before .node-at .ensures)) ∙ c .if1 .taken))
 
--- src/nodes.rt:218:1
 returns-2 : tie.Need-returns-2
 returns-2 c =
     sym (pick-false _ _ _ (sym (c .before .is-sort .ensures ∙ ap (λ (n : Node). isSort a-statement (n .kind)) (c .before .before .node-at .ensures)) ∙ c .if1 .left))

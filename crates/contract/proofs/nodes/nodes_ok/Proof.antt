@@ -1,10 +1,5 @@
+-- `contract::nodes::nodes_ok` meets its contract. Assumes nothing.
 use borrow.Author.Needs.{needs}
-use Rattle.contract.proofs.nodes.nodes_ok.Statement.{statement}
-use Rattle.contract.proofs.nodes.nodes_ok.Tie as tie
-use Rattle.contract.proofs.nodes.nodes_ok.Reads as reads
-use Rattle.contract.proofs.nodes.nodes_ok.Lts as lts
-use Rattle.contract.proofs.nodes.counted.Reads as counted-reads
-use Rattle.contract.proofs.nodes.node_ok.Reads as node-ok-reads
 use mathlib.Core.Path.{_≡_, refl, sym, ap, _∙_}
 use mathlib.Core.Bool.{true, _&&_}
 use Prim.Native.Nat.{_≤_, _-_, _+_}
@@ -14,6 +9,8 @@ use Rattle.contract.specs.Check.{allBelow, isSort, statement as a-statem
 use Rattle.contract.specs.Table.{kindAt}
 use Rattle.contract.proofs.Tests.{all-more, all-stop, all-end}
 use Rattle.contract.proofs.Checked.{statements-more, counted-most}
+use Rattle.contract.proofs.nodes.nodes_ok.Statement.{statement}
+use Rattle.contract.proofs.nodes.nodes_ok.Tie as tie
 
 abbrev Inv-loop : tie.InvT-loop
 Inv-loop table values parameters from n count₀ j₀ count j =
@@ -23,37 +20,28 @@ abbrev μ-loop : tie.MeasureT-loop
 μ-loop table values parameters from n count₀ j₀ count j =
     n - j
 
--- src/nodes.rt:236:5
 loop-holds : tie.Need-loop-holds Inv-loop μ-loop
 unfolding allBelow statementsIn
-loop-holds c =
-    (omega arith, omega arith, refl, refl)
+loop-holds c = (omega arith, omega arith, refl, refl)
 
--- src/nodes.rt:237:53
 add-node-ok : tie.Need-add-node-ok Inv-loop μ-loop
 add-node-ok c = search needs
 
--- src/nodes.rt:237:12
 node-ok-requires : tie.Need-node-ok-requires Inv-loop μ-loop
 node-ok-requires c κs = search needs
 
--- src/nodes.rt:238:36
 add-counted : tie.Need-add-counted Inv-loop μ-loop
 add-counted c = search needs
 
--- src/nodes.rt:238:13
 counted-requires : tie.Need-counted-requires Inv-loop μ-loop
 counted-requires c κs = search needs
 
--- src/nodes.rt:239:13
 add-j : tie.Need-add-j Inv-loop μ-loop
 add-j c = search needs
 
--- src/nodes.rt:236:5
 loop-less : tie.Need-loop-less Inv-loop μ-loop
 loop-less c = search needs
 
--- src/nodes.rt:236:5
 loop-again : tie.Need-loop-again Inv-loop μ-loop
 loop-again c = (
   omega arith,
@@ -62,18 +50,18 @@ loop-again c = (
   all-more _ _ (c .before .before .before .before .loop .inv .3) (sym (c .before .before .node-ok .ensures) ∙ c .before .if1 .taken),
 )
 
--- src/nodes.rt:241:13
 returns : tie.Need-returns Inv-loop μ-loop
 unfolding nodesOk
 returns c =
-    λ i. all-stop (λ j. nodeOk (c .before .before .before .before .before .args .table .now) (scopeAt (c .before .before .before .before .before .args .table .now) (c .before .before .before .before .before .args .values) (c .before .before .before .before .before .args .parameters)) (c .before .before .before .before .before .args .from) (c .before .before .before .before .before .args .from + j)) (c .before .before .before .loop .j) (c .before .before .before .before .before .args .n) (c .before .before .loop-test .taken) (sym (c .before .node-ok .ensures) ∙ c .if1 .left) i && leb (statementsIn (c .before .before .before .before .before .args .table .now) (c .before .before .before .before .before .args .from) (c .before .before .before .before .before .args .n)) 64
+    let s = c .before .before .before .before .before in
+    λ i. all-stop (λ j. nodeOk (s .args .table .now) (scopeAt (s .args .table .now) (s .args .values) (s .args .parameters)) (s .args .from) (s .args .from + j)) (c .before .before .before .loop .j) (s .args .n) (c .before .before .loop-test .taken) (sym (c .before .node-ok .ensures) ∙ c .if1 .left) i && leb (statementsIn (s .args .table .now) (s .args .from) (s .args .n)) 64
 
--- src/nodes.rt:230:1
 returns-2 : tie.Need-returns-2 Inv-loop μ-loop
 unfolding nodesOk
 returns-2 c =
-    let e : c .before .loop .j ≡ c .before .before .before .args .n = omega arith in
-    λ i. all-end (λ j. nodeOk (c .before .before .before .args .table .now) (scopeAt (c .before .before .before .args .table .now) (c .before .before .before .args .values) (c .before .before .before .args .parameters)) (c .before .before .before .args .from) (c .before .before .before .args .from + j)) (c .before .loop .j) (c .before .before .before .args .n) (c .before .loop .inv .0) (c .loop-test .left) (c .before .loop .inv .3) i && leb ((c .before .loop .inv .2 ∙ ap (statementsIn (c .before .before .before .args .table .now) (c .before .before .before .args .from)) e) i) 64
+    let s = c .before .before .before in
+    let e : c .before .loop .j ≡ s .args .n = omega arith in
+    λ i. all-end (λ j. nodeOk (s .args .table .now) (scopeAt (s .args .table .now) (s .args .values) (s .args .parameters)) (s .args .from) (s .args .from + j)) (c .before .loop .j) (s .args .n) (c .before .loop .inv .0) (c .loop-test .left) (c .before .loop .inv .3) i && leb ((c .before .loop .inv .2 ∙ ap (statementsIn (s .args .table .now) (s .args .from)) e) i) 64
 
 pub nodes-ok-spec : {M : Type 1} → statement M
 nodes-ok-spec =
