@@ -1,0 +1,22 @@
+-- Demand 3 holds of every list of steps on every table that passes. Assumes nothing.
+use mathlib.Core.Path.{_≡_, sym}
+use mathlib.Core.Bool.{true}
+use mathlib.Core.List.{List}
+use Prim.Native.Nat.{ℕ}
+use Rattle.contract.specs.Fits.{every}
+use Rattle.contract.specs.Check.{passes}
+use Rattle.state.specs.States.{freshAt}
+use Rattle.history.specs.Histories.{Asked, within64}
+use Rattle.history.specs.Demand.{Demand}
+use Rattle.history.proofs.Count.{count, payouts-are}
+use Rattle.history.proofs.Striking.{last-struck, answers-struck, payouts-struck}
+use Rattle.history.proofs.Clock.{clock-goes-on}
+
+pub demand : (w : List ℕ) → passes w ≡ true → (clock : ℕ) (xs : List Asked) → every (λ a. within64 (a .request)) xs ≡ true → Demand w clock xs
+demand w e clock xs f =
+    record {
+      count = count w clock xs;
+      payouts-are-amounts = payouts-are w clock xs;
+      striking = λ ys rs t. record { state = sym (last-struck t); answer = sym (answers-struck t); payout = sym (payouts-struck t) };
+      goes-on = clock-goes-on w e clock xs f;
+    }

@@ -1,0 +1,17 @@
+pub mod Cases
+pub mod Striking
+pub mod Sums
+pub mod Works
+pub mod Parameters
+pub mod Bounded
+pub mod Count
+pub mod Values
+pub mod Ranges
+pub mod Good
+pub mod Ended
+pub mod Scheduling
+pub mod Agreeing
+pub mod Kept
+pub mod Clock
+pub mod Demand
+pub mod Worked

@@ -1,0 +1,1 @@
+// Lists of steps: what holds of every list. There is no code here.

@@ -1,0 +1,90 @@
+-- Lists that a loop copies, and the holdings that statements begin with. Assumes nothing.
+use mathlib.Core.Path.{_≡_, refl, sym, ap, _∙_}
+use mathlib.Core.List.{List, [], _∷_, _++_}
+use Prim.Native.Nat.{ℕ, zero, suc, _+_, _-_, _<_, _≤_}
+use native.Mathlib.Numerals.{add-one}
+use native.Mathlib.Omega.{arith}
+use lib.ListN.{length, getD, take, drop, set, length-append, length-take, length-set, List·getD-append, List·getD-eq-default}
+use lib.Seq.{take-all, take-suc, take-suc-set, getD-take, getD-append-add, length-take-le}
+use lib.IntN.{ℤ, pos, natAbs}
+use Rattle.state.specs.States.{repeated}
+use Rattle.state.proofs.Fresh.{repeated-at}
+use Rattle.machine.specs.Steps.{amounts}
+use Rattle.machine.specs.Parts.{holdingsOf}
+
+-- ---- a copy of a list's first n, its first i made
+pub record Copied (l out : List ℕ) (n i : ℕ) : Type 0 where
+  pub room : length out ≡ n
+  pub same : take i out ≡ take i l
+
+pub copied-none : (l out : List ℕ) (n : ℕ) → length out ≡ n → Copied l out n 0
+copied-none l out n h = record { room = h; same = refl }
+
+pub copied-more : {l out : List ℕ} {n i : ℕ} (x : ℕ) → Copied l out n i → i < n → n ≤ length l → x ≡ getD l i 0 → Copied l (set out i x) n (i + 1)
+copied-more {l} {out} {n} {i} x c h k e =
+    let r : length out ≡ n = c .room in
+    let a : i < length out = omega arith in
+    let b : i < length l = omega arith in
+    record {
+      room = length-set out i x ∙ r;
+      same = rw (add-one) (take-suc-set out i x a ∙ (λ j. c .same j ++ (e j ∷ [])) ∙ sym (take-suc l i 0 b));
+    }
+
+pub copied-all : {l out : List ℕ} {n i : ℕ} → Copied l out n i → n ≡ i → out ≡ take n l
+copied-all {l} {out} {n} {i} c h =
+    let r : length out ≤ i = omega (arith, c .room) in
+    sym (take-all i out r) ∙ c .same ∙ ap (λ (k : ℕ). take k l) (sym h)
+
+-- ---- amounts
+pub amount-at : (zs : List ℤ) (j : ℕ) → natAbs (getD zs j (pos 0)) ≡ getD (amounts zs) j 0
+unfolding amounts
+amount-at [] zero = refl
+amount-at [] (suc j) = refl
+amount-at (z ∷ zs) zero = refl
+amount-at (z ∷ zs) (suc j) = amount-at zs j
+
+-- ---- holdings
+pub repeated-length : {A : Type 0} (n : ℕ) (x : A) → length (repeated n x) ≡ n
+unfolding repeated
+repeated-length zero x = refl
+repeated-length (suc n) x = ap suc (repeated-length n x)
+
+-- zeros after a list change none of its numbers
+with-zeros : (l : List ℕ) (n k : ℕ) → getD (l ++ repeated n 0) k 0 ≡ getD l k 0
+with-zeros [] n zero = repeated-at n 0 0
+with-zeros [] n (suc k) = repeated-at n 0 (suc k)
+with-zeros (x ∷ l) n zero = refl
+with-zeros (x ∷ l) n (suc k) = with-zeros l n k
+
+module _ (held : List ℕ) (zs : List ℤ) (full : length held ≡ 16) where
+  front : length (take 16 held) ≡ 16
+  front = length-take-le 16 held (omega arith)
+
+  back : length (take 4 (amounts zs ++ repeated 4 0)) ≡ 4
+  back = length-take-le 4 (amounts zs ++ repeated 4 0) (omega (arith, length-append (amounts zs) (repeated 4 0), repeated-length {A = ℕ} 4 0))
+
+  pub holdings-length : length (holdingsOf held zs) ≡ 20
+  unfolding holdingsOf
+  holdings-length = omega (arith, length-append (take 16 held) (take 4 (amounts zs ++ repeated 4 0)), front, back)
+
+  pub asset-holding : (i : ℕ) → i < 16 → getD held i 0 ≡ getD (holdingsOf held zs) i 0
+  unfolding holdingsOf
+  asset-holding i h =
+      let k : i < length (take 16 held) = omega (arith, front) in
+      sym (List·getD-append (take 16 held) _ 0 i k ∙ getD-take 16 held i 0 h)
+
+  pub parameter-holding : (i : ℕ) → 16 ≤ i → i < 20 → getD (amounts zs) (i - 16) 0 ≡ getD (holdingsOf held zs) i 0
+  unfolding holdingsOf
+  parameter-holding i h k =
+      let b = take 4 (amounts zs ++ repeated 4 0) in
+      let e : i ≡ length (take 16 held) + (i - 16) = omega (arith, front) in
+      let j : i - 16 < 4 = omega arith in
+      sym (ap (λ (m : ℕ). getD (take 16 held ++ b) m 0) e
+      ∙ getD-append-add (take 16 held) b (i - 16) 0
+      ∙ getD-take 4 (amounts zs ++ repeated 4 0) (i - 16) 0 j
+      ∙ with-zeros (amounts zs) 4 (i - 16))
+
+  pub no-holding : (i : ℕ) → 20 ≤ i → 0 ≡ getD (holdingsOf held zs) i 0
+  no-holding i h =
+      let l : length (holdingsOf held zs) ≤ i = omega (arith, holdings-length) in
+      sym (List·getD-eq-default (holdingsOf held zs) 0 l)

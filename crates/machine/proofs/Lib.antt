@@ -1,0 +1,13 @@
+pub mod Copies
+pub mod Ticks
+pub mod Events
+pub mod Names
+pub mod Tests
+pub mod Firings
+pub mod Gates
+pub mod Functions
+pub mod Schedules
+pub mod Calls
+pub mod Clauses
+pub mod Agreements
+pub mod Lines
