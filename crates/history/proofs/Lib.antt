@@ -15,3 +15,4 @@ pub mod Kept
 pub mod Clock
 pub mod Demand
 pub mod Worked
+pub mod Texts

@@ -1,0 +1,145 @@
+-- A firing is accepted exactly if EVENT MATCH, the handler's statements and STATE CHANGE lead to an idle state, and fails exactly if
+-- the handler's statements stick. Assumes nothing.
+use mathlib.Core.Path.{_≡_, refl, sym, ap, subst, _∙_}
+use mathlib.Core.Bool.{Bool, true, false}
+use mathlib.Core.List.{List, [], _++_, append-nil}
+use Prim.Native.Nat.{ℕ, _≤_}
+use native.Mathlib.Omega.{arith}
+use lib.ListN.{length, getD, drop}
+use lib.Dec.{eqb}
+use borrow.Author.Tests.{eq-eqb, ne-eqb}
+use Rattle.laws.proofs.Choice.{pick-true, pick-false}
+use Rattle.contract.specs.Limits.{maxAssets}
+use Rattle.contract.specs.Tree.{Contract}
+use Rattle.contract.specs.Fits.{every, scopeOf}
+use Rattle.state.specs.declared.State.{State}
+use Rattle.state.specs.declared.Pending.{Pending}
+use Rattle.state.specs.declared.Due.the-variants as due
+use Rattle.state.specs.States.{maxPending, blank, eventOf, live, dueIn, withPending, removed}
+use Rattle.state.proofs.Each.{without-length}
+use Rattle.state.proofs.Within.{live-removed}
+use Rattle.statements.specs.declared.Label.{Label}
+use Rattle.statements.specs.Running.{memoryIn}
+use Rattle.machine.specs.declared.Rule.the-variants.{EventMatch}
+use Rattle.machine.specs.declared.Outcome.the-variants.{Accepted, Failed}
+use Rattle.machine.specs.declared.Stepped.{Stepped}
+use Rattle.machine.specs.Steps.{begun, ended, handled, fireByDue, fired}
+use Rattle.history.specs.Histories as history
+use Rattle.history.proofs.Parameters.{Parameters, ran-same}
+use Rattle.history.proofs.Bounded.{Bounded, BoundedEvent}
+use Rattle.history.proofs.Cases.{eventAt, handlerRan, Came, refusal, fires, fails, firing-came}
+use Rattle.published.specs.Published.{Configuration, runtime, inState, nothing, inOrder, bound, unbound, without, Statements, First, Ready, no-event, match, failure, Table2, stateChange, eventMatch, eventFailed, Whole, whole, phaseOf, memoryAt, idle, Comes}
+use Rattle.published.proofs.Blocks.{Sticks, at}
+use Rattle.published.proofs.Bodies.{Fit, body-runs, body-sticks, run-is, stick-is}
+use Rattle.published.proofs.Finding.{first-ready, ready-first, first-at}
+use Rattle.published.proofs.Idle.{standing, idle-standing, idle-ended, comes-by, whole-same, starts, nothing-bound}
+
+module _ (c : Contract) (b : Bounded c) (s : State) where
+  handler-bounded : (k : ℕ) → BoundedEvent c (eventAt c s k)
+  unfolding eventOf
+  handler-bounded k = let p = getD (live s) k blank in b .functions (p .function) .events (p .event)
+
+  handler-fit : (k : ℕ) → Fit (eventAt c s k .handler)
+  unfolding scopeOf
+  handler-fit k =
+      record {
+        scope = scopeOf c 0 0;
+        assets = b .assets-few;
+        parameters = omega arith;
+        inside = handler-bounded k .handler-in;
+        few = omega (arith, handler-bounded k .handler-few);
+      }
+
+  -- a handler names no parameter
+  handler-spends : (k : ℕ) → every (λ a. eqb a 0) (drop maxAssets (handlerRan c s k .holdings)) ≡ true
+  unfolding scopeOf
+  handler-spends k =
+      let z : Parameters (drop maxAssets (begun s [] .holdings)) (handlerRan c s k) =
+      ran-same (scopeOf c 0 0) (b .assets-few) refl [] (s .clock) (eventAt c s k .handler) (handler-bounded k .handler-in) (record { amounts = refl }) in
+      ap (every (λ a. eqb a 0)) (z .amounts) ∙ nothing-bound s
+
+  first-due : (k : ℕ) → dueIn c s ≡ due.At k → First (Ready c (s .state) (s .clock)) k (getD (live s) k blank) (live s)
+  unfolding dueIn
+  first-due k d =
+      let f = first-ready c s 0 k (live s) d in
+      let e : f .0 ≡ k = omega (arith, f .1) in
+      subst (λ (n : ℕ). First (Ready c (s .state) (s .clock)) n (getD (live s) n blank) (live s)) e (f .2)
+
+  due-first : {k : ℕ} {p : Pending} → First (Ready c (s .state) (s .clock)) k p (live s) → dueIn c s ≡ due.At k
+  unfolding dueIn
+  due-first f = ready-first c s 0 f ∙ ap due.At (omega arith)
+
+  idle-fired : (k : ℕ) → s .agreed ≡ true
+      → idle (ended s (handlerRan c s k) (eventAt c s k .last) (live (removed s k)))
+      ≡ runtime (inState (eventAt c s k .last)) (unbound (memoryIn [] (s .clock) (handlerRan c s k))) nothing (without k (live s) ++ [])
+  idle-fired k a =
+      idle-ended s (handlerRan c s k) (eventAt c s k .last) (live (removed s k)) [] a
+      ∙ ap (runtime (inState (eventAt c s k .last)) (unbound (memoryIn [] (s .clock) (handlerRan c s k))) nothing)
+      (live-removed s k ∙ sym (append-nil (without k (live s))))
+
+  idle-removed : (k : ℕ) → s .agreed ≡ true → idle (removed s k) ≡ runtime (inState (s .state)) (memoryAt s) nothing (without k (live s))
+  unfolding withPending removed
+  idle-removed k a = λ i. runtime (phaseOf (a i) (s .state)) (memoryAt s) nothing (live-removed s k i)
+
+  -- ---- from the machine to the rules
+
+  module _ (few : length (live s) ≤ maxPending) where
+    fired-derives : {r : Stepped} {ls : List Label} {C : Configuration} → Came c s history.firing r → Comes r (Accepted EventMatch) ls C → Whole c (idle s) match ls C
+    fired-derives (refusal n) o = let z : _≡_ {A = ℕ} 0 1 = cc (o .outcome-is) in absurd (omega arith)
+    fired-derives (fails k a d h) o = let z : _≡_ {A = ℕ} 0 1 = cc (o .outcome-is) in absurd (omega arith)
+    fired-derives {ls = ls} {C = C} (fires k a d h) o =
+        whole-same (sym (idle-standing s a)) (o .labels-are) (sym (idle-fired k a) ∙ o .leads-to)
+        (whole (eventMatch (first-due k d)) (body-runs s [] [] (eventAt c s k .handler) (handler-fit k) h)
+        (stateChange (handler-spends k) no-event (omega (arith, without-length k (live s)))))
+
+    pub firing-derives : {ls : List Label} {C : Configuration} → Comes (fired c s) (Accepted EventMatch) ls C → Whole c (idle s) match ls C
+    firing-derives o = fired-derives (firing-came c s) o
+
+  failed-derives : {r : Stepped} {n : ℕ} {ls : List Label} {C : Configuration} → Came c s history.firing r → Comes r (Failed n) ls C → Table2 c (idle s) failure C
+  failed-derives (refusal n) o = let z : _≡_ {A = ℕ} 0 1 = cc (o .outcome-is) in absurd (omega arith)
+  failed-derives (fires k a d h) o = let z : _≡_ {A = ℕ} 0 1 = cc (o .outcome-is) in absurd (omega arith)
+  failed-derives {C = C} (fails k a d h) o =
+      subst (λ (x : Configuration). Table2 c x failure C) (sym (idle-standing s a))
+      (subst (Table2 c (standing s) failure) (sym (idle-removed k a) ∙ o .leads-to) (go (body-sticks s [] [] (eventAt c s k .handler) (handler-fit k) h)))
+    where
+      go : Sticks (bound (memoryAt s) [] []) (inOrder (eventAt c s k .handler)) → Table2 c (standing s) failure (runtime (inState (s .state)) (memoryAt s) nothing (without k (live s)))
+      go (at r x) = eventFailed (first-due k d) r x
+
+  pub failure-derives : {n : ℕ} {ls : List Label} {C : Configuration} → Comes (fired c s) (Failed n) ls C → Table2 c (idle s) failure C
+  failure-derives o = failed-derives (firing-came c s) o
+
+  -- ---- from the rules to the machine
+
+  match-comes : {ls : List Label} {C : Configuration} (x : Bool) → s .agreed ≡ x → Whole c (runtime (phaseOf x (s .state)) (memoryAt s) nothing (live s)) match ls C
+      → Comes (fired c s) (Accepted EventMatch) ls C
+  unfolding fired handled
+  match-comes true a (whole {ls = ls} (eventMatch {k = k} {p = p} f) r (stateChange {m = m} h no-event l)) =
+      let e : getD (live s) k blank ≡ p = first-at blank f in
+      let t = run-is s [] [] (eventAt c s k .handler) (handler-fit k)
+      (subst (λ (x : Pending). Statements (bound (memoryAt s) [] []) (inOrder (eventOf c x .handler)) ls m []) (sym e) r) in
+      comes-by (pick-true _ _ _ a ∙ ap (fireByDue c s) (due-first f) ∙ pick-true _ _ _ (eq-eqb (handlerRan c s k .refusal) 0 (t .0)))
+      (record {
+        outcome-is = refl;
+        labels-are = t .1;
+        leads-to = idle-fired k a ∙ (λ i. runtime (inState (eventOf c (e i) .last)) (unbound (t .2 i)) nothing (without k (live s) ++ []));
+      })
+  match-comes false a (whole t r u) = absurd (starts t)
+
+  pub firing-comes : {ls : List Label} {C : Configuration} → Whole c (idle s) match ls C → Comes (fired c s) (Accepted EventMatch) ls C
+  firing-comes t = match-comes (s .agreed) refl t
+
+  fail-comes : {C : Configuration} (x : Bool) → s .agreed ≡ x → Table2 c (runtime (phaseOf x (s .state)) (memoryAt s) nothing (live s)) failure C
+      → (n : ℕ) × Comes (fired c s) (Failed n) [] C
+  unfolding fired handled
+  fail-comes false a t = absurd (starts t)
+  fail-comes true a (eventFailed {k = k} {p = p} f r x) =
+      let e : getD (live s) k blank ≡ p = first-at blank f in
+      let g : Sticks (bound (memoryAt s) [] []) (inOrder (eventAt c s k .handler)) =
+      subst (λ (y : Pending). Sticks (bound (memoryAt s) [] []) (inOrder (eventOf c y .handler))) (sym e) (at r x) in (
+        handlerRan c s k .refusal,
+        comes-by (pick-true _ _ _ a ∙ ap (fireByDue c s) (due-first f) ∙ pick-false _ _ _ (ne-eqb (handlerRan c s k .refusal) 0 (stick-is s [] [] (eventAt c s k .handler) (handler-fit k) g)))
+            (record { outcome-is = refl; labels-are = refl; leads-to = idle-removed k a }),
+      )
+
+  pub failure-comes : {C : Configuration} → Table2 c (idle s) failure C → (n : ℕ) × Comes (fired c s) (Failed n) [] C
+  failure-comes t = fail-comes (s .agreed) refl t

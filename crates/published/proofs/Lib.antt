@@ -1,0 +1,15 @@
+pub mod Refusals
+pub mod Inversions
+pub mod Runs
+pub mod Actions
+pub mod Blocks
+pub mod Bodies
+pub mod Finding
+pub mod Guards
+pub mod Idle
+pub mod Ticks
+pub mod Firings
+pub mod Calls
+pub mod Agreements
+pub mod Theorem
+pub mod Told

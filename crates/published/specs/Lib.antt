@@ -1,0 +1,2 @@
+pub mod Published
+pub mod Exactly
