@@ -1,9 +1,8 @@
 -- The cases of a call. Assumes nothing.
-use mathlib.Core.Path.{_≡_, refl, sym, ap, _∙_}
-use mathlib.Core.Bool.{Bool, true, false, _&&_}
-use mathlib.Core.List.{List, []}
+use mathlib.Core.Path.{_≡_, sym, ap, _∙_}
+use mathlib.Core.Bool.{true, false}
+use mathlib.Core.List.{List}
 use Prim.Native.Nat.{ℕ, _+_, _-_}
-use native.Mathlib.Omega.{arith}
 use lib.ListN.{length, drop}
 use lib.IntN.{ℤ, pos}
 use lib.Signed.{leZ}
@@ -14,8 +13,7 @@ use Rattle.laws.proofs.Choice.{pick-true, pick-false}
 use Rattle.numbers.specs.declared.Truth.{Truth}
 use Rattle.numbers.specs.declared.Truth.the-variants as truth
 use Rattle.contract.specs.Tree.{Contract, Function}
-use Rattle.contract.specs.Table.{functionWord}
-use Rattle.contract.specs.Decode.{conditionAt, preconditionAt, blockBetween, functionAt, contractOf}
+use Rattle.contract.specs.Decode.{conditionAt, preconditionAt, functionAt, contractOf}
 use Rattle.contract.specs.Fits.{every}
 use Rattle.evaluation.specs.Memory.{Memory}
 use Rattle.evaluation.specs.Meaning.{truthOf}
@@ -26,7 +24,6 @@ use Rattle.statements.specs.declared.Work.{Work}
 use Rattle.statements.specs.Running.{memoryIn, ran}
 use Rattle.machine.specs.declared.Found.{Found}
 use Rattle.machine.specs.declared.Found.the-variants as found
-use Rattle.machine.specs.declared.Stepped.{Stepped}
 use Rattle.machine.specs.Steps.{refused, begun, amounts, Invocation, preconditionHolds, schedule, withScheduled, finished, byPrecondition, invoked, byChosen, callByDue, called}
 use Rattle.machine.specs.Parts.{naming, arguments, chosenIn, FoundIn}
 use Rattle.machine.proofs.Functions.{choose-named}

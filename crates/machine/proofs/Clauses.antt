@@ -1,10 +1,10 @@
 -- Clauses of a table that passes: where they stand, and the fields that they name. Assumes nothing.
-use mathlib.Core.Path.{_≡_, refl, sym, ap, _∙_}
+use mathlib.Core.Path.{_≡_, sym, ap, _∙_}
 use mathlib.Core.Bool.{Bool, true}
 use mathlib.Core.List.{List, [], _∷_}
 use Prim.Native.Nat.{ℕ, suc, _+_, _-_, _*_, _<_, _≤_}
 use native.Mathlib.Omega.{arith}
-use lib.ListN.{length, getD, take, drop, length-take, length-drop}
+use lib.ListN.{length, getD, drop, length-take, length-drop}
 use lib.Seq.{getD-take, getD-drop}
 use lib.Dec.{leb, ltb}
 use borrow.Author.Tests.{ltb-true, leb-true}

@@ -4,7 +4,7 @@ use mathlib.Core.List.{List, [], _∷_, _++_}
 use Prim.Native.Nat.{ℕ, zero, suc, _+_, _-_, _<_, _≤_}
 use native.Mathlib.Numerals.{add-one}
 use native.Mathlib.Omega.{arith}
-use lib.ListN.{length, getD, take, drop, set, length-append, length-take, length-set, List·getD-append, List·getD-eq-default}
+use lib.ListN.{length, getD, take, set, length-append, length-set, List·getD-append, List·getD-eq-default}
 use lib.Seq.{take-all, take-suc, take-suc-set, getD-take, getD-append-add, length-take-le}
 use lib.IntN.{ℤ, pos, natAbs}
 use Rattle.state.specs.States.{repeated}

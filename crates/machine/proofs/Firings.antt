@@ -1,6 +1,6 @@
 -- The cases of a firing. Assumes nothing.
 use mathlib.Core.Path.{_≡_, refl, sym, ap, _∙_}
-use mathlib.Core.Bool.{Bool, true, false}
+use mathlib.Core.Bool.{true, false}
 use mathlib.Core.List.{List, []}
 use Prim.Native.Nat.{ℕ}
 use borrow.Author.Tests.{eq-eqb, ne-eqb}
@@ -18,7 +18,6 @@ use Rattle.state.proofs.Within.{live-with}
 use Rattle.statements.specs.declared.Work.{Work}
 use Rattle.statements.specs.Running.{ran}
 use Rattle.machine.specs.declared.Handler.{Handler}
-use Rattle.machine.specs.declared.Stepped.{Stepped}
 use Rattle.machine.specs.declared.Rule.the-variants.{EventMatch}
 use Rattle.machine.specs.declared.Outcome.the-variants.{Failed}
 use Rattle.machine.specs.Steps.{answered, refused, accepted, begun, ended, amounts, handled, fireByDue, fired}

@@ -1,16 +1,15 @@
 -- Functions of a table that passes: where they stand, and which is called. Assumes nothing.
 use mathlib.Core.Path.{_≡_, refl, sym, ap, _∙_}
-use mathlib.Core.Bool.{Bool, true, false, _&&_}
+use mathlib.Core.Bool.{true, false, _&&_}
 use mathlib.Core.List.{List, [], _∷_}
-use Prim.Native.Nat.{ℕ, zero, suc, _+_, _-_, _*_, _<_, _≤_}
-use native.Mathlib.Numerals.{add-one}
+use Prim.Native.Nat.{ℕ, suc, _+_, _-_, _*_, _<_, _≤_}
 use native.Mathlib.Omega.{arith}
 use lib.ListN.{length, getD}
 use lib.Dec.{eqb, leb, ltb}
 use borrow.Author.Tests.{ltb-true, leb-true, eq-eqb, ne-eqb}
 use Rattle.laws.specs.Choice.{pick}
 use Rattle.laws.specs.Bytes.{sameBytes}
-use Rattle.contract.specs.Limits.{maxValues, maxParameters, maxNodes, maxEvents, maxFunctions}
+use Rattle.contract.specs.Limits.{maxValues, maxParameters, maxNodes, maxEvents}
 use Rattle.contract.specs.Tree.{Word, Contract, Function}
 use Rattle.contract.specs.Fits.{Scope}
 use Rattle.contract.specs.Table.{wordAt, functionWord, functionsStart, functionWords, partiesStart, nameWords}
@@ -22,10 +21,9 @@ use Rattle.contract.proofs.Fitting.{link}
 use Rattle.contract.proofs.Sound.{passed}
 use Rattle.state.specs.States.{noEvent}
 use Rattle.state.proofs.Decoded.{each-length, each-at}
-use Rattle.machine.specs.declared.Found.{Found}
 use Rattle.machine.specs.declared.Found.the-variants as found
 use Rattle.machine.specs.Steps.{Invocation, Chosen, chosen, unknown, choose, answersTo}
-use Rattle.machine.specs.Parts.{naming, chosenIn, FoundIn}
+use Rattle.machine.specs.Parts.{naming, FoundIn}
 
 -- ---- what passing says of function i
 pub record Placed (w : List ℕ) (i : ℕ) : Type 0 where

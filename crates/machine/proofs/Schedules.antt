@@ -1,35 +1,32 @@
 -- The events of a call: which join the pending ones, turn by turn, and the state that has them. Assumes nothing.
 use mathlib.Core.Path.{_≡_, refl, sym, ap, _∙_}
-use mathlib.Core.Bool.{Bool, true, false, _&&_}
+use mathlib.Core.Bool.{true, false, _&&_}
 use mathlib.Core.List.{List, [], _∷_, _++_, append-nil, append-assoc}
 use Prim.Native.Nat.{ℕ, suc, _+_, _-_, _<_, _≤_}
 use native.Mathlib.Numerals.{add-one}
 use native.Mathlib.Omega.{arith}
-use lib.ListN.{length, getD, take, drop, set, length-append, length-take, length-drop, drop-of-length-le, take-append-drop}
-use lib.Seq.{drop-cons, append-snoc, ext-getD, getD-drop, take-append-seam}
+use lib.ListN.{length, getD, drop, length-append, length-take, length-drop, drop-of-length-le, take-append-drop}
+use lib.Seq.{drop-cons, append-snoc, ext-getD, getD-drop}
 use lib.IntN.{ℤ, pos, natAbs}
 use lib.Signed.{leZ}
-use lib.Dec.{eqb, leb, ltb}
+use lib.Dec.{eqb}
 use borrow.Author.Tests.{le-leb, lt-leb, lt-ltb, le-ltb, eqb-true}
-use Rattle.laws.specs.Choice.{pick}
 use Rattle.laws.proofs.Choice.{pick-true, pick-false}
 use Rattle.numbers.specs.declared.Value.the-variants.{Integer, Text}
 use Rattle.numbers.specs.declared.Answer.{Answer}
 use Rattle.numbers.specs.declared.Answer.the-variants as answer
-use Rattle.contract.specs.Check.{allBelow}
 use Rattle.contract.specs.Tree.{Event, Contract}
 use Rattle.evaluation.specs.Memory.{Memory}
 use Rattle.evaluation.specs.Meaning.{valueOf}
 use Rattle.state.specs.declared.State.{State}
 use Rattle.state.specs.declared.Pending.{Pending}
-use Rattle.state.specs.States.{maxPending, repeated, blank, noEvent, live, isBlank, pendingOk, pendingSlotOk, stateOk, withPending, joinedBy}
+use Rattle.state.specs.States.{maxPending, repeated, blank, noEvent, live, isBlank, pendingSlotOk, stateOk, withPending, joinedBy}
 use Rattle.state.proofs.Below.{both-true, below-at}
 use Rattle.state.proofs.Fresh.{repeated-at}
 use Rattle.state.proofs.Kept.{Holds, holds-more}
 use Rattle.state.proofs.Within.{Within, within}
 use Rattle.statements.specs.declared.Work.{Work}
 use Rattle.machine.specs.declared.Rule.the-variants.{Call}
-use Rattle.machine.specs.declared.Stepped.{Stepped}
 use Rattle.machine.specs.Steps.{refused, accepted, ended, Scheduled, times, no, scheduled, schedule, withScheduled}
 use Rattle.machine.specs.Parts.{reached}
 use Rattle.machine.proofs.Copies.{repeated-length}

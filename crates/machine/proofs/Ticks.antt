@@ -1,9 +1,8 @@
 -- The cases of a tick. Assumes nothing.
-use mathlib.Core.Path.{_≡_, refl, sym, ap, _∙_}
-use mathlib.Core.Bool.{Bool, true, false}
-use Prim.Native.Nat.{ℕ, suc, _+_, _<_, _≤_}
+use mathlib.Core.Path.{_≡_, sym, ap, _∙_}
+use mathlib.Core.Bool.{true, false}
+use Prim.Native.Nat.{ℕ, _+_, _<_, _≤_}
 use native.Mathlib.Numerals.{add-one}
-use native.Mathlib.Omega.{arith}
 use borrow.Author.Tests.{lt-ltb, le-ltb}
 use Rattle.laws.specs.Choice.{pick}
 use Rattle.contract.specs.Limits.{top}
@@ -13,7 +12,7 @@ use Rattle.state.specs.declared.Due.the-variants as due
 use Rattle.state.specs.States.{dueIn, withPending, lapsed}
 use Rattle.machine.specs.declared.Rule.the-variants.{Tick}
 use Rattle.machine.specs.declared.Outcome.the-variants.{Accepted}
-use Rattle.machine.specs.Steps.{answered, refused, later, tickByDue, ticked}
+use Rattle.machine.specs.Steps.{answered, refused, tickByDue, ticked}
 
 module _ (c : Contract) (s : State) where
   pub tick-unagreed : s .agreed ≡ false → refused s 22 ≡ ticked c s

@@ -1,9 +1,9 @@
 -- The agreement: the parties' clauses in the contract's order, with the fields' values.
-use Prim.Native.Nat.{ℕ, zero, suc, _+_, _-_, _*_}
+use Prim.Native.Nat.{ℕ, zero, suc, _*_}
 use mathlib.Core.Bool.{Bool, true, false, _&&_}
 use mathlib.Core.List.{List, [], _∷_}
 use lib.ListN.{length, getD, take, drop, set}
-use lib.Dec.{eqb, leb, ltb}
+use lib.Dec.{eqb}
 use lib.IntN.{ℤ, pos}
 use Rattle.laws.specs.Choice.{pick}
 use Rattle.laws.specs.Bytes.{sameBytes}
