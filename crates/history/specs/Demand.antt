@@ -10,12 +10,12 @@ use Rattle.contract.specs.Fits.{every}
 use Rattle.contract.specs.Decode.{contractOf}
 use Rattle.state.specs.declared.State.{State}
 use Rattle.state.specs.declared.Due.the-variants.{Nothing}
-use Rattle.state.specs.States.{freshAt, dueIn}
+use Rattle.state.specs.States.{freshAt, stateOk, dueIn}
 use Rattle.statements.specs.Running.{maxLabels}
 use Rattle.machine.specs.declared.Rule.the-variants.{Tick}
 use Rattle.machine.specs.declared.Outcome.the-variants.{Accepted}
 use Rattle.machine.specs.declared.Stepped.{Stepped}
-use Rattle.history.specs.Histories.{Asked, tick, answerTo, answers, lastState, deposits, holdings, payouts, worth, isAmount, Struck, firings, noneRefused}
+use Rattle.history.specs.Histories.{Asked, tick, answerTo, answers, lastState, deposits, holdings, payouts, worth, isAmount, Struck, unrefused, firings, noneRefused}
 
 -- after the steps that stay: the same state, the same answers to them, the same payouts in order
 pub record Same (w : List ℕ) (s : State) (xs ys : List Asked) (rs : List Stepped) : Type 0 where
@@ -39,9 +39,13 @@ pub record GoesOn (w : List ℕ) (s : State) : Type 0 where
 pub record Demand (w : List ℕ) (clock : ℕ) (xs : List Asked) : Type 0 where
   -- deposits of accepted calls are the holdings and the asset payouts; a holding is a natural number, so none is below 0
   pub count : deposits w (freshAt clock) xs ≡ holdings (lastState w (freshAt clock) xs) + worth (payouts (answers w (freshAt clock) xs))
+  -- the last state is within question 4, so that only assets of the contract hold anything, each at most top
+  pub in-range : clock ≤ top → stateOk (contractOf w) (lastState w (freshAt clock) xs) ≡ true
   -- no payout is below 0
   pub payouts-are-amounts : every isAmount (payouts (answers w (freshAt clock) xs)) ≡ true
   -- any refused steps can be struck out
   pub striking : (ys : List Asked) (rs : List Stepped) → Struck w (freshAt clock) xs ys rs → Same w (freshAt clock) xs ys rs
+  -- and so can all of them
+  pub striking-all : Same w (freshAt clock) xs (unrefused w (freshAt clock) xs) (answers w (freshAt clock) (unrefused w (freshAt clock) xs))
   -- agreed and below top, the clock can't be stopped
   pub goes-on : lastState w (freshAt clock) xs .agreed ≡ true → lastState w (freshAt clock) xs .clock < top → GoesOn w (lastState w (freshAt clock) xs)

@@ -187,7 +187,7 @@ pub data Times (m : Memory) (n : ℕ) : ℕ → List Event → List Pending → 
       → Times m n (suc j) es ps
       → Times m n j (e ∷ es) ps
 
--- all but the event at placeOf k
+-- all but the event at place k
 abbrev pub without : ℕ → List Pending → List Pending
 without k ps = take k ps ++ drop (suc k) ps
 
@@ -280,7 +280,8 @@ pub data Table2 (c : Contract) : Configuration → Mark → Configuration → Ty
       → preconditionHolds (bound m (i .values) vs) (f .precondition) ≡ Holds true
       → Table2 c (runtime (inState q) m nothing Ψ) (call i)
       (runtime (inState q) (bound m (i .values) vs) (left (inOrder (f .body)) n (f .events) (f .last)) Ψ)
-  -- Leftovers in an asset parameter refuse the call. Up to 64 pending events.
+  -- Leftovers in an asset parameter refuse the call. Up to 64 pending events. Parameters end with the code that names them; a handler
+  -- names none.
   stateChange : {q n q' : ℕ} {m : Memory} {W : List Event} {Ψ Ψ' : List Pending}
       → every (λ a. eqb a 0) (drop maxAssets (m .holdings)) ≡ true
       → Times m n 0 W Ψ'
@@ -297,7 +298,7 @@ pub data Table2 (c : Contract) : Configuration → Mark → Configuration → Ty
       → Statements (bound m [] []) (inOrder (eventOf c p .handler)) ls m' (s ∷ ss)
       → Stuck m' (s ∷ ss)
       → Table2 c (runtime (inState q) m nothing Ψ) failure (runtime (inState q) m nothing (without k Ψ))
-  -- Events whose time equals the old clock are dropped.
+  -- Events whose time equals the old clock are dropped. The last clock value is top.
   tick : {q : ℕ} {m : Memory} {Ψ : List Pending}
       → m .clock < top → NothingReady c q m Ψ
       → Table2 c (runtime (inState q) m nothing Ψ) time
