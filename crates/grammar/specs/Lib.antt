@@ -1,0 +1,2 @@
+pub mod Derivations
+pub mod Meaning
