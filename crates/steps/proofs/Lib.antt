@@ -1,0 +1,3 @@
+pub mod Pasted
+pub mod Fields
+pub mod Kept

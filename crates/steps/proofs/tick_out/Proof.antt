@@ -1,0 +1,18 @@
+-- `steps::tick_out` meets its contract. Assumes nothing.
+use mathlib.Core.Path.{ap, _∙_}
+use borrow.Author.Needs.{needs}
+use Rattle.steps.specs.Left.{outOf}
+use Rattle.steps.proofs.tick_out.Statement.{statement}
+use Rattle.steps.proofs.tick_out.Tie as tie
+
+tick-requires : tie.Need-tick-requires
+tick-requires c κs = search needs
+
+part-requires : tie.Need-part-requires
+part-requires c κs = search needs
+
+returns : tie.Need-returns
+returns c = c .part .ensures ∙ ap outOf (c .before .tick .ensures)
+
+pub tick-out-spec : {M : Type 1} → statement M
+tick-out-spec = tie.close (tie.spec tick-requires part-requires returns)
