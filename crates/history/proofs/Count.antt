@@ -84,6 +84,8 @@ pub record Counted (q : Request) (s : State) (r : Stepped) : Type 0 where
   pub assets-length : length (r .state .assets) ≡ maxAssets
   pub count : deposit q (r .outcome) + holdings s ≡ holdings (r .state) + worth (payoutsOf r (r .outcome))
   pub amounts-paid : every isAmount (payoutsOf r (r .outcome)) ≡ true
+  pub labels-few : r .count ≤ maxLabels
+  pub labels-length : length (r .labels) ≡ maxLabels
 
 refused-brings : (q : Request) (n : ℕ) → deposit q (Refused n) ≡ 0
 refused-brings (agreement ps) n = refl
@@ -94,7 +96,8 @@ refused-brings tick n = refl
 module _ {s : State} (l : length (s .assets) ≡ maxAssets) where
   refused-counted : (q : Request) (n : ℕ) → Counted q s (refused s n)
   unfolding worth every
-  refused-counted q n = record { assets-length = l; count = omega (arith, refused-brings q n); amounts-paid = refl }
+  refused-counted q n =
+      record { assets-length = l; count = omega (arith, refused-brings q n); amounts-paid = refl; labels-few = omega arith; labels-length = length-repeated maxLabels noLabel }
 
   module _ (c : Contract) (b : Bounded c) where
     call-counted : (i : Invocation) (n : ℕ) (f : Function) (ps : List Pending) → CallOk c s i n f ps
@@ -110,6 +113,8 @@ module _ {s : State} (l : length (s .assets) ≡ maxAssets) where
           assets-length = length-take maxAssets (w .holdings) ∙ omega (arith, k .holdings-length);
           count = omega (arith, k .total-is, sum-split maxAssets (w .holdings), sum-nothing (drop maxAssets (w .holdings)) (o .spent));
           amounts-paid = k .amounts;
+          labels-few = omega (arith, k .labels-few, g .body-few);
+          labels-length = k .labels-length;
         }
 
     firing-counted : (k : ℕ) (ps : List Pending) (q : ℕ) → Counted firing s (accepted EventMatch (ended s (handlerRan c s k) q ps) (handlerRan c s k))
@@ -126,6 +131,8 @@ module _ {s : State} (l : length (s .assets) ≡ maxAssets) where
           assets-length = length-take maxAssets (w .holdings) ∙ omega (arith, v .holdings-length);
           count = omega (arith, v .total-is, sum-split maxAssets (w .holdings), ap sum (z .amounts), sum-zeros maxParameters maxParameters);
           amounts-paid = v .amounts;
+          labels-few = omega (arith, v .labels-few, e .handler-few);
+          labels-length = v .labels-length;
         }
 
     -- every step
@@ -134,11 +141,11 @@ module _ {s : State} (l : length (s .assets) ≡ maxAssets) where
     came-counted (refusal {q = q} n) = refused-counted q n
     came-counted (agrees ps a) =
         let e = set-clauses-assets s (c .clauses) ps in
-        record { assets-length = ap length e ∙ l; count = omega (arith, ap sum e); amounts-paid = refl }
+        record { assets-length = ap length e ∙ l; count = omega (arith, ap sum e); amounts-paid = refl; labels-few = omega arith; labels-length = length-repeated maxLabels noLabel }
     came-counted (calls i n f ps o) = call-counted i n f ps o
     came-counted (fires k a d h) = firing-counted k (live (removed s k)) (eventAt c s k .last)
-    came-counted (fails k a d h) = record { assets-length = l; count = omega arith; amounts-paid = refl }
-    came-counted (ticks a d h) = record { assets-length = l; count = omega arith; amounts-paid = refl }
+    came-counted (fails k a d h) = record { assets-length = l; count = omega arith; amounts-paid = refl; labels-few = omega arith; labels-length = length-repeated maxLabels noLabel }
+    came-counted (ticks a d h) = record { assets-length = l; count = omega arith; amounts-paid = refl; labels-few = omega arith; labels-length = length-repeated maxLabels noLabel }
 
 -- ---- lists of steps
 

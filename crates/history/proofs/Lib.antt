@@ -16,3 +16,4 @@ pub mod Clock
 pub mod Demand
 pub mod Worked
 pub mod Texts
+pub mod Lent
