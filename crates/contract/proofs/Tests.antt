@@ -9,6 +9,7 @@ use mathlib.Core.Logic.{_⊎_, ⊎-elim}
 use lib.Dec.{eqb, leb}
 use borrow.Author.Tests.{leb-true, eqb-true, eqb-false, eq-eqb, ne-eqb}
 use Rattle.laws.specs.Choice.{pick}
+use Rattle.laws.proofs.Choice.{true-false}
 use Rattle.contract.specs.Check.{allBelow, ranges}
 use Rattle.contract.proofs.Fitting.{both-left, both-right}
 
@@ -70,3 +71,19 @@ all-stop p i (suc n) h e =
 
 pub all-end : (p : ℕ → Bool) (i n : ℕ) → i ≤ n → n ≤ i → allBelow i p ≡ true → true ≡ allBelow n p
 all-end p i n h l e = let q : i ≡ n = omega arith in sym (subst (λ (k : ℕ). allBelow k p ≡ true) q e)
+
+-- two tests joined by or
+pub or-first : (a b : Bool) → (a || b) ≡ false → a ≡ false
+or-first true b e = true-false e
+or-first false b e = refl
+
+pub or-second : (a b : Bool) → (a || b) ≡ false → b ≡ false
+or-second true b e = true-false e
+or-second false b e = e
+
+-- two choices of the same
+pub pick-either : {A : Type 0} (a b : Bool) (x y : A) → (a || b) ≡ true → pick a x (pick b x y) ≡ x
+unfolding pick
+pick-either true b x y e = refl
+pick-either false true x y e = refl
+pick-either false false x y e = true-false (sym e)

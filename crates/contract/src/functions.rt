@@ -2,6 +2,7 @@
 ghost use mathlib.Core.Path.{_≡_};
 ghost use mathlib.Core.Bool.{_&&_};
 ghost use Prim.Native.Nat.{_+_, _≤_, _<_};
+ghost use lib.ListN.{length};
 ghost use lib.Dec.{eqb};
 ghost use Rattle.contract.specs.Table.{wordAt, functionWord};
 ghost use Rattle.contract.specs.Rows.{functionRowOf};
@@ -22,6 +23,7 @@ use crate::word;
 
 // A precondition in the n nodes from `first` on: none, or a condition that counts them all.
 fn precondition_ok(table: &[u64], values: usize, parameters: usize, first: usize, n: usize) -> bool
+    requires { ⌜ length (now table) ≡ 20819 ⌝ }
     requires { ⌜ first + n ≤ 4096 ⌝ }
     ensures { λ r. ⌜ r ≡ preconditionOk (now (table .entry)) (scopeAt (now (table .entry)) values parameters) first n ⌝ }
 {
@@ -39,6 +41,7 @@ fn precondition_ok(table: &[u64], values: usize, parameters: usize, first: usize
 
 // The statements in the n nodes from `first` on.
 fn body_ok(table: &[u64], values: usize, parameters: usize, first: usize, n: usize) -> bool
+    requires { ⌜ length (now table) ≡ 20819 ⌝ }
     requires { ⌜ first + n ≤ 4096 ⌝ }
     ensures { λ r. ⌜ r ≡ bodyOk (now (table .entry)) (scopeAt (now (table .entry)) values parameters) first n ⌝ }
 {
@@ -51,6 +54,7 @@ fn body_ok(table: &[u64], values: usize, parameters: usize, first: usize, n: usi
 
 // An event whose guard starts at node `first`; its own node k stands after its guard and its handler.
 fn event_nodes_ok(table: &[u64], values: usize, parameters: usize, first: usize, k: usize) -> bool
+    requires { ⌜ length (now table) ≡ 20819 ⌝ }
     requires { ⌜ wordAt (now table) 8 ≤ 4096 ⌝ }
     ensures { λ r. ⌜ r ≡ eventNodesOk (now (table .entry)) (scopeAt (now (table .entry)) values parameters) first k ⌝ }
 {
@@ -87,6 +91,7 @@ fn event_nodes_ok(table: &[u64], values: usize, parameters: usize, first: usize,
 }
 
 fn event_ok(table: &[u64], values: usize, parameters: usize, first: usize, i: usize) -> bool
+    requires { ⌜ length (now table) ≡ 20819 ⌝ }
     requires { ⌜ wordAt (now table) 8 ≤ 4096 ⌝ }
     ensures { λ r. ⌜ r ≡ eventOk (now (table .entry)) (scopeAt (now (table .entry)) values parameters) first i ⌝ }
 {
@@ -102,6 +107,7 @@ fn event_ok(table: &[u64], values: usize, parameters: usize, first: usize, i: us
 
 // The events of function i, one after the other.
 fn events_ok(table: &[u64], i: usize, f: Function) -> bool
+    requires { ⌜ length (now table) ≡ 20819 ⌝ }
     requires { ⌜ f ≡ functionRowOf (now table) i ⌝ }
     requires { ⌜ (wordAt (now table) 8 ≤ 4096) × (f .first + f .precondition + f .body ≤ 4096) × (f .event ≤ 4096) × (f .events ≤ 64) ⌝ }
     ensures { λ r. ⌜ r ≡ allBelow (f .events) (eventPasses (now (table .entry)) i) ⌝ }
@@ -121,6 +127,7 @@ fn events_ok(table: &[u64], i: usize, f: Function) -> bool
 }
 
 fn function_nodes_ok(table: &[u64], i: usize, f: Function) -> bool
+    requires { ⌜ length (now table) ≡ 20819 ⌝ }
     requires { ⌜ f ≡ functionRowOf (now table) i ⌝ }
     requires { ⌜ (wordAt (now table) 8 ≤ 4096) × (f .first ≤ 4096) × (f .event ≤ 4096) ⌝ }
     ensures { λ r. ⌜ r ≡ functionNodesOk (now (table .entry)) (scopeAt (now (table .entry)) (functionWord (now (table .entry)) i 3) (functionWord (now (table .entry)) i 4)) i ⌝ }
@@ -148,6 +155,7 @@ fn function_nodes_ok(table: &[u64], i: usize, f: Function) -> bool
 
 // Function i, whose nodes start at `node` and whose events at `event`.
 fn function_ok(table: &[u64], i: usize, f: Function, node: usize, event: usize) -> bool
+    requires { ⌜ length (now table) ≡ 20819 ⌝ }
     requires { ⌜ f ≡ functionRowOf (now table) i ⌝ }
     requires { ⌜ (i < 64) × (wordAt (now table) 8 ≤ 4096) × (node ≤ 4096) × (event ≤ 4096) ⌝ }
     requires { ⌜ (node ≡ firstNode (now table) i) × (event ≡ firstEvent (now table) i) ⌝ }
@@ -193,6 +201,7 @@ fn function_end(table: &[u64], i: usize, f: Function) -> usize
 
 // The functions, their nodes and events in a row, and no more of either.
 pub(crate) fn functions_ok(table: &[u64]) -> bool
+    requires { ⌜ length (now table) ≡ 20819 ⌝ }
     requires { ⌜ (wordAt (now table) 6 ≤ 64) × (wordAt (now table) 8 ≤ 4096) ⌝ }
     ensures { λ r. ⌜ r ≡ (allBelow (wordAt (now (table .entry)) 6) (functionOk (now (table .entry))) && (eqb (firstNode (now (table .entry)) (wordAt (now (table .entry)) 6)) (wordAt (now (table .entry)) 8) && eqb (firstEvent (now (table .entry)) (wordAt (now (table .entry)) 6)) (wordAt (now (table .entry)) 7))) ⌝ }
 {

@@ -2,6 +2,7 @@
 ghost use mathlib.Core.Path.{_≡_};
 ghost use Prim.Native.Nat.{_+_, _*_, _≤_, _<_};
 ghost use mathlib.Core.Bool.{true};
+ghost use lib.ListN.{length};
 ghost use lib.Dec.{ltb};
 ghost use Rattle.contract.specs.Table.{wordAt, clauseWord};
 ghost use Rattle.contract.specs.Rows.{headOf, functionRowOf, eventRowOf, clauseRowOf, nodeOf};
@@ -329,6 +330,7 @@ fn clauses_ok(table: &[u64], count: usize) -> bool
 
 // The contract's name, and those of its parties, assets, fields and states; its strings.
 fn words_ok(table: &[u64]) -> bool
+    requires { ⌜ length (now table) ≡ 20819 ⌝ }
     requires { ⌜ headOk (now table) ≡ true ⌝ }
     ensures { λ r. ⌜ r ≡ namesOk (now (table .entry)) ⌝ }
 {

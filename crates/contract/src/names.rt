@@ -1,6 +1,7 @@
 // Names and strings of a table: their bytes, and rows of them.
 ghost use mathlib.Core.Path.{_≡_};
 ghost use Prim.Native.Nat.{_+_, _*_, _≤_};
+ghost use lib.ListN.{length};
 ghost use Rattle.tokens.specs.Classes.{within, isLetter, isNameByte, isStringByte};
 ghost use Rattle.contract.specs.Table.{wordAt};
 ghost use Rattle.contract.specs.Check.{allBelow, ranges, nameOk, stringOk};
@@ -28,6 +29,9 @@ fn is_letter(b: u64) -> bool
 fn is_name_byte(b: u64) -> bool
     ensures { λ r. ⌜ r ≡ isNameByte b ⌝ }
 {
+    if within(b, b'a', b'z') {
+        return true;
+    }
     is_letter(b) | (within(b, b'0', b'9') | (b == b'_' as u64))
 }
 
@@ -43,12 +47,13 @@ fn is_string_byte(b: u64) -> bool
 
 // The bytes of a name after the first.
 fn name_bytes_ok(table: &[u64], o: usize, n: usize) -> bool
+    requires { ⌜ length (now table) ≡ 20819 ⌝ }
     requires { ⌜ o + n ≤ 20819 ⌝ }
     ensures { λ r. ⌜ r ≡ allBelow n (λ j. isNameByte (wordAt (now (table .entry)) (o + j))) ⌝ }
 {
     let mut j: usize = 0;
     while j < n {
-        if is_name_byte(word(table, o + j)) {
+        if is_name_byte(table[o + j]) {
             j += 1;
         } else {
             return false;
@@ -58,12 +63,13 @@ fn name_bytes_ok(table: &[u64], o: usize, n: usize) -> bool
 }
 
 fn string_bytes_ok(table: &[u64], o: usize, n: usize) -> bool
+    requires { ⌜ length (now table) ≡ 20819 ⌝ }
     requires { ⌜ o + n ≤ 20819 ⌝ }
     ensures { λ r. ⌜ r ≡ allBelow n (λ j. isStringByte (wordAt (now (table .entry)) (o + j))) ⌝ }
 {
     let mut j: usize = 0;
     while j < n {
-        if is_string_byte(word(table, o + j)) {
+        if is_string_byte(table[o + j]) {
             j += 1;
         } else {
             return false;
@@ -74,6 +80,7 @@ fn string_bytes_ok(table: &[u64], o: usize, n: usize) -> bool
 
 // A name of 1 to 32 bytes, its length at o.
 pub(crate) fn name_ok(table: &[u64], o: usize) -> bool
+    requires { ⌜ length (now table) ≡ 20819 ⌝ }
     requires { ⌜ o + 33 ≤ 20819 ⌝ }
     ensures { λ r. ⌜ r ≡ nameOk (now (table .entry)) o ⌝ }
 {
@@ -88,6 +95,7 @@ pub(crate) fn name_ok(table: &[u64], o: usize) -> bool
 
 // A string of up to 64 bytes, its length at o.
 fn string_ok(table: &[u64], o: usize) -> bool
+    requires { ⌜ length (now table) ≡ 20819 ⌝ }
     requires { ⌜ o + 65 ≤ 20819 ⌝ }
     ensures { λ r. ⌜ r ≡ stringOk (now (table .entry)) o ⌝ }
 {
@@ -101,6 +109,7 @@ fn string_ok(table: &[u64], o: usize) -> bool
 
 // The names of a section of count rows.
 pub(crate) fn names_ok(table: &[u64], start: usize, count: usize) -> bool
+    requires { ⌜ length (now table) ≡ 20819 ⌝ }
     requires { ⌜ (start ≤ 2947) × (count ≤ 32) ⌝ }
     ensures { λ r. ⌜ r ≡ allBelow count (λ i. nameOk (now (table .entry)) (start + i * 33)) ⌝ }
 {
@@ -116,6 +125,7 @@ pub(crate) fn names_ok(table: &[u64], start: usize, count: usize) -> bool
 }
 
 pub(crate) fn strings_ok(table: &[u64], count: usize) -> bool
+    requires { ⌜ length (now table) ≡ 20819 ⌝ }
     requires { ⌜ count ≤ 32 ⌝ }
     ensures { λ r. ⌜ r ≡ allBelow count (λ i. stringOk (now (table .entry)) (2947 + i * 65)) ⌝ }
 {

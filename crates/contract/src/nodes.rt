@@ -1,16 +1,39 @@
 // Nodes of a table: each names what is there, and stands after its parts and counts them.
 ghost use mathlib.Core.Path.{_≡_};
+ghost use mathlib.Core.Bool.{_||_};
 ghost use mathlib.Core.List.{[], _∷_};
 ghost use Prim.Native.Nat.{suc, _+_, _≤_, _<_};
+ghost use lib.ListN.{length};
 ghost use Rattle.laws.specs.Choice.{pick};
 ghost use Rattle.contract.specs.Table.{kindAt};
-ghost use Rattle.contract.specs.Check.{isSort, statement, expression, holder, assetTarget, partStart, partsStart, wholeFrom, statementFrom, blockOk, conditionalStart, leafOk, wholeOk, isLeaf, nodeOk, nodesOk, scopeAt};
+ghost use Rattle.contract.specs.Check.{ranges, isSort, statement, expression, holder, assetTarget, partStart, partsStart, wholeFrom, statementFrom, blockOk, conditionalStart, leafOk, wholeOk, isLeaf, nodeOk, nodesOk, scopeAt};
+ghost use Rattle.contract.specs.Rows.{nodeOf};
 ghost use Rattle.contract.specs.Places.{sortOf, startOf, StartsBy};
+use crate::Contract;
 use crate::Function;
 use crate::Node;
 use crate::names::ranges;
-use crate::node_at;
 use crate::word;
+
+// Node k of a table of full length.
+pub(crate) fn node_in(table: &[u64], k: usize) -> Node
+    requires { ⌜ length (now table) ≡ 20819 ⌝ }
+    ensures { λ r. ⌜ r ≡ nodeOf (now (table .entry)) k ⌝ }
+{
+    if k < Contract::NODES {
+        let at = crate::NODES + k * 3;
+        return Node {
+            kind: table[at],
+            argument: table[at + 1],
+            size: table[at + 2] as usize,
+        };
+    }
+    Node {
+        kind: 0,
+        argument: 0,
+        size: 0,
+    }
+}
 
 // What a part of a node may be.
 pub(crate) enum Sort {
@@ -48,12 +71,13 @@ pub(crate) fn is_sort(sort: Sort, kind: u64) -> bool
 
 // Where the part starts that ends before node `end`: of this sort, and in the nodes from `from` on.
 fn part_start(table: &[u64], from: usize, sort: Sort, end: usize) -> Start
+    requires { ⌜ length (now table) ≡ 20819 ⌝ }
     ensures { λ r. ⌜ startOf r ≡ partStart (now (table .entry)) from (sortOf sort) end ⌝ }
 {
     if end <= from {
         return Start::Nowhere;
     }
-    let last = node_at(table, end - 1);
+    let last = node_in(table, end - 1);
     if is_sort(sort, last.kind) {
         if last.size <= end - from {
             return Start::At(end - last.size);
@@ -64,6 +88,7 @@ fn part_start(table: &[u64], from: usize, sort: Sort, end: usize) -> Start
 
 // The same of two parts.
 fn pair_start(table: &[u64], from: usize, last: Sort, first: Sort, end: usize) -> Start
+    requires { ⌜ length (now table) ≡ 20819 ⌝ }
     ensures { λ r. ⌜ startOf r ≡ partsStart (now (table .entry)) from (sortOf last ∷ sortOf first ∷ []) end ⌝ }
 {
     let start = part_start(table, from, last, end);
@@ -75,6 +100,7 @@ fn pair_start(table: &[u64], from: usize, last: Sort, first: Sort, end: usize) -
 
 // The parts of E -o h, t.
 fn move_start(table: &[u64], from: usize, end: usize) -> Start
+    requires { ⌜ length (now table) ≡ 20819 ⌝ }
     ensures { λ r. ⌜ startOf r ≡ partsStart (now (table .entry)) from (assetTarget ∷ holder ∷ expression ∷ []) end ⌝ }
 {
     let start = part_start(table, from, Sort::AssetTarget, end);
@@ -86,24 +112,26 @@ fn move_start(table: &[u64], from: usize, end: usize) -> Start
 
 // Whether an expression or a condition counts its parts, which start there, and itself.
 fn whole_from(table: &[u64], k: usize, start: Start) -> bool
+    requires { ⌜ length (now table) ≡ 20819 ⌝ }
     requires { ⌜ (k < 4096) × StartsBy (startOf start) k ⌝ }
     ensures { λ r. ⌜ r ≡ wholeFrom (now (table .entry)) k (startOf start) ⌝ }
 {
     let Start::At(p) = start else {
         return false;
     };
-    node_at(table, k).size == k + 1 - p
+    node_in(table, k).size == k + 1 - p
 }
 
 // Whether a statement counts its own parts, which start there, itself, and the statements before it in its block.
 fn statement_from(table: &[u64], from: usize, k: usize, start: Start) -> bool
+    requires { ⌜ length (now table) ≡ 20819 ⌝ }
     requires { ⌜ (k < 4096) × StartsBy (startOf start) k ⌝ }
     ensures { λ r. ⌜ r ≡ statementFrom (now (table .entry)) from k (startOf start) ⌝ }
 {
     let Start::At(p) = start else {
         return false;
     };
-    let size = node_at(table, k).size;
+    let size = node_in(table, k).size;
     let own = k + 1 - p;
     if size <= own {
         return size == own;
@@ -111,28 +139,30 @@ fn statement_from(table: &[u64], from: usize, k: usize, start: Start) -> bool
     if p <= from {
         return false;
     }
-    let before = node_at(table, p - 1);
+    let before = node_in(table, p - 1);
     is_sort(Sort::Statement, before.kind) & (size - own == before.size)
 }
 
 // Whether there is a block in the n nodes before `end`: none, or its last statement counts them all.
 pub(crate) fn block_ok(table: &[u64], end: usize, n: usize) -> bool
+    requires { ⌜ length (now table) ≡ 20819 ⌝ }
     requires { ⌜ n ≤ end ⌝ }
     ensures { λ r. ⌜ r ≡ blockOk (now (table .entry)) end n ⌝ }
 {
     if n == 0 {
         return true;
     }
-    let last = node_at(table, end - 1);
+    let last = node_in(table, end - 1);
     is_sort(Sort::Statement, last.kind) & (last.size == n)
 }
 
 // Where the condition of conditional k starts, which stands before its block.
 fn conditional_start(table: &[u64], from: usize, k: usize) -> Start
+    requires { ⌜ length (now table) ≡ 20819 ⌝ }
     requires { ⌜ from ≤ k ⌝ }
     ensures { λ r. ⌜ startOf r ≡ conditionalStart (now (table .entry)) from k ⌝ }
 {
-    let n = node_at(table, k).argument as usize;
+    let n = node_in(table, k).argument as usize;
     if n <= k - from {
         if block_ok(table, k, n) {
             return part_start(table, from, Sort::Condition, k - n);
@@ -157,16 +187,20 @@ fn leaf_ok(table: &[u64], values: usize, parameters: usize, kind: u64, n: u64) -
     }
 }
 
+// Whether the parts of nodes of a kind are two expressions.
+fn takes_expressions(kind: u64) -> bool
+    ensures { λ r. ⌜ r ≡ (ranges 8 kind 11 || ranges 14 kind 19) ⌝ }
+{
+    ranges(Node::PLUS, kind, Node::OVER) | ranges(Node::EQUAL, kind, Node::AT_LEAST)
+}
+
 // Whether a node with parts has them in the nodes from `from` on.
 fn whole_ok(table: &[u64], from: usize, k: usize, kind: u64) -> bool
+    requires { ⌜ length (now table) ≡ 20819 ⌝ }
     requires { ⌜ (from ≤ k) × (k < 4096) ⌝ }
     ensures { λ r. ⌜ r ≡ wholeOk (now (table .entry)) from k kind ⌝ }
 {
-    if ranges(Node::PLUS, kind, Node::OVER) {
-        let start = pair_start(table, from, Sort::Expression, Sort::Expression, k);
-        return whole_from(table, k, start);
-    }
-    if ranges(Node::EQUAL, kind, Node::AT_LEAST) {
+    if takes_expressions(kind) {
         let start = pair_start(table, from, Sort::Expression, Sort::Expression, k);
         return whole_from(table, k, start);
     }
@@ -203,10 +237,11 @@ fn is_leaf(kind: u64) -> bool
 }
 
 fn node_ok(table: &[u64], values: usize, parameters: usize, from: usize, k: usize) -> bool
+    requires { ⌜ length (now table) ≡ 20819 ⌝ }
     requires { ⌜ (from ≤ k) × (k < 4096) ⌝ }
     ensures { λ r. ⌜ r ≡ nodeOk (now (table .entry)) (scopeAt (now (table .entry)) values parameters) from k ⌝ }
 {
-    let node = node_at(table, k);
+    let node = node_in(table, k);
     if is_leaf(node.kind) {
         leaf_ok(table, values, parameters, node.kind, node.argument) & (node.size == 1)
     } else {
@@ -216,10 +251,11 @@ fn node_ok(table: &[u64], values: usize, parameters: usize, from: usize, k: usiz
 
 // One more than count where node k is a statement.
 fn counted(table: &[u64], k: usize, count: usize) -> usize
+    requires { ⌜ length (now table) ≡ 20819 ⌝ }
     requires { ⌜ count < 4096 ⌝ }
     ensures { λ r. ⌜ r ≡ pick (isSort statement (kindAt (now (table .entry)) k)) (suc count) count ⌝ }
 {
-    if is_sort(Sort::Statement, node_at(table, k).kind) {
+    if is_sort(Sort::Statement, node_in(table, k).kind) {
         count + 1
     } else {
         count
@@ -234,6 +270,7 @@ pub(crate) fn nodes_ok(
     from: usize,
     n: usize,
 ) -> bool
+    requires { ⌜ length (now table) ≡ 20819 ⌝ }
     requires { ⌜ from + n ≤ 4096 ⌝ }
     ensures { λ r. ⌜ r ≡ nodesOk (now (table .entry)) (scopeAt (now (table .entry)) values parameters) from n ⌝ }
 {

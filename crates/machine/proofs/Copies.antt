@@ -1,10 +1,10 @@
 -- Lists that a loop copies, and the holdings that statements begin with. Assumes nothing.
-use mathlib.Core.Path.{_≡_, refl, sym, ap, _∙_}
+use mathlib.Core.Path.{_≡_, refl, sym, ap, subst, _∙_}
 use mathlib.Core.List.{List, [], _∷_, _++_}
 use Prim.Native.Nat.{ℕ, zero, suc, _+_, _-_, _<_, _≤_}
 use native.Mathlib.Numerals.{add-one}
 use native.Mathlib.Omega.{arith}
-use lib.ListN.{length, getD, take, set, length-append, length-set, List·getD-append, List·getD-eq-default}
+use lib.ListN.{length, getD, take, set, length-append, length-set, List·getD-append}
 use lib.Seq.{take-all, take-suc, take-suc-set, getD-take, getD-append-add, length-take-le}
 use lib.IntN.{ℤ, pos, natAbs}
 use Rattle.state.specs.States.{repeated}
@@ -84,7 +84,15 @@ module _ (held : List ℕ) (zs : List ℤ) (full : length held ≡ 16) where
       ∙ getD-take 4 (amounts zs ++ repeated 4 0) (i - 16) 0 j
       ∙ with-zeros (amounts zs) 4 (i - 16))
 
-  pub no-holding : (i : ℕ) → 20 ≤ i → 0 ≡ getD (holdingsOf held zs) i 0
-  no-holding i h =
-      let l : length (holdingsOf held zs) ≤ i = omega (arith, holdings-length) in
-      sym (List·getD-eq-default (holdingsOf held zs) 0 l)
+  -- the assets' copied, and the four amounts set after them
+  pub holdings-made : {out : List ℕ} {i : ℕ} (a b c d : ℕ) → Copied (holdingsOf held zs) out 20 i → i ≡ 16 → a ≡ getD (amounts zs) 0 0
+      → b ≡ getD (amounts zs) 1 0 → c ≡ getD (amounts zs) 2 0 → d ≡ getD (amounts zs) 3 0
+      → set (set (set (set out 16 a) 17 b) 18 c) 19 d ≡ holdingsOf held zs
+  holdings-made {out} a b c d m e ea eb ec ed =
+      let k : 20 ≤ length (holdingsOf held zs) = omega (arith, holdings-length) in
+      let m0 : Copied (holdingsOf held zs) out 20 16 = subst (Copied (holdingsOf held zs) out 20) e m in
+      let m1 = copied-more a m0 (omega arith) k (ea ∙ parameter-holding 16 (omega arith) (omega arith)) in
+      let m2 = copied-more b m1 (omega arith) k (eb ∙ parameter-holding 17 (omega arith) (omega arith)) in
+      let m3 = copied-more c m2 (omega arith) k (ec ∙ parameter-holding 18 (omega arith) (omega arith)) in
+      let m4 = copied-more d m3 (omega arith) k (ed ∙ parameter-holding 19 (omega arith) (omega arith)) in
+      copied-all m4 refl ∙ take-all 20 (holdingsOf held zs) (omega (arith, holdings-length))

@@ -144,7 +144,13 @@ fn tick_on(table: &[u64], s: State) -> Stepped
     }
     let mut next = state::lapse(s);
     next.clock = clock + 1;
-    answer(Outcome::Accepted(Rule::Tick), next)
+    let labels = blank_labels();
+    Stepped {
+        outcome: Outcome::Accepted(Rule::Tick),
+        state: next,
+        labels,
+        count: 0,
+    }
 }
 
 // ---- Statements on a state.
@@ -163,28 +169,20 @@ fn amount_of(assets: &[i64], j: usize) -> u64
     numbers::magnitude(integer_at(assets, j))
 }
 
-// Holding i: an asset's, or an asset parameter's.
-fn holding_at(held: [u64; 16], assets: &[i64], i: usize) -> u64
-    ensures { λ r. ⌜ r ≡ getD (holdingsOf held (now (assets .entry))) i 0 ⌝ }
-{
-    if i < Contract::ASSETS {
-        return held[i];
-    }
-    if 20 <= i {
-        return 0;
-    }
-    amount_of(assets, i - Contract::ASSETS)
-}
-
+// The amounts of the assets, then of the four asset parameters.
 fn holdings_of(held: [u64; 16], assets: &[i64]) -> [u64; 20]
     ensures { λ r. ⌜ r ≡ holdingsOf held (now (assets .entry)) ⌝ }
 {
     let mut out = [0u64; 20];
     let mut i: usize = 0;
-    while i < 20 {
-        out[i] = holding_at(held, assets, i);
+    while i < Contract::ASSETS {
+        out[i] = held[i];
         i += 1;
     }
+    out[16] = amount_of(assets, 0);
+    out[17] = amount_of(assets, 1);
+    out[18] = amount_of(assets, 2);
+    out[19] = amount_of(assets, 3);
     out
 }
 

@@ -28,8 +28,10 @@ use Rattle.contract.specs.Decode.{holderOf, holderAt, expressionAt, valueMoveAt
 use Rattle.evaluation.specs.Memory.{placeOf}
 use Rattle.evaluation.specs.Meaning.{valueOf, refusalOf}
 use Rattle.statements.specs.declared.Work.{Work}
+use Rattle.statements.specs.declared.Effect.{Effect}
+use Rattle.statements.specs.declared.Effect.the-variants.{Stop, Fill, Send, Move, Pay}
 use Rattle.statements.specs.Running.{memoryIn, stopped, stored, sent, place, moved, paid, withValue, withAmount, performed}
-use Rattle.statements.specs.Parts.{endBefore, actionAt, transferred}
+use Rattle.statements.specs.Parts.{endBefore, actionAt, applied, valueEffect, amountEffect, effectAt}
 
 -- ---- the amount
 
@@ -53,53 +55,73 @@ below-zero : (z : ℤ) (w : Work) (f : ℕ → Work) → ltZ z (pos 0) ≡ true 
 below-zero (pos n) w f e = absurd (omega (arith, lt-true (pos n) (pos 0) e))
 below-zero (negsuc n) w f e = refl
 
-module _ (t : List ℕ) (k : ℕ) (w : Work) where
-  -- where it goes
+module _ (w : Work) (f : ℕ → Work) (v : Value) where
+  pub text-stops : (n : ℕ) → v ≡ Text n → stopped w 31 ≡ withAmount w (Is v) f
+  text-stops n e = sym (ap (λ (x : Value). withAmount w (Is x) f) e)
+
+  pub negative-stops : (z y : ℤ) → v ≡ Integer z → y ≡ z → ltZ y (pos 0) ≡ true → stopped w 34 ≡ withAmount w (Is v) f
+  negative-stops z y e q l =
+      below-zero y w f l ∙ (λ i. withAmount w (Is (Integer (q i))) f) ∙ sym (ap (λ (x : Value). withAmount w (Is x) f) e)
+
+  pub natural-goes : (n : ℕ) (r : Work) → v ≡ Integer (pos n) → r ≡ f n → r ≡ withAmount w (Is v) f
+  natural-goes n r e h = h ∙ sym (ap (λ (x : Value). withAmount w (Is x) f) e)
+
+-- ---- effects by the nodes
+
+module _ (t : List ℕ) (k : ℕ) (a : Answer) where
+  pub value-refused : (n q : ℕ) → a ≡ Refused n → q ≡ refusalOf a → Stop q ≡ valueEffect t k a
+  unfolding valueEffect
+  value-refused n q e eq = ap Stop (eq ∙ ap refusalOf e) ∙ sym (ap (valueEffect t k) e)
+
+  pub amount-refused : (n q : ℕ) → a ≡ Refused n → q ≡ refusalOf a → Stop q ≡ amountEffect t k a
+  unfolding amountEffect
+  amount-refused n q e eq = ap Stop (eq ∙ ap refusalOf e) ∙ sym (ap (amountEffect t k) e)
+
+  module _ (x : Value) (e : a ≡ Is x) (target : Node) (et : target ≡ nodeOf t (k - 1)) where
+    pub value-sent : target .kind ≡ 23 → Send (target .argument) x ≡ valueEffect t k a
+    unfolding valueEffect
+    value-sent q =
+        (λ i. Send (et i .argument) x)
+        ∙ sym (pick-true _ _ _ (eq-eqb (kindAt t (k - 1)) 23 (sym (λ i. et i .kind) ∙ q)))
+        ∙ sym (ap (valueEffect t k) e)
+
+    pub value-stored : (target .kind ≡ 23 → ⊥) → Fill (target .argument) x ≡ valueEffect t k a
+    unfolding valueEffect
+    value-stored q =
+        (λ i. Fill (et i .argument) x)
+        ∙ sym (pick-false _ _ _ (ne-eqb (kindAt t (k - 1)) 23 (λ p. q ((λ i. et i .kind) ∙ p))))
+        ∙ sym (ap (valueEffect t k) e)
+
+    module _ (source : Node) (es : source ≡ nodeOf t (k - 2)) (i : ℕ) (ei : i ≡ place (holderOf (source .kind) (source .argument))) where
+      from : i ≡ place (holderAt t (k - 2))
+      from = ei ∙ (λ y. place (holderOf (es y .kind) (es y .argument)))
+
+      pub amount-paid : target .kind ≡ 23 → Pay i (target .argument) x ≡ amountEffect t k a
+      unfolding amountEffect
+      amount-paid q =
+          (λ y. Pay (from y) (et y .argument) x)
+          ∙ sym (pick-true _ _ _ (eq-eqb (kindAt t (k - 1)) 23 (sym (λ y. et y .kind) ∙ q)))
+          ∙ sym (ap (amountEffect t k) e)
+
+      pub amount-moved : (j : ℕ) → (target .kind ≡ 23 → ⊥) → j ≡ place (holderOf (target .kind) (target .argument)) → Move i j x ≡ amountEffect t k a
+      unfolding amountEffect
+      amount-moved j q ej =
+          (λ y. Move (from y) ((ej ∙ (λ z. place (holderOf (et z .kind) (et z .argument)))) y) x)
+          ∙ sym (pick-false _ _ _ (ne-eqb (kindAt t (k - 1)) 23 (λ p. q ((λ y. et y .kind) ∙ p))))
+          ∙ sym (ap (amountEffect t k) e)
+
+-- ---- statements
+
+module _ (v : List ℤ) (c : ℕ) (w : Work) (t : List ℕ) (k : ℕ) where
+  -- where a value goes, and an amount
+  abbrev given : Value → Work
+  given x = pick (eqb (kindAt t (k - 1)) 23) (sent w (argumentAt t (k - 1)) x) (stored w (argumentAt t (k - 1)) x)
+
   abbrev passed : ℕ → Work
   passed n =
       pick (eqb (kindAt t (k - 1)) 23)
       (paid w (place (holderAt t (k - 2))) (argumentAt t (k - 1)) n)
       (moved w (place (holderAt t (k - 2))) (place (holderAt t (k - 1))) n)
-
-  module _ (v : Value) where
-    pub not-integer : (n : ℕ) → v ≡ Text n → stopped w 31 ≡ transferred t k w (Is v)
-    unfolding transferred
-    not-integer n e = sym (ap (λ (x : Value). withAmount w (Is x) passed) e)
-
-    pub not-natural : (z y : ℤ) → v ≡ Integer z → y ≡ z → ltZ y (pos 0) ≡ true → stopped w 34 ≡ transferred t k w (Is v)
-    unfolding transferred
-    not-natural z y e q l =
-        below-zero y w passed l ∙ (λ i. withAmount w (Is (Integer (q i))) passed) ∙ sym (ap (λ (x : Value). withAmount w (Is x) passed) e)
-
-    is-passed : (n : ℕ) → v ≡ Integer (pos n) → passed n ≡ transferred t k w (Is v)
-    unfolding transferred
-    is-passed n e = sym (ap (λ (x : Value). withAmount w (Is x) passed) e)
-
-    module _ (n : ℕ) (e : v ≡ Integer (pos n)) (source target : Node) (es : source ≡ nodeOf t (k - 2)) (et : target ≡ nodeOf t (k - 1))
-        (i : ℕ) (ei : i ≡ place (holderOf (source .kind) (source .argument))) (r : Work) where
-      pub to-party : target .kind ≡ 23 → r ≡ paid w i (target .argument) n → r ≡ transferred t k w (Is v)
-      to-party q h =
-          h
-          ∙ (λ x. paid w ((ei ∙ (λ y. place (holderOf (es y .kind) (es y .argument)))) x) (et x .argument) n)
-          ∙ sym (pick-true _ _ _ (eq-eqb (kindAt t (k - 1)) 23 (sym (λ x. et x .kind) ∙ q)))
-          ∙ is-passed n e
-
-      pub to-holder : (j : ℕ) → (target .kind ≡ 23 → ⊥) → j ≡ place (holderOf (target .kind) (target .argument)) → r ≡ moved w i j n
-          → r ≡ transferred t k w (Is v)
-      to-holder j q ej h =
-          h
-          ∙ (λ x.
-          moved w ((ei ∙ (λ y. place (holderOf (es y .kind) (es y .argument)))) x)
-          ((ej ∙ (λ y. place (holderOf (et y .kind) (et y .argument)))) x) n)
-          ∙ sym (pick-false _ _ _ (ne-eqb (kindAt t (k - 1)) 23 (λ p. q ((λ x. et x .kind) ∙ p))))
-          ∙ is-passed n e
-
--- ---- statements
-
-module _ (v : List ℤ) (c : ℕ) (w : Work) (t : List ℕ) (k : ℕ) where
-  -- where a value goes
-  abbrev given : Value → Work
-  given x = pick (eqb (kindAt t (k - 1)) 23) (sent w (argumentAt t (k - 1)) x) (stored w (argumentAt t (k - 1)) x)
 
   value-moved : performed v c w (valueMoveAt t k) ≡ withValue w (valueOf (memoryIn v c w) (expressionAt t (k - 2))) given
   unfolding valueMoveAt performed pick
@@ -111,8 +133,8 @@ module _ (v : List ℤ) (c : ℕ) (w : Work) (t : List ℕ) (k : ℕ) where
       go true = refl
       go false = refl
 
-  pub asset-moved : performed v c w (assetMoveAt t k) ≡ transferred t k w (valueOf (memoryIn v c w) (expressionAt t (k - 3)))
-  unfolding assetMoveAt transferred performed pick
+  asset-moved : performed v c w (assetMoveAt t k) ≡ withAmount w (valueOf (memoryIn v c w) (expressionAt t (k - 3))) passed
+  unfolding assetMoveAt performed pick
   asset-moved = go (eqb (kindAt t (k - 1)) 23)
     where
       go : (b : Bool)
@@ -125,8 +147,8 @@ module _ (v : List ℤ) (c : ℕ) (w : Work) (t : List ℕ) (k : ℕ) where
       go true = refl
       go false = refl
 
-  pub whole-moved : performed v c w (wholeMoveAt t k) ≡ transferred t k w (valueOf (memoryIn v c w) (held (holderAt t (k - 2))))
-  unfolding wholeMoveAt transferred performed pick
+  whole-moved : performed v c w (wholeMoveAt t k) ≡ withAmount w (valueOf (memoryIn v c w) (held (holderAt t (k - 2)))) passed
+  unfolding wholeMoveAt performed pick
   whole-moved = go (eqb (kindAt t (k - 1)) 23)
     where
       go : (b : Bool)
@@ -137,41 +159,44 @@ module _ (v : List ℤ) (c : ℕ) (w : Work) (t : List ℕ) (k : ℕ) where
       go true = refl
       go false = refl
 
-  module _ (a : Answer) (m : ℕ) (em : m ≡ k - 2) (ea : a ≡ valueOf (memoryIn v c w) (expressionAt t m)) where
-    worked : withValue w a given ≡ performed v c w (valueMoveAt t k)
-    worked =
-        ap (λ (x : Answer). withValue w x given) (ea ∙ ap (λ (j : ℕ). valueOf (memoryIn v c w) (expressionAt t j)) em) ∙ sym value-moved
+  value-applied : (a : Answer) → applied w (valueEffect t k a) ≡ withValue w a given
+  unfolding valueEffect pick
+  value-applied (Refused n) = refl
+  value-applied (Is x) = go (eqb (kindAt t (k - 1)) 23)
+    where
+      go : (b : Bool)
+          → applied w (pick b (Send (argumentAt t (k - 1)) x) (Fill (argumentAt t (k - 1)) x))
+          ≡ pick b (sent w (argumentAt t (k - 1)) x) (stored w (argumentAt t (k - 1)) x)
+      go true = refl
+      go false = refl
 
-    pub value-refused : (n q : ℕ) (r : Work) → a ≡ Refused n → q ≡ refusalOf a → r ≡ stopped w q → r ≡ performed v c w (valueMoveAt t k)
-    value-refused n q r e eq h =
-        h ∙ ap (stopped w) (eq ∙ ap refusalOf e) ∙ sym (ap (λ (x : Answer). withValue w x given) e) ∙ worked
+  amount-applied : (a : Answer) → applied w (amountEffect t k a) ≡ withAmount w a passed
+  unfolding amountEffect pick
+  amount-applied (Refused n) = refl
+  amount-applied (Is x) = go (eqb (kindAt t (k - 1)) 23)
+    where
+      go : (b : Bool)
+          → applied w (pick b (Pay (place (holderAt t (k - 2))) (argumentAt t (k - 1)) x) (Move (place (holderAt t (k - 2))) (place (holderAt t (k - 1))) x))
+          ≡ withAmount w (Is x) λ n.
+          pick b (paid w (place (holderAt t (k - 2))) (argumentAt t (k - 1)) n)
+          (moved w (place (holderAt t (k - 2))) (place (holderAt t (k - 1))) n)
+      go true = refl
+      go false = refl
 
-    module _ (x : Value) (e : a ≡ Is x) (target : Node) (et : target ≡ nodeOf t (k - 1)) (r : Work) where
-      pub value-sent : target .kind ≡ 23 → r ≡ sent w (target .argument) x → r ≡ performed v c w (valueMoveAt t k)
-      value-sent q h =
-          h
-          ∙ (λ i. sent w (et i .argument) x)
-          ∙ sym (pick-true _ _ _ (eq-eqb (kindAt t (k - 1)) 23 (sym (λ i. et i .kind) ∙ q)))
-          ∙ sym (ap (λ (y : Answer). withValue w y given) e)
-          ∙ worked
-
-      pub value-stored : (target .kind ≡ 23 → ⊥) → r ≡ stored w (target .argument) x → r ≡ performed v c w (valueMoveAt t k)
-      value-stored q h =
-          h
-          ∙ (λ i. stored w (et i .argument) x)
-          ∙ sym (pick-false _ _ _ (ne-eqb (kindAt t (k - 1)) 23 (λ p. q ((λ i. et i .kind) ∙ p))))
-          ∙ sym (ap (λ (y : Answer). withValue w y given) e)
-          ∙ worked
-
--- a refused amount, and one that was worked out
-module _ (t : List ℕ) (k : ℕ) (w : Work) (a b : Answer) (ea : a ≡ b) (r : Work) where
-  pub amount-refused : (n q : ℕ) → a ≡ Refused n → q ≡ refusalOf a → r ≡ stopped w q → r ≡ transferred t k w b
-  unfolding transferred
-  amount-refused n q e eq h =
-      h ∙ ap (stopped w) (eq ∙ ap refusalOf e) ∙ sym (ap (λ (x : Answer). withAmount w x (passed t k w)) e) ∙ ap (transferred t k w) ea
-
-  pub amount-given : (x : Value) → a ≡ Is x → r ≡ transferred t k w (Is x) → r ≡ transferred t k w b
-  amount-given x e h = h ∙ ap (transferred t k w) (sym e ∙ ea)
+  -- what a statement does is its effect
+  pub effect-applied : applied w (effectAt v c w t k) ≡ performed v c w (actionAt t k)
+  unfolding effectAt actionAt pick
+  effect-applied = go (eqb (kindAt t k) 24) (eqb (kindAt t k) 25)
+    where
+      go : (a b : Bool)
+          → applied w
+          (pick a (valueEffect t k (valueOf (memoryIn v c w) (expressionAt t (k - 2))))
+          (pick b (amountEffect t k (valueOf (memoryIn v c w) (expressionAt t (k - 3))))
+          (amountEffect t k (valueOf (memoryIn v c w) (held (holderAt t (k - 2)))))))
+          ≡ performed v c w (pick a (valueMoveAt t k) (pick b (assetMoveAt t k) (wholeMoveAt t k)))
+      go true b = value-applied (valueOf (memoryIn v c w) (expressionAt t (k - 2))) ∙ sym value-moved
+      go false true = amount-applied (valueOf (memoryIn v c w) (expressionAt t (k - 3))) ∙ sym asset-moved
+      go false false = amount-applied (valueOf (memoryIn v c w) (held (holderAt t (k - 2)))) ∙ sym whole-moved
 
 -- all that a holder holds: past the last place there is nothing
 min-place : (l : List ℕ) (p : ℕ) → length l ≡ 20 → getD l (min p 20) 0 ≡ getD l p 0
@@ -203,19 +228,32 @@ module _ (t : List ℕ) (k : ℕ) (node : Node) (en : node ≡ nodeOf t k) where
   other-kind : (n : ℕ) → (node .kind ≡ n → ⊥) → kindAt t k ≡ n → ⊥
   other-kind n q p = q ((λ x. en x .kind) ∙ p)
 
-  pub action-value : node .kind ≡ 24 → valueMoveAt t k ≡ actionAt t k
-  unfolding actionAt
-  action-value e = sym (pick-true _ _ _ (eq-eqb (kindAt t k) 24 (same-kind 24 e)))
+  module _ (v : List ℤ) (c : ℕ) (w : Work) (a : Answer) (r : Effect) where
+    pub effect-value : (m : ℕ) → m ≡ k - 2 → a ≡ valueOf (memoryIn v c w) (expressionAt t m) → node .kind ≡ 24 → r ≡ valueEffect t k a
+        → r ≡ effectAt v c w t k
+    unfolding effectAt
+    effect-value m em ea e h =
+        h
+        ∙ ap (valueEffect t k) (ea ∙ ap (λ (j : ℕ). valueOf (memoryIn v c w) (expressionAt t j)) em)
+        ∙ sym (pick-true _ _ _ (eq-eqb (kindAt t k) 24 (same-kind 24 e)))
 
-  pub action-asset : (node .kind ≡ 24 → ⊥) → node .kind ≡ 25 → assetMoveAt t k ≡ actionAt t k
-  unfolding actionAt
-  action-asset a e =
-      sym (pick-true _ _ _ (eq-eqb (kindAt t k) 25 (same-kind 25 e))) ∙ sym (pick-false _ _ _ (ne-eqb (kindAt t k) 24 (other-kind 24 a)))
+    pub effect-asset : (m : ℕ) → m ≡ k - 3 → a ≡ valueOf (memoryIn v c w) (expressionAt t m) → (node .kind ≡ 24 → ⊥) → node .kind ≡ 25
+        → r ≡ amountEffect t k a → r ≡ effectAt v c w t k
+    unfolding effectAt
+    effect-asset m em ea n e h =
+        h
+        ∙ ap (amountEffect t k) (ea ∙ ap (λ (j : ℕ). valueOf (memoryIn v c w) (expressionAt t j)) em)
+        ∙ sym (pick-true _ _ _ (eq-eqb (kindAt t k) 25 (same-kind 25 e)))
+        ∙ sym (pick-false _ _ _ (ne-eqb (kindAt t k) 24 (other-kind 24 n)))
 
-  pub action-whole : (node .kind ≡ 24 → ⊥) → (node .kind ≡ 25 → ⊥) → wholeMoveAt t k ≡ actionAt t k
-  unfolding actionAt
-  action-whole a b =
-      sym (pick-false _ _ _ (ne-eqb (kindAt t k) 25 (other-kind 25 b))) ∙ sym (pick-false _ _ _ (ne-eqb (kindAt t k) 24 (other-kind 24 a)))
+    pub effect-whole : a ≡ valueOf (memoryIn v c w) (held (holderAt t (k - 2))) → (node .kind ≡ 24 → ⊥) → (node .kind ≡ 25 → ⊥)
+        → r ≡ amountEffect t k a → r ≡ effectAt v c w t k
+    unfolding effectAt
+    effect-whole ea n m h =
+        h
+        ∙ ap (amountEffect t k) ea
+        ∙ sym (pick-false _ _ _ (ne-eqb (kindAt t k) 25 (other-kind 25 m)))
+        ∙ sym (pick-false _ _ _ (ne-eqb (kindAt t k) 24 (other-kind 24 n)))
 
   -- where the block before it ends
   module _ (r m n s : ℕ) (es : s ≡ sizeAt t n) (er : r ≡ m - s) where

@@ -6,8 +6,8 @@ ghost use Rattle.contract.specs.Limits.{top};
 ghost use Rattle.contract.specs.Table.{sizeAt};
 ghost use Rattle.contract.specs.Decode.{holderOf, expressionAt, conditionAt, valueMoveAt, assetMoveAt, wholeMoveAt, blockBetween};
 ghost use Rattle.evaluation.specs.Meaning.{valueOf, truthOf};
-ghost use Rattle.statements.specs.Running.{memoryIn, stopped, filled, stored, labelled, sent, place, moved, paid, performed, ran};
-ghost use Rattle.statements.specs.Parts.{truthRefusal, endBefore, actionAt, transferred};
+ghost use Rattle.statements.specs.Running.{memoryIn, stopped, filled, stored, labelled, sent, place, moved, paid, withAmount, performed, ran};
+ghost use Rattle.statements.specs.Parts.{truthRefusal, endBefore, actionAt, applied, valueEffect, amountEffect, effectAt};
 use contract::Node;
 use numbers::Answer;
 use numbers::Truth;
@@ -38,6 +38,16 @@ pub struct Work {
     pub labels: [Label; 64],
     pub count: usize,
     pub refusal: u8,
+}
+
+// What a statement does: a refusal; a field gets a value; a value is sent to a party; a value goes as an amount from a place to a
+// place, or to a party.
+enum Effect {
+    Stop(u8),
+    Fill(usize, Value),
+    Send(usize, Value),
+    Move(usize, usize, Value),
+    Pay(usize, usize, Value),
 }
 
 // The greatest amount.
@@ -203,9 +213,9 @@ fn pay_amount(work: Work, i: usize, party: usize, n: u64) -> Work
     add_label(next, Label::ASSET, party, n as i64)
 }
 
-// A value goes as an amount where the two nodes before node k say.
-fn transfer(table: &[u64], work: Work, k: usize, value: Value) -> Work
-    ensures { λ r. ⌜ r ≡ transferred (now (table .entry)) k work (Answer.Is value) ⌝ }
+// n goes from place i to place j, n being a value.
+fn move_value(work: Work, i: usize, j: usize, value: Value) -> Work
+    ensures { λ r. ⌜ r ≡ withAmount work (Answer.Is value) (moved work i j) ⌝ }
 {
     let Value::Integer(z) = value else {
         return stop(work, questions::OPERAND_KIND);
@@ -213,15 +223,33 @@ fn transfer(table: &[u64], work: Work, k: usize, value: Value) -> Work
     if z < 0 {
         return stop(work, questions::AMOUNT_SIGN);
     }
-    let n = numbers::magnitude(z);
-    let source = contract::node_at(table, minus(k, 2));
-    let target = contract::node_at(table, minus(k, 1));
-    let i = place_of(source.kind, source.argument);
-    if target.kind == Node::PARTY {
-        return pay_amount(work, i, target.argument as usize, n);
+    move_amount(work, i, j, numbers::magnitude(z))
+}
+
+// n is paid from place i to a party, n being a value.
+fn pay_value(work: Work, i: usize, party: usize, value: Value) -> Work
+    ensures { λ r. ⌜ r ≡ withAmount work (Answer.Is value) (paid work i party) ⌝ }
+{
+    let Value::Integer(z) = value else {
+        return stop(work, questions::OPERAND_KIND);
+    };
+    if z < 0 {
+        return stop(work, questions::AMOUNT_SIGN);
     }
-    let j = place_of(target.kind, target.argument);
-    move_amount(work, i, j, n)
+    pay_amount(work, i, party, numbers::magnitude(z))
+}
+
+// The work after an effect.
+fn apply(work: Work, effect: Effect) -> Work
+    ensures { λ r. ⌜ r ≡ applied work effect ⌝ }
+{
+    match effect {
+        Effect::Stop(question) => stop(work, question),
+        Effect::Fill(x, value) => store(work, x, value),
+        Effect::Send(party, value) => send(work, party, value),
+        Effect::Move(i, j, value) => move_value(work, i, j, value),
+        Effect::Pay(i, party, value) => pay_value(work, i, party, value),
+    }
 }
 
 // The expression at node k.
@@ -246,59 +274,64 @@ fn condition(table: &[u64], work: Work, values: &[i64], clock: u64, k: usize) ->
     evaluation::truth(table, &kinds, &numbers, &texts, &holdings, values, clock, k)
 }
 
-// E -> t at node k.
-fn value_move(table: &[u64], work: Work, values: &[i64], clock: u64, k: usize) -> Work
-    ensures { λ r. ⌜ r ≡ performed (now (values .entry)) clock work (valueMoveAt (now (table .entry)) k) ⌝ }
+// E -> t at node k, with the answer of E.
+fn value_effect(table: &[u64], k: usize, answer: Answer) -> Effect
+    ensures { λ r. ⌜ r ≡ valueEffect (now (table .entry)) k answer ⌝ }
 {
-    let answer = expression(table, work, values, clock, minus(k, 2));
     let Answer::Is(value) = answer else {
-        return stop(work, evaluation::refusal(answer));
+        return Effect::Stop(evaluation::refusal(answer));
     };
     let target = contract::node_at(table, minus(k, 1));
     let i = target.argument as usize;
     if target.kind == Node::PARTY {
-        return send(work, i, value);
+        return Effect::Send(i, value);
     }
-    store(work, i, value)
+    Effect::Fill(i, value)
 }
 
-// E -o h, t at node k.
-fn asset_move(table: &[u64], work: Work, values: &[i64], clock: u64, k: usize) -> Work
-    ensures { λ r. ⌜ r ≡ performed (now (values .entry)) clock work (assetMoveAt (now (table .entry)) k) ⌝ }
+// A move at node k, with the answer of its amount: it goes where the two nodes before node k say.
+fn amount_effect(table: &[u64], k: usize, answer: Answer) -> Effect
+    ensures { λ r. ⌜ r ≡ amountEffect (now (table .entry)) k answer ⌝ }
 {
-    let answer = expression(table, work, values, clock, minus(k, 3));
     let Answer::Is(value) = answer else {
-        return stop(work, evaluation::refusal(answer));
+        return Effect::Stop(evaluation::refusal(answer));
     };
-    transfer(table, work, k, value)
+    let source = contract::node_at(table, minus(k, 2));
+    let target = contract::node_at(table, minus(k, 1));
+    let i = place_of(source.kind, source.argument);
+    if target.kind == Node::PARTY {
+        return Effect::Pay(i, target.argument as usize, value);
+    }
+    let j = place_of(target.kind, target.argument);
+    Effect::Move(i, j, value)
 }
 
-// h -o t at node k: all that h holds.
-fn whole_move(table: &[u64], work: Work, values: &[i64], clock: u64, k: usize) -> Work
-    ensures { λ r. ⌜ r ≡ performed (now (values .entry)) clock work (wholeMoveAt (now (table .entry)) k) ⌝ }
+// The effect of the statement at node k, not a conditional.
+fn effect_of(table: &[u64], work: Work, values: &[i64], clock: u64, k: usize) -> Effect
+    ensures { λ r. ⌜ r ≡ effectAt (now (values .entry)) clock work (now (table .entry)) k ⌝ }
 {
+    let node = contract::node_at(table, k);
+    if node.kind == Node::VALUE_MOVE {
+        let answer = expression(table, work, values, clock, minus(k, 2));
+        return value_effect(table, k, answer);
+    }
+    if node.kind == Node::ASSET_MOVE {
+        let answer = expression(table, work, values, clock, minus(k, 3));
+        return amount_effect(table, k, answer);
+    }
     let source = contract::node_at(table, minus(k, 2));
     let i = place_of(source.kind, source.argument);
     let holdings = work.holdings;
     let answer = numbers::natural(amount(holdings, i));
-    let Answer::Is(value) = answer else {
-        return stop(work, evaluation::refusal(answer));
-    };
-    transfer(table, work, k, value)
+    amount_effect(table, k, answer)
 }
 
 // The statement at node k, not a conditional.
 fn act(table: &[u64], work: Work, values: &[i64], clock: u64, k: usize) -> Work
     ensures { λ r. ⌜ r ≡ performed (now (values .entry)) clock work (actionAt (now (table .entry)) k) ⌝ }
 {
-    let node = contract::node_at(table, k);
-    if node.kind == Node::VALUE_MOVE {
-        return value_move(table, work, values, clock, k);
-    }
-    if node.kind == Node::ASSET_MOVE {
-        return asset_move(table, work, values, clock, k);
-    }
-    whole_move(table, work, values, clock, k)
+    let effect = effect_of(table, work, values, clock, k);
+    apply(work, effect)
 }
 
 // The size of node k.

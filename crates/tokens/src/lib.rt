@@ -462,7 +462,7 @@ pub fn next(text: &[u8], at: usize) -> Lexed
 }
 
 // The bytes from a up to, not including, e; none where they are not all in the text.
-fn between(text: &[u8], a: usize, e: usize) -> &[u8]
+pub fn between(text: &[u8], a: usize, e: usize) -> &[u8]
     ensures { λ r. ⌜ now r ≡ between (now (text .entry)) a e ⌝ }
 {
     if a <= e {

@@ -17,7 +17,7 @@ head-ok-requires : tie.Need-head-ok-requires
 head-ok-requires c κs = search needs
 
 words-ok-requires : tie.Need-words-ok-requires
-words-ok-requires c κs = sym (c .before .head-ok .ensures) ∙ c .if2 .taken
+words-ok-requires c κs = (c .before .before .if1 .left, sym (c .before .head-ok .ensures) ∙ c .if2 .taken)
 
 word-requires : tie.Need-word-requires
 word-requires c κs = search needs
@@ -29,7 +29,7 @@ functions-ok-requires : tie.Need-functions-ok-requires
 functions-ok-requires c κs =
     let s = c .before .before .before .before .before .before .before .before .before in
     let l = limits (s .args .table .now) (headOf (s .args .table .now)) refl (sym (c .before .before .before .before .before .before .head-ok .ensures) ∙ c .before .before .before .before .before .if2 .taken) in
-    (l .functions, l .nodes)
+    (c .before .before .before .before .before .before .before .if1 .left, (l .functions, l .nodes))
 
 returns-2 : tie.Need-returns-2
 unfolding passes

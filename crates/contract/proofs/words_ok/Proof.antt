@@ -15,32 +15,32 @@ name-ok-requires c κs = search needs
 names-ok-requires : tie.Need-names-ok-requires
 names-ok-requires c κs =
     let s = c .before .before .before .before in
-    let l = limits (s .args .table .now) (c .before .before .head .result) (c .before .before .head .ensures) (s .pre) in
-    omega arith
+    let l = limits (s .args .table .now) (c .before .before .head .result) (c .before .before .head .ensures) (s .pre .1) in
+    (s .pre .0, omega arith)
 
 names-ok-requires-2 : tie.Need-names-ok-requires-2
 names-ok-requires-2 c κs =
     let s = c .before .before .before .before .before .before in
-    let l = limits (s .args .table .now) (c .before .before .before .before .head .result) (c .before .before .before .before .head .ensures) (s .pre) in
-    omega arith
+    let l = limits (s .args .table .now) (c .before .before .before .before .head .result) (c .before .before .before .before .head .ensures) (s .pre .1) in
+    (s .pre .0, omega arith)
 
 names-ok-requires-3 : tie.Need-names-ok-requires-3
 names-ok-requires-3 c κs =
     let s = c .before .before .before .before .before .before .before .before in
-    let l = limits (s .args .table .now) (c .before .before .before .before .before .before .head .result) (c .before .before .before .before .before .before .head .ensures) (s .pre) in
-    omega arith
+    let l = limits (s .args .table .now) (c .before .before .before .before .before .before .head .result) (c .before .before .before .before .before .before .head .ensures) (s .pre .1) in
+    (s .pre .0, omega arith)
 
 names-ok-requires-4 : tie.Need-names-ok-requires-4
 names-ok-requires-4 c κs =
     let s = c .before .before .before .before .before .before .before .before .before .before in
-    let l = limits (s .args .table .now) (c .before .before .before .before .before .before .before .before .head .result) (c .before .before .before .before .before .before .before .before .head .ensures) (s .pre) in
-    omega arith
+    let l = limits (s .args .table .now) (c .before .before .before .before .before .before .before .before .head .result) (c .before .before .before .before .before .before .before .before .head .ensures) (s .pre .1) in
+    (s .pre .0, omega arith)
 
 strings-ok-requires : tie.Need-strings-ok-requires
 strings-ok-requires c κs =
     let s = c .before .before .before .before .before .before .before .before .before .before .before .before in
-    let l = limits (s .args .table .now) (c .before .before .before .before .before .before .before .before .before .before .head .result) (c .before .before .before .before .before .before .before .before .before .before .head .ensures) (s .pre) in
-    omega arith
+    let l = limits (s .args .table .now) (c .before .before .before .before .before .before .before .before .before .before .head .result) (c .before .before .before .before .before .before .before .before .before .before .head .ensures) (s .pre .1) in
+    (s .pre .0, omega arith)
 
 returns : tie.Need-returns
 returns c =

@@ -42,12 +42,12 @@ lapse-requires c κs = search needs
 add-next : tie.Need-add-next
 add-next c = search needs
 
-answer-requires : tie.Need-answer-requires
-answer-requires c κs = search needs
+blank-labels-requires : tie.Need-blank-labels-requires
+blank-labels-requires c κs = search needs
 
 returns-4 : tie.Need-returns-4
 returns-4 c =
-    c .answer .ensures ∙ tick-on _ _ (not-false _ (c .before .before .before .before .before .before .if1 .left)) (sym (c .before .before .before .before .before .first-due .ensures) ∙ c .before .before .before .enum-told .given .1) _ (c .before .lapse .ensures) (c .before .before .if2 .left)
+    simp (c .blank-labels .ensures) (tick-on _ _ (not-false _ (c .before .before .before .before .before .before .if1 .left)) (sym (c .before .before .before .before .before .first-due .ensures) ∙ c .before .before .before .enum-told .given .1) _ (c .before .lapse .ensures) (c .before .before .if2 .left))
 
 pub tick-on-spec : {M : Type 1} → statement M
 tick-on-spec =
@@ -64,5 +64,5 @@ tick-on-spec =
     returns-3
     lapse-requires
     add-next
-    answer-requires
+    blank-labels-requires
     returns-4)

@@ -30,7 +30,7 @@ loop-holds : tie.Need-loop-holds Inv-loop μ-loop
 unfolding allBelow
 loop-holds c =
     let s = c .before .before .before in
-    (omega arith, events-first (s .args .table .now) (s .args .i) (s .args .f) (s .pre .0), refl)
+    (omega arith, events-first (s .args .table .now) (s .args .i) (s .args .f) (s .pre .1 .0), refl)
 
 add-event-ok : tie.Need-add-event-ok Inv-loop μ-loop
 add-event-ok c = search needs
@@ -47,7 +47,7 @@ event-at-requires c κs = search needs
 add-first-3 : tie.Need-add-first-3 Inv-loop μ-loop
 add-first-3 c =
     let s = c .before .before .before .before .before .before .before .before .before .before .before in
-    omega (arith, event-node (s .args .table .now) (scopeAt (s .args .table .now) (s .args .f .values) (s .args .f .parameters)) (c .before .before .before .before .before .before .before .loop .first) (s .args .f .event + c .before .before .before .before .before .before .before .loop .j) (sym (c .before .before .before .before .event-ok .ensures) ∙ c .before .before .before .if1 .taken), ap (λ (x : Event). x .node) (c .before .event-at .ensures), s .pre .1 .0)
+    omega (arith, event-node (s .args .table .now) (scopeAt (s .args .table .now) (s .args .f .values) (s .args .f .parameters)) (c .before .before .before .before .before .before .before .loop .first) (s .args .f .event + c .before .before .before .before .before .before .before .loop .j) (sym (c .before .before .before .before .event-ok .ensures) ∙ c .before .before .before .if1 .taken), ap (λ (x : Event). x .node) (c .before .event-at .ensures), s .pre .1 .1 .0)
 
 add-j : tie.Need-add-j Inv-loop μ-loop
 add-j c = search needs
@@ -58,12 +58,12 @@ loop-less c = search needs
 loop-again : tie.Need-loop-again Inv-loop μ-loop
 loop-again c =
     let s = c .before .before .before .before .before .before .before .before .before .before .before in
-    (omega arith, event-next (s .args .table .now) (s .args .i) (s .args .f) (s .pre .0) (c .before .before .before .before .before .before .before .loop .j) (c .before .event-at .result) (c .before .event-at .ensures), all-more _ _ (c .before .before .before .before .before .before .before .loop .inv .2) (sym (c .before .before .before .before .event-ok .ensures ∙ event-same (s .args .table .now) (s .args .i) (s .args .f) (s .pre .0) (c .before .before .before .before .before .before .before .loop .first) (c .before .before .before .before .before .before .before .loop .j) (c .before .before .before .before .before .before .before .loop .inv .1)) ∙ c .before .before .before .if1 .taken))
+    (omega arith, event-next (s .args .table .now) (s .args .i) (s .args .f) (s .pre .1 .0) (c .before .before .before .before .before .before .before .loop .j) (c .before .event-at .result) (c .before .event-at .ensures), all-more _ _ (c .before .before .before .before .before .before .before .loop .inv .2) (sym (c .before .before .before .before .event-ok .ensures ∙ event-same (s .args .table .now) (s .args .i) (s .args .f) (s .pre .1 .0) (c .before .before .before .before .before .before .before .loop .first) (c .before .before .before .before .before .before .before .loop .j) (c .before .before .before .before .before .before .before .loop .inv .1)) ∙ c .before .before .before .if1 .taken))
 
 returns : tie.Need-returns Inv-loop μ-loop
 returns c =
     let s = c .before .before .before .before .before .before .before .before in
-    all-stop _ _ _ (c .before .before .before .loop-test .taken) (sym (c .before .event-ok .ensures ∙ event-same (s .args .table .now) (s .args .i) (s .args .f) (s .pre .0) (c .before .before .before .before .loop .first) (c .before .before .before .before .loop .j) (c .before .before .before .before .loop .inv .1)) ∙ c .if1 .left)
+    all-stop _ _ _ (c .before .before .before .loop-test .taken) (sym (c .before .event-ok .ensures ∙ event-same (s .args .table .now) (s .args .i) (s .args .f) (s .pre .1 .0) (c .before .before .before .before .loop .first) (c .before .before .before .before .loop .j) (c .before .before .before .before .loop .inv .1)) ∙ c .if1 .left)
 
 returns-2 : tie.Need-returns-2 Inv-loop μ-loop
 returns-2 c = all-end _ _ _ (c .before .loop .inv .0) (c .loop-test .left) (c .before .loop .inv .2)

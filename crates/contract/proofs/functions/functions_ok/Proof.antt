@@ -33,19 +33,19 @@ function-at-requires c κs = search needs
 function-ok-requires : tie.Need-function-ok-requires Inv-loop μ-loop
 function-ok-requires c κs =
     let s = c .before .before .before .before .before in
-    (c .function-at .ensures, ((omega (arith, c .before .before .before .word .ensures, s .pre .0), s .pre .1, c .before .before .loop .inv .3, omega (arith, c .before .before .before .word .ensures, s .pre .0, c .before .before .loop .inv .4)), (c .before .before .loop .inv .1, c .before .before .loop .inv .2)))
+    (s .pre .0, (c .function-at .ensures, ((omega (arith, c .before .before .before .word .ensures, s .pre .1 .0), s .pre .1 .1, c .before .before .loop .inv .3, omega (arith, c .before .before .before .word .ensures, s .pre .1 .0, c .before .before .loop .inv .4)), (c .before .before .loop .inv .1, c .before .before .loop .inv .2))))
 
 function-end-requires : tie.Need-function-end-requires Inv-loop μ-loop
 function-end-requires c κs =
     let s = c .before .before .before .before .before .before .before in
     let d = ended (s .args .table .now) (c .before .before .before .before .loop .i) (c .before .before .function-at .result) (c .before .before .function-at .ensures) (sym (c .before .function-ok .ensures) ∙ c .if1 .taken) in
-    (c .before .before .function-at .ensures, (omega (arith, d .room, s .pre .1), omega (arith, d .event, c .before .before .before .before .loop .inv .2, c .before .before .before .before .loop .inv .4, c .before .before .before .before .before .word .ensures, s .pre .0, c .before .before .before .loop-test .taken), d .few, omega (arith, d .end, s .pre .1)))
+    (c .before .before .function-at .ensures, (omega (arith, d .room, s .pre .1 .1), omega (arith, d .event, c .before .before .before .before .loop .inv .2, c .before .before .before .before .loop .inv .4, c .before .before .before .before .before .word .ensures, s .pre .1 .0, c .before .before .before .loop-test .taken), d .few, omega (arith, d .end, s .pre .1 .1)))
 
 add-event : tie.Need-add-event Inv-loop μ-loop
 add-event c =
     let s = c .before .before .before .before .before .before .before .before .before in
     let d = ended (s .args .table .now) (c .before .before .before .before .before .before .loop .i) (c .before .before .before .before .function-at .result) (c .before .before .before .before .function-at .ensures) (sym (c .before .before .before .function-ok .ensures) ∙ c .before .before .if1 .taken) in
-    omega (arith, d .event, d .few, c .before .before .before .before .before .before .loop .inv .2, c .before .before .before .before .before .before .loop .inv .4, c .before .before .before .before .before .before .before .word .ensures, s .pre .0, c .before .before .before .before .before .loop-test .taken)
+    omega (arith, d .event, d .few, c .before .before .before .before .before .before .loop .inv .2, c .before .before .before .before .before .before .loop .inv .4, c .before .before .before .before .before .before .before .word .ensures, s .pre .1 .0, c .before .before .before .before .before .loop-test .taken)
 
 add-i : tie.Need-add-i Inv-loop μ-loop
 add-i c = search needs
@@ -60,7 +60,7 @@ loop-again c =
       omega arith,
       c .before .function-end .ensures ∙ function-next (s .args .table .now) (c .before .before .before .before .before .before .loop .i) (c .before .before .before .before .function-at .result) (c .before .before .before .before .function-at .ensures),
       function-next-event (s .args .table .now) (c .before .before .before .before .before .before .loop .i) (c .before .before .before .before .function-at .result) (c .before .before .before .before .function-at .ensures),
-      omega (arith, c .before .function-end .ensures, d .end, s .pre .1),
+      omega (arith, c .before .function-end .ensures, d .end, s .pre .1 .1),
       omega (arith, d .event, d .few, c .before .before .before .before .before .before .loop .inv .2, c .before .before .before .before .before .before .loop .inv .4),
       all-more _ _ (c .before .before .before .before .before .before .loop .inv .5) (sym (c .before .before .before .function-ok .ensures) ∙ c .before .before .if1 .taken),
     )

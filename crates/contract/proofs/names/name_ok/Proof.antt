@@ -34,7 +34,7 @@ sub-name-bytes-ok c =
 
 name-bytes-ok-requires : tie.Need-name-bytes-ok-requires
 name-bytes-ok-requires c κs =
-    omega (arith, ranges-high 1 (c .before .before .before .before .before .word .result) 32 (sym (c .before .before .before .before .ranges .ensures) ∙ c .before .before .before .if1 .taken))
+    (c .before .before .before .before .before .before .before .pre .0, omega (arith, ranges-high 1 (c .before .before .before .before .before .word .result) 32 (sym (c .before .before .before .before .ranges .ensures) ∙ c .before .before .before .if1 .taken)))
 
 returns : tie.Need-returns
 unfolding nameOk

@@ -1,13 +1,13 @@
 -- `contract::names::string_bytes_ok` meets its contract. Assumes nothing.
 use borrow.Author.Needs.{needs}
-use mathlib.Core.Path.{_≡_, refl}
+use mathlib.Core.Path.{_≡_, refl, sym, _∙_}
 use mathlib.Core.Bool.{true}
 use Prim.Native.Nat.{_≤_, _-_, _+_}
 use native.Mathlib.Omega.{arith}
 use Rattle.contract.specs.Check.{allBelow}
 use Rattle.contract.specs.Table.{wordAt}
 use Rattle.tokens.specs.Classes.{isStringByte}
-use Rattle.contract.proofs.Tests.{told, all-more, all-stop, all-end}
+use Rattle.contract.proofs.Tests.{all-more, all-stop, all-end}
 use Rattle.contract.proofs.names.string_bytes_ok.Statement.{statement}
 use Rattle.contract.proofs.names.string_bytes_ok.Tie as tie
 
@@ -21,11 +21,14 @@ loop-holds : tie.Need-loop-holds Inv-loop μ-loop
 unfolding allBelow
 loop-holds c = (omega arith, refl)
 
-add-word : tie.Need-add-word Inv-loop μ-loop
-add-word c = search needs
+add-is-string-byte : tie.Need-add-is-string-byte Inv-loop μ-loop
+add-is-string-byte c = search needs
 
-word-requires : tie.Need-word-requires Inv-loop μ-loop
-word-requires c κs = search needs
+mul-is-string-byte : tie.Need-mul-is-string-byte Inv-loop μ-loop
+mul-is-string-byte c = search needs
+
+shared-slice-read-is-string-byte : tie.Need-shared-slice-read-is-string-byte Inv-loop μ-loop
+shared-slice-read-is-string-byte c = search needs
 
 is-string-byte-requires : tie.Need-is-string-byte-requires Inv-loop μ-loop
 is-string-byte-requires c κs = search needs
@@ -38,11 +41,11 @@ loop-less c = search needs
 
 loop-again : tie.Need-loop-again Inv-loop μ-loop
 loop-again c =
-    (omega arith, all-more _ _ (c .before .before .before .before .loop .inv .1) (told isStringByte (c .before .before .word .ensures) (c .before .is-string-byte .ensures) (c .if1 .taken)))
+    (omega arith, all-more _ _ (c .before .before .before .before .loop .inv .1) (sym (c .before .is-string-byte .ensures) ∙ c .if1 .taken))
 
 returns : tie.Need-returns Inv-loop μ-loop
 returns c =
-    all-stop _ _ _ (c .before .before .before .loop-test .taken) (told isStringByte (c .before .before .word .ensures) (c .before .is-string-byte .ensures) (c .if1 .left))
+    all-stop _ _ _ (c .before .before .before .loop-test .taken) (sym (c .before .is-string-byte .ensures) ∙ c .if1 .left)
 
 returns-2 : tie.Need-returns-2 Inv-loop μ-loop
 returns-2 c = all-end _ _ _ (c .before .loop .inv .0) (c .loop-test .left) (c .before .loop .inv .1)
@@ -54,8 +57,9 @@ string-bytes-ok-spec =
     Inv-loop
     μ-loop
     loop-holds
-    add-word
-    word-requires
+    add-is-string-byte
+    mul-is-string-byte
+    shared-slice-read-is-string-byte
     is-string-byte-requires
     add-j
     loop-less

@@ -9,11 +9,11 @@ returns c =
     let s = c .before .before in
     block-none (s .args .table .now) (s .args .end) (s .args .n) (c .if1 .taken)
 
-sub-node-at : tie.Need-sub-node-at
-sub-node-at c = search needs
+sub-node-in : tie.Need-sub-node-in
+sub-node-in c = search needs
 
-node-at-requires : tie.Need-node-at-requires
-node-at-requires c κs = search needs
+node-in-requires : tie.Need-node-in-requires
+node-in-requires c κs = search needs
 
 is-sort-requires : tie.Need-is-sort-requires
 is-sort-requires c κs = search needs
@@ -21,8 +21,8 @@ is-sort-requires c κs = search needs
 returns-2 : tie.Need-returns-2
 returns-2 c =
     let s = c .before .before .before .before .before in
-    block-is (s .args .table .now) (s .args .end) (s .args .n) (c .before .before .before .if1 .left) (c .before .before .node-at .result) (c .before .before .node-at .ensures) (c .before .is-sort .ensures)
+    block-is (s .args .table .now) (s .args .end) (s .args .n) (c .before .before .before .if1 .left) (c .before .before .node-in .result) (c .before .before .node-in .ensures) (c .before .is-sort .ensures)
 
 pub block-ok-spec : {M : Type 1} → statement M
 block-ok-spec =
-    tie.close (tie.spec returns sub-node-at node-at-requires is-sort-requires returns-2)
+    tie.close (tie.spec returns sub-node-in node-in-requires is-sort-requires returns-2)

@@ -4,8 +4,8 @@ use Rattle.contract.proofs.Parts.{conditional-past, conditional-block, 
 use Rattle.contract.proofs.nodes.conditional_start.Statement.{statement}
 use Rattle.contract.proofs.nodes.conditional_start.Tie as tie
 
-node-at-requires : tie.Need-node-at-requires
-node-at-requires c κs = search needs
+node-in-requires : tie.Need-node-in-requires
+node-in-requires c κs = search needs
 
 sub-if1 : tie.Need-sub-if1
 sub-if1 c = search needs
@@ -22,23 +22,23 @@ part-start-requires c κs = search needs
 returns : tie.Need-returns
 returns c =
     let s = c .before .before .before .before .before .before in
-    conditional-is (s .args .table .now) (s .args .from) (s .args .k) (c .before .before .before .before .node-at .result) (c .before .before .before .before .node-at .ensures) (c .before .before .before .if1 .taken) (c .before .before .block-ok .ensures) (c .before .if2 .taken) (c .part-start .ensures)
+    conditional-is (s .args .table .now) (s .args .from) (s .args .k) (c .before .before .before .before .node-in .result) (c .before .before .before .before .node-in .ensures) (c .before .before .before .if1 .taken) (c .before .before .block-ok .ensures) (c .before .if2 .taken) (c .part-start .ensures)
 
 returns-2 : tie.Need-returns-2
 returns-2 c =
     let s = c .before .before .before .before .before in
-    conditional-block (s .args .table .now) (s .args .from) (s .args .k) (c .before .before .before .node-at .result) (c .before .before .before .node-at .ensures) (c .before .before .if1 .taken) (c .before .block-ok .ensures) (c .if2 .left)
+    conditional-block (s .args .table .now) (s .args .from) (s .args .k) (c .before .before .before .node-in .result) (c .before .before .before .node-in .ensures) (c .before .before .if1 .taken) (c .before .block-ok .ensures) (c .if2 .left)
 
 returns-3 : tie.Need-returns-3
 returns-3 c =
     let s = c .before .before .before in
-    conditional-past (s .args .table .now) (s .args .from) (s .args .k) (c .before .node-at .result) (c .before .node-at .ensures) (c .if1 .left)
+    conditional-past (s .args .table .now) (s .args .from) (s .args .k) (c .before .node-in .result) (c .before .node-in .ensures) (c .if1 .left)
 
 pub conditional-start-spec : {M : Type 1} → statement M
 conditional-start-spec =
     tie.close
     (tie.spec
-    node-at-requires
+    node-in-requires
     sub-if1
     block-ok-requires
     sub-part-start

@@ -11,11 +11,11 @@ returns c =
     let s = c .before .before in
     part-none (s .args .table .now) (s .args .from) (sortOf (s .args .sort)) (s .args .end) (c .if1 .taken)
 
-sub-node-at : tie.Need-sub-node-at
-sub-node-at c = search needs
+sub-node-in : tie.Need-sub-node-in
+sub-node-in c = search needs
 
-node-at-requires : tie.Need-node-at-requires
-node-at-requires c κs = search needs
+node-in-requires : tie.Need-node-in-requires
+node-in-requires c κs = search needs
 
 is-sort-requires : tie.Need-is-sort-requires
 is-sort-requires c κs = search needs
@@ -29,25 +29,25 @@ sub-t11 c = search needs
 returns-2 : tie.Need-returns-2
 returns-2 c =
     let s = c .before .before .before .before .before .before .before .before in
-    part-is (s .args .table .now) (s .args .from) (sortOf (s .args .sort)) (s .args .end) (c .before .before .before .before .before .node-at .result) (c .before .before .before .before .before .node-at .ensures) (c .before .before .before .before .before .before .if1 .left) (sym (c .before .before .before .before .is-sort .ensures) ∙ c .before .before .before .if2 .taken) (c .before .if3 .taken)
+    part-is (s .args .table .now) (s .args .from) (sortOf (s .args .sort)) (s .args .end) (c .before .before .before .before .before .node-in .result) (c .before .before .before .before .before .node-in .ensures) (c .before .before .before .before .before .before .if1 .left) (sym (c .before .before .before .before .is-sort .ensures) ∙ c .before .before .before .if2 .taken) (c .before .if3 .taken)
 
 returns-3 : tie.Need-returns-3
 returns-3 c =
     let s = c .before .before .before .before .before .before .before in
-    part-size (s .args .table .now) (s .args .from) (sortOf (s .args .sort)) (s .args .end) (c .before .before .before .before .node-at .result) (c .before .before .before .before .node-at .ensures) (c .before .before .before .before .before .if1 .left) (sym (c .before .before .before .is-sort .ensures) ∙ c .before .before .if2 .taken) (c .if3 .left)
+    part-size (s .args .table .now) (s .args .from) (sortOf (s .args .sort)) (s .args .end) (c .before .before .before .before .node-in .result) (c .before .before .before .before .node-in .ensures) (c .before .before .before .before .before .if1 .left) (sym (c .before .before .before .is-sort .ensures) ∙ c .before .before .if2 .taken) (c .if3 .left)
 
 returns-4 : tie.Need-returns-4
 returns-4 c =
     let s = c .before .before .before .before .before in
-    part-sort (s .args .table .now) (s .args .from) (sortOf (s .args .sort)) (s .args .end) (c .before .before .node-at .result) (c .before .before .node-at .ensures) (c .before .before .before .if1 .left) (sym (c .before .is-sort .ensures) ∙ c .if2 .left)
+    part-sort (s .args .table .now) (s .args .from) (sortOf (s .args .sort)) (s .args .end) (c .before .before .node-in .result) (c .before .before .node-in .ensures) (c .before .before .before .if1 .left) (sym (c .before .is-sort .ensures) ∙ c .if2 .left)
 
 pub part-start-spec : {M : Type 1} → statement M
 part-start-spec =
     tie.close
     (tie.spec
     returns
-    sub-node-at
-    node-at-requires
+    sub-node-in
+    node-in-requires
     is-sort-requires
     sub-if3
     sub-t11

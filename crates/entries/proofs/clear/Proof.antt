@@ -1,0 +1,63 @@
+-- `entries::clear` meets its contract. Assumes nothing.
+use borrow.Author.Needs.{needs}
+use mathlib.Core.Path.{_≡_, refl, _∙_}
+use Prim.Native.Nat.{_-_, _≤_}
+use native.Mathlib.Omega.{arith}
+use lib.ListN.{length, take, length-set}
+use Rattle.contract.specs.Encode.{zeros}
+use Rattle.entries.proofs.Rows.{clear-none, clear-more, clear-all}
+use Rattle.entries.proofs.clear.Statement.{statement}
+use Rattle.entries.proofs.clear.Tie as tie
+
+abbrev Inv-loop : tie.InvT-loop
+Inv-loop table₀ i₀ table i =
+    (i ≤ length table₀) × (length table ≡ length table₀) × (take i table ≡ zeros i)
+
+abbrev μ-loop : tie.MeasureT-loop
+μ-loop table₀ i₀ table i =
+    length table₀ - i
+
+loop-holds : tie.Need-loop-holds Inv-loop μ-loop
+loop-holds c =
+    (omega arith, refl, clear-none (c .args .table .now))
+
+mul-table : tie.Need-mul-table Inv-loop μ-loop
+mul-table c = search needs
+
+slice-write-table : tie.Need-slice-write-table Inv-loop μ-loop
+slice-write-table c = search needs
+
+add-i : tie.Need-add-i Inv-loop μ-loop
+add-i c = search needs
+
+loop-less : tie.Need-loop-less Inv-loop μ-loop
+loop-less c = search needs
+
+loop-again : tie.Need-loop-again Inv-loop μ-loop
+loop-again c =
+    let l = c .before .loop in
+    (omega (arith, l .inv .1, c .loop-test .taken), length-set (l .table) (l .i) 0 ∙ l .inv .1, clear-more (l .i) (l .table) (c .loop-test .taken) (l .inv .2))
+
+same-length : tie.Need-same-length Inv-loop μ-loop
+same-length c =
+    c .before .loop .inv .1
+
+returns : tie.Need-returns Inv-loop μ-loop
+returns c =
+    let l = c .before .loop in
+    clear-all (l .i) (length (c .before .before .args .table .now)) (l .table) (l .inv .1) (omega (arith, l .inv .1, c .loop-test .left)) (l .inv .0) (l .inv .2)
+
+pub clear-spec : {M : Type 1} → statement M
+clear-spec =
+    tie.close
+    (tie.spec
+    Inv-loop
+    μ-loop
+    loop-holds
+    mul-table
+    slice-write-table
+    add-i
+    loop-less
+    loop-again
+    same-length
+    returns)

@@ -1,0 +1,18 @@
+-- `entries::head_mark` meets its contract. Assumes nothing.
+use borrow.Author.Needs.{needs}
+use Rattle.entries.proofs.head_mark.Statement.{statement}
+use Rattle.entries.proofs.head_mark.Tie as tie
+
+returns : tie.Need-returns
+returns c = search needs
+
+pub head-mark-spec : {M : Type 1} → statement M
+head-mark-spec =
+    tie.close
+    (tie.spec
+    (λ c κs. search needs)
+    (λ c. search needs)
+    (λ c. search needs)
+    (λ c. search needs)
+    (λ c. search needs)
+    returns)

@@ -1,0 +1,835 @@
+// What one pass over a contract's text notes and writes: names, counts, the least finding, rows and nodes. Every function takes any lent
+// words: a word past their end reads as 0, and is not written.
+ghost use mathlib.Core.Path.{_≡_};
+ghost use mathlib.Core.Bool.{Bool, true, false};
+ghost use mathlib.Core.List.{List, [], _∷_};
+ghost use Prim.Native.Nat.{_+_, _-_, _*_, _%_, _≤_, _<_, min};
+ghost use lib.ListN.{length, getD, set};
+ghost use lib.Seq.{sets};
+ghost use lib.Dec.{eqb, ltb};
+ghost use Rattle.laws.specs.Choice.{pick};
+ghost use Rattle.laws.specs.Bytes.{sameBytes};
+ghost use Rattle.tokens.specs.Tokens.{between};
+ghost use Rattle.contract.specs.Encode.{zeros};
+ghost use Rattle.entries.specs.Pass as pass;
+use contract::Contract;
+use contract::Node;
+
+// Kinds of what is counted. The first seven are names.
+pub const PARTY: usize = 0;
+
+pub const ASSET: usize = 1;
+
+pub const FIELD: usize = 2;
+
+// Parameters are those of the function at hand.
+pub const VALUE: usize = 3;
+
+pub const PARAMETER: usize = 4;
+
+pub const STATE: usize = 5;
+
+pub const STRING: usize = 6;
+
+pub const EVENT: usize = 7;
+
+// Statements are those of the body or handler at hand.
+pub const STATEMENT: usize = 8;
+
+pub const NODE: usize = 9;
+
+// Further words of the notes.
+pub const FUNCTIONS: usize = 10;
+
+pub const CLAUSES: usize = 11;
+
+pub const QUESTION: usize = 12;
+
+pub const PLACE: usize = 13;
+
+pub const WRITTEN: usize = 14;
+
+pub const EXCESS: usize = 15;
+
+// Nodes of the body at hand, and events of the function at hand.
+pub const BODY: usize = 604;
+
+pub const HERE: usize = 605;
+
+// The words of the notes.
+pub const NOTES: usize = 606;
+
+// What a name stands for: the kind of its node and its number; kind 0 where it is unknown.
+pub struct Known {
+    pub kind: u64,
+    pub number: u64,
+}
+
+// Word i of a table or of notes becomes v; nothing past their end.
+pub fn store(words: &mut [u64], i: usize, v: u64)
+    ensures { λ _. ⌜ now (words .exit) ≡ set (now (words .entry)) i v ⌝ }
+{
+    if i < words.len() {
+        words[i] = v;
+    }
+}
+
+// ---- Findings and counts.
+
+// The least finding after one more: earliest place, then lowest number.
+pub fn find(notes: &mut [u64], question: u8, place: usize)
+    ensures { λ _. ⌜ now (notes .exit) ≡ pass.found question place (now (notes .entry)) ⌝ }
+{
+    let q = contract::word(notes, QUESTION);
+    let o = contract::word(notes, PLACE) as usize;
+    let first = q == 0;
+    let sooner = place < o;
+    let lower = (place == o) & ((question as u64) < q);
+    if first | (sooner | lower) {
+        store(notes, QUESTION, question as u64);
+        store(notes, PLACE, place as u64);
+    }
+}
+
+// The most of a kind.
+fn limit(kind: usize) -> usize
+    ensures { λ r. ⌜ r ≡ pass.limit kind ⌝ }
+{
+    match kind {
+        PARTY => Contract::PARTIES,
+        ASSET => Contract::ASSETS,
+        FIELD => Contract::FIELDS,
+        VALUE => contract::Function::VALUES,
+        PARAMETER => contract::Function::PARAMETERS,
+        STATE => Contract::STATES,
+        STRING => Contract::STRINGS,
+        EVENT => Contract::EVENTS,
+        STATEMENT => contract::Function::STATEMENTS,
+        NODE => Contract::NODES,
+        _ => 0,
+    }
+}
+
+// One more of a kind, within its limit; else question 11.
+pub fn count(notes: &mut [u64], kind: usize, place: usize)
+    ensures { λ _. ⌜ now (notes .exit) ≡ pass.counted kind place (now (notes .entry)) ⌝ }
+{
+    let n = contract::word(notes, kind);
+    if n < limit(kind) as u64 {
+        store(notes, kind, n + 1);
+    } else {
+        find(notes, questions::LIMITS, place);
+    }
+}
+
+// ---- Names.
+
+fn same_bytes(a: &[u8], b: &[u8]) -> bool
+    ensures { λ r. ⌜ r ≡ sameBytes (now (a .entry)) (now (b .entry)) ⌝ }
+{
+    if a.len() != b.len() {
+        return false;
+    }
+    let mut i: usize = 0;
+    while i < a.len() {
+        if a[i] == b[i] {
+            i += 1;
+        } else {
+            return false;
+        }
+    }
+    true
+}
+
+// A number that equal words share.
+fn mark(word: &[u8]) -> u64
+    ensures { λ r. ⌜ r ≡ pass.markOf (now (word .entry)) ⌝ }
+    ensures { λ r. ⌜ r < 16777216 ⌝ }
+{
+    let n = word.len();
+    if n == 0 {
+        return 0;
+    }
+    (n % 65536) as u64 * 256 + word[n - 1] as u64
+}
+
+// Whether a slot has this mark and these bytes.
+fn slot_is(text: &[u8], notes: &[u64], slot: usize, mark: u64, word: &[u8]) -> bool
+    requires { ⌜ slot ≤ 5000 ⌝ }
+    ensures { λ r. ⌜ r ≡ pass.slotIs (now (text .entry)) (now (notes .entry)) slot mark (now (word .entry)) ⌝ }
+{
+    let at = 16 + 3 * slot;
+    if contract::word(notes, at) != mark {
+        return false;
+    }
+    let start = contract::word(notes, at + 1) as usize;
+    let end = contract::word(notes, at + 2) as usize;
+    same_bytes(tokens::between(text, start, end), word)
+}
+
+// The first of so many slots that has this mark and these bytes.
+fn find_from(text: &[u8], notes: &[u64], mark: u64, word: &[u8], slot: usize, many: usize) -> usize
+    requires { ⌜ (slot ≤ 132) × (many ≤ 4096) ⌝ }
+    ensures { λ r. ⌜ r ≡ pass.findFrom (now (text .entry)) (now (notes .entry)) mark (now (word .entry)) slot 0 many ⌝ }
+    ensures { λ r. ⌜ r ≤ many ⌝ }
+{
+    let mut i: usize = 0;
+    while i < many {
+        if slot_is(text, notes, slot + i, mark, word) {
+            return i;
+        }
+        i += 1;
+    }
+    many
+}
+
+// How many there are of a kind.
+fn many_of(notes: &[u64], kind: usize) -> usize
+    ensures { λ r. ⌜ r ≡ pass.knownCount (now (notes .entry)) kind ⌝ }
+    ensures { λ r. ⌜ r ≤ 4096 ⌝ }
+{
+    let n = contract::word(notes, kind) as usize;
+    let most = limit(kind);
+    if n < most { n } else { most }
+}
+
+fn slot_of(kind: usize) -> usize
+    ensures { λ r. ⌜ r ≡ pass.slotOf kind ⌝ }
+    ensures { λ r. ⌜ r ≤ 132 ⌝ }
+{
+    match kind {
+        PARTY => 0,
+        ASSET => 8,
+        FIELD => 24,
+        VALUE => 56,
+        PARAMETER => 64,
+        STATE => 68,
+        STRING => 100,
+        _ => 132,
+    }
+}
+
+// The number of a word with its mark among those of a kind.
+fn number_by(text: &[u8], notes: &[u64], kind: usize, mark: u64, word: &[u8]) -> usize
+    requires { ⌜ mark ≡ pass.markOf (now word) ⌝ }
+    ensures { λ r. ⌜ r ≡ pass.numberIn (now (text .entry)) (now (notes .entry)) kind (now (word .entry)) ⌝ }
+{
+    let many = many_of(notes, kind);
+    find_from(text, notes, mark, word, slot_of(kind), many)
+}
+
+fn among(text: &[u8], notes: &[u64], kind: usize, mark: u64, word: &[u8]) -> bool
+    requires { ⌜ mark ≡ pass.markOf (now word) ⌝ }
+    ensures { λ r. ⌜ r ≡ pass.amongIn (now (text .entry)) (now (notes .entry)) kind (now (word .entry)) ⌝ }
+{
+    number_by(text, notes, kind, mark, word) < many_of(notes, kind)
+}
+
+// The number of a name among those of a kind; how many they are where it is not among them.
+pub fn number_of(text: &[u8], notes: &[u64], kind: usize, start: usize, end: usize) -> usize
+    ensures { λ r. ⌜ r ≡ pass.numberIn (now (text .entry)) (now (notes .entry)) kind (between (now (text .entry)) start end) ⌝ }
+{
+    let word = tokens::between(text, start, end);
+    number_by(text, notes, kind, mark(word), word)
+}
+
+// Whether a name is a party's, an asset's, a field's or a parameter's.
+fn is_declared(text: &[u8], notes: &[u64], start: usize, end: usize) -> bool
+    ensures { λ r. ⌜ r ≡ pass.isDeclared (now (text .entry)) (now (notes .entry)) (between (now (text .entry)) start end) ⌝ }
+{
+    let word = tokens::between(text, start, end);
+    let mark = mark(word);
+    if among(text, notes, PARTY, mark, word) {
+        return true;
+    }
+    if among(text, notes, ASSET, mark, word) {
+        return true;
+    }
+    if among(text, notes, FIELD, mark, word) {
+        return true;
+    }
+    if among(text, notes, VALUE, mark, word) {
+        return true;
+    }
+    among(text, notes, PARAMETER, mark, word)
+}
+
+// A word's length and bytes at a row.
+fn write_row(table: &mut [u64], at: usize, word: &[u8])
+    requires { ⌜ at ≤ 300000 ⌝ }
+    ensures { λ _. ⌜ now (table .exit) ≡ pass.rowed (now (table .entry)) at (now (word .entry)) ⌝ }
+{
+    store(table, at, word.len() as u64);
+    let mut i: usize = 0;
+    while i < word.len() {
+        store(table, at + 1 + i, word[i] as u64);
+        i += 1;
+    }
+}
+
+// A name's mark and place at a slot.
+fn write_slot(notes: &mut [u64], slot: usize, mark: u64, start: usize, end: usize)
+    requires { ⌜ slot ≤ 5000 ⌝ }
+    ensures { λ _. ⌜ now (notes .exit) ≡ pass.slotted (now (notes .entry)) slot mark start end ⌝ }
+{
+    let at = 16 + 3 * slot;
+    store(notes, at, mark);
+    store(notes, at + 1, start as u64);
+    store(notes, at + 2, end as u64);
+}
+
+// Where the rows of a kind of names stand; 0 where it has none.
+fn section_of(kind: usize) -> usize
+    ensures { λ r. ⌜ r ≡ pass.sectionOf kind ⌝ }
+    ensures { λ r. ⌜ r ≤ 2947 ⌝ }
+{
+    match kind {
+        PARTY => 43,
+        ASSET => 307,
+        FIELD => 835,
+        STATE => 1891,
+        STRING => 2947,
+        _ => 0,
+    }
+}
+
+// How many words a row of a kind of names has.
+fn width_of(kind: usize) -> usize
+    ensures { λ r. ⌜ r ≡ pass.widthOf kind ⌝ }
+    ensures { λ r. ⌜ r ≤ 65 ⌝ }
+{
+    if kind == STRING { 65 } else { 33 }
+}
+
+// Row i of a kind, where it has rows.
+fn enter_row(table: &mut [u64], kind: usize, i: usize, word: &[u8])
+    requires { ⌜ i < 4096 ⌝ }
+    ensures { λ _. ⌜ now (table .exit) ≡ pick (eqb (pass.sectionOf kind) 0) (now (table .entry)) (pass.rowed (now (table .entry)) (pass.sectionOf kind + pass.widthOf kind * i) (now (word .entry))) ⌝ }
+{
+    let section = section_of(kind);
+    let width = width_of(kind);
+    if section != 0 {
+        write_row(table, section + width * i, word);
+    }
+}
+
+// Name i of a kind.
+fn enter(
+    text: &[u8],
+    table: &mut [u64],
+    notes: &mut [u64],
+    kind: usize,
+    i: usize,
+    start: usize,
+    end: usize,
+)
+    requires { ⌜ i < 4096 ⌝ }
+    ensures { λ _. ⌜ now (table .exit) ≡ (pass.entered (now (text .entry)) kind i start end (record { table = now (table .entry); notes = now (notes .entry) })) .table ⌝ }
+    ensures { λ _. ⌜ now (notes .exit) ≡ (pass.entered (now (text .entry)) kind i start end (record { table = now (table .entry); notes = now (notes .entry) })) .notes ⌝ }
+{
+    let word = tokens::between(text, start, end);
+    enter_row(table, kind, i, word);
+    write_slot(notes, slot_of(kind) + i, mark(word), start, end);
+    store(notes, kind, i as u64 + 1);
+}
+
+// Question 11 where there are as many of a kind as can be.
+fn within(notes: &mut [u64], kind: usize, place: usize)
+    ensures { λ _. ⌜ now (notes .exit) ≡ pick (ltb (pass.note (now (notes .entry)) kind) (pass.limit kind)) (now (notes .entry)) (pass.found 11 place (now (notes .entry))) ⌝ }
+{
+    if limit(kind) as u64 <= contract::word(notes, kind) {
+        find(notes, questions::LIMITS, place);
+    }
+}
+
+// Questions 11 and 12 of a declared name.
+fn declare_notes(text: &[u8], notes: &mut [u64], kind: usize, start: usize, end: usize)
+    ensures { λ _. ⌜ now (notes .exit) ≡ pass.declaredIn (now (text .entry)) kind start end (now (notes .entry)) ⌝ }
+{
+    let known = is_declared(text, notes, start, end);
+    within(notes, kind, start);
+    if known {
+        find(notes, questions::NAME_NEW, start);
+    }
+}
+
+// A declared name.
+pub fn declare(
+    text: &[u8],
+    table: &mut [u64],
+    notes: &mut [u64],
+    kind: usize,
+    start: usize,
+    end: usize,
+)
+    ensures { λ _. ⌜ now (table .exit) ≡ (pass.declare (now (text .entry)) kind start end (record { table = now (table .entry); notes = now (notes .entry) })) .table ⌝ }
+    ensures { λ _. ⌜ now (notes .exit) ≡ (pass.declare (now (text .entry)) kind start end (record { table = now (table .entry); notes = now (notes .entry) })) .notes ⌝ }
+{
+    let n = contract::word(notes, kind) as usize;
+    declare_notes(text, notes, kind, start, end);
+    if n < limit(kind) {
+        enter(text, table, notes, kind, n, start, end);
+    }
+}
+
+// One more name of a kind, within its limit; else question 11.
+fn enter_new(
+    text: &[u8],
+    table: &mut [u64],
+    notes: &mut [u64],
+    kind: usize,
+    start: usize,
+    end: usize,
+    place: usize,
+)
+    ensures { λ _. ⌜ now (table .exit) ≡ (pick (ltb (pass.note (now (notes .entry)) kind) (pass.limit kind)) (pass.entered (now (text .entry)) kind (pass.note (now (notes .entry)) kind) start end (record { table = now (table .entry); notes = now (notes .entry) })) (record { table = now (table .entry); notes = pass.found 11 place (now (notes .entry)) })) .table ⌝ }
+    ensures { λ _. ⌜ now (notes .exit) ≡ (pick (ltb (pass.note (now (notes .entry)) kind) (pass.limit kind)) (pass.entered (now (text .entry)) kind (pass.note (now (notes .entry)) kind) start end (record { table = now (table .entry); notes = now (notes .entry) })) (record { table = now (table .entry); notes = pass.found 11 place (now (notes .entry)) })) .notes ⌝ }
+{
+    let n = contract::word(notes, kind) as usize;
+    if n < limit(kind) {
+        enter(text, table, notes, kind, n, start, end);
+    } else {
+        find(notes, questions::LIMITS, place);
+    }
+}
+
+// A state or a string, and its number.
+pub fn mention(
+    text: &[u8],
+    table: &mut [u64],
+    notes: &mut [u64],
+    kind: usize,
+    start: usize,
+    end: usize,
+    place: usize,
+) -> usize
+    ensures { λ r. ⌜ r ≡ pass.numberIn (now (text .entry)) (now (notes .entry)) kind (between (now (text .entry)) start end) ⌝ }
+    ensures { λ _. ⌜ now (table .exit) ≡ (pass.mention (now (text .entry)) kind start end place (record { table = now (table .entry); notes = now (notes .entry) })) .table ⌝ }
+    ensures { λ _. ⌜ now (notes .exit) ≡ (pass.mention (now (text .entry)) kind start end place (record { table = now (table .entry); notes = now (notes .entry) })) .notes ⌝ }
+{
+    let i = number_of(text, notes, kind, start, end);
+    if i < many_of(notes, kind) {
+        return i;
+    }
+    enter_new(text, table, notes, kind, start, end, place);
+    i
+}
+
+// ---- Used names.
+
+fn unknown() -> Known
+    ensures { λ r. ⌜ r ≡ pass.unknown ⌝ }
+{
+    Known { kind: 0, number: 0 }
+}
+
+// An asset, or outside handlers an asset parameter.
+fn holder_by(text: &[u8], notes: &[u64], handler: bool, mark: u64, word: &[u8]) -> Known
+    requires { ⌜ mark ≡ pass.markOf (now word) ⌝ }
+    ensures { λ r. ⌜ r ≡ pass.holderIn (now (text .entry)) (now (notes .entry)) handler (now (word .entry)) ⌝ }
+{
+    let asset = number_by(text, notes, ASSET, mark, word);
+    if asset < many_of(notes, ASSET) {
+        return Known {
+            kind: Node::ASSET,
+            number: asset as u64,
+        };
+    }
+    if handler {
+        return unknown();
+    }
+    let parameter = number_by(text, notes, PARAMETER, mark, word);
+    if parameter < many_of(notes, PARAMETER) {
+        return Known {
+            kind: Node::PARAMETER,
+            number: parameter as u64,
+        };
+    }
+    unknown()
+}
+
+pub fn holder(text: &[u8], notes: &[u64], handler: bool, start: usize, end: usize) -> Known
+    ensures { λ r. ⌜ r ≡ pass.holderIn (now (text .entry)) (now (notes .entry)) handler (between (now (text .entry)) start end) ⌝ }
+{
+    let word = tokens::between(text, start, end);
+    holder_by(text, notes, handler, mark(word), word)
+}
+
+// An asset or a field.
+fn stored_by(text: &[u8], notes: &[u64], mark: u64, word: &[u8]) -> Known
+    requires { ⌜ mark ≡ pass.markOf (now word) ⌝ }
+    ensures { λ r. ⌜ r ≡ pass.storedIn (now (text .entry)) (now (notes .entry)) (now (word .entry)) ⌝ }
+{
+    let asset = number_by(text, notes, ASSET, mark, word);
+    if asset < many_of(notes, ASSET) {
+        return Known {
+            kind: Node::ASSET,
+            number: asset as u64,
+        };
+    }
+    let field = number_by(text, notes, FIELD, mark, word);
+    if field < many_of(notes, FIELD) {
+        return Known {
+            kind: Node::FIELD,
+            number: field as u64,
+        };
+    }
+    unknown()
+}
+
+// What an expression names.
+pub fn name(text: &[u8], notes: &[u64], handler: bool, start: usize, end: usize) -> Known
+    ensures { λ r. ⌜ r ≡ pass.nameIn (now (text .entry)) (now (notes .entry)) handler (between (now (text .entry)) start end) ⌝ }
+{
+    let word = tokens::between(text, start, end);
+    let mark = mark(word);
+    if handler {
+        return stored_by(text, notes, mark, word);
+    }
+    let value = number_by(text, notes, VALUE, mark, word);
+    if value < many_of(notes, VALUE) {
+        return Known {
+            kind: Node::VALUE,
+            number: value as u64,
+        };
+    }
+    let parameter = number_by(text, notes, PARAMETER, mark, word);
+    if parameter < many_of(notes, PARAMETER) {
+        return Known {
+            kind: Node::PARAMETER,
+            number: parameter as u64,
+        };
+    }
+    stored_by(text, notes, mark, word)
+}
+
+// What `->` goes to.
+pub fn value_target(text: &[u8], notes: &[u64], start: usize, end: usize) -> Known
+    ensures { λ r. ⌜ r ≡ pass.valueTarget (now (text .entry)) (now (notes .entry)) (between (now (text .entry)) start end) ⌝ }
+{
+    let word = tokens::between(text, start, end);
+    let mark = mark(word);
+    let party = number_by(text, notes, PARTY, mark, word);
+    if party < many_of(notes, PARTY) {
+        return Known {
+            kind: Node::PARTY,
+            number: party as u64,
+        };
+    }
+    let field = number_by(text, notes, FIELD, mark, word);
+    if field < many_of(notes, FIELD) {
+        return Known {
+            kind: Node::FIELD,
+            number: field as u64,
+        };
+    }
+    unknown()
+}
+
+// What `-o` goes to.
+pub fn asset_target(text: &[u8], notes: &[u64], handler: bool, start: usize, end: usize) -> Known
+    ensures { λ r. ⌜ r ≡ pass.assetTarget (now (text .entry)) (now (notes .entry)) handler (between (now (text .entry)) start end) ⌝ }
+{
+    let word = tokens::between(text, start, end);
+    let mark = mark(word);
+    let party = number_by(text, notes, PARTY, mark, word);
+    if party < many_of(notes, PARTY) {
+        return Known {
+            kind: Node::PARTY,
+            number: party as u64,
+        };
+    }
+    holder_by(text, notes, handler, mark, word)
+}
+
+// Question 13 where a name is unknown.
+pub fn want(notes: &mut [u64], name: Known, place: usize)
+    ensures { λ _. ⌜ now (notes .exit) ≡ pass.wanted name place (now (notes .entry)) ⌝ }
+{
+    let kind = name.kind;
+    if kind == 0 {
+        find(notes, questions::NAME_KIND, place);
+    }
+}
+
+// ---- Nodes.
+
+// One more node; its size counts the nodes from `before` on.
+pub fn put(table: &mut [u64], notes: &mut [u64], kind: u64, argument: u64, before: usize)
+    ensures { λ _. ⌜ now (table .exit) ≡ (pass.put kind argument before (record { table = now (table .entry); notes = now (notes .entry) })) .table ⌝ }
+    ensures { λ _. ⌜ now (notes .exit) ≡ (pass.put kind argument before (record { table = now (table .entry); notes = now (notes .entry) })) .notes ⌝ }
+{
+    let n = contract::word(notes, WRITTEN) as usize;
+    if n < Contract::NODES {
+        let size = if before < n { n - before + 1 } else { 1 };
+        let at = 8531 + 3 * n;
+        store(table, at, kind);
+        store(table, at + 1, argument);
+        store(table, at + 2, size as u64);
+        store(notes, WRITTEN, n as u64 + 1);
+    }
+}
+
+// A name's node.
+pub fn put_name(table: &mut [u64], notes: &mut [u64], name: Known, place: usize)
+    ensures { λ _. ⌜ now (table .exit) ≡ (pass.putName name place (record { table = now (table .entry); notes = now (notes .entry) })) .table ⌝ }
+    ensures { λ _. ⌜ now (notes .exit) ≡ (pass.putName name place (record { table = now (table .entry); notes = now (notes .entry) })) .notes ⌝ }
+{
+    let before = contract::word(notes, WRITTEN) as usize;
+    count(notes, NODE, place);
+    want(notes, name, place);
+    put(table, notes, name.kind, name.number, before);
+}
+
+// A node without parts that is no name.
+pub fn put_leaf(table: &mut [u64], notes: &mut [u64], kind: u64, argument: u64, place: usize)
+    ensures { λ _. ⌜ now (table .exit) ≡ (pass.putLeaf kind argument place (record { table = now (table .entry); notes = now (notes .entry) })) .table ⌝ }
+    ensures { λ _. ⌜ now (notes .exit) ≡ (pass.putLeaf kind argument place (record { table = now (table .entry); notes = now (notes .entry) })) .notes ⌝ }
+{
+    let before = contract::word(notes, WRITTEN) as usize;
+    count(notes, NODE, place);
+    put(table, notes, kind, argument, before);
+}
+
+// ---- Rows.
+
+// The party of the clause at hand.
+pub fn clause_party(text: &[u8], table: &mut [u64], notes: &mut [u64], start: usize, end: usize)
+    ensures { λ _. ⌜ now (table .exit) ≡ (pass.clauseParty (now (text .entry)) start end (record { table = now (table .entry); notes = now (notes .entry) })) .table ⌝ }
+    ensures { λ _. ⌜ now (notes .exit) ≡ (pass.clauseParty (now (text .entry)) start end (record { table = now (table .entry); notes = now (notes .entry) })) .notes ⌝ }
+{
+    let party = number_of(text, notes, PARTY, start, end);
+    let row = contract::word(notes, CLAUSES) as usize;
+    if row < Contract::CLAUSES {
+        store(table, 5027 + 35 * row, party as u64);
+    }
+    if many_of(notes, PARTY) <= party {
+        find(notes, questions::NAME_KIND, start);
+    }
+}
+
+// A party that a function names, and its number.
+pub fn use_party(text: &[u8], notes: &mut [u64], start: usize, end: usize) -> usize
+    ensures { λ r. ⌜ r ≡ pass.numberIn (now (text .entry)) (now (notes .entry)) 0 (between (now (text .entry)) start end) ⌝ }
+    ensures { λ _. ⌜ now (notes .exit) ≡ pass.partyUsed (now (text .entry)) start end (now (notes .entry)) ⌝ }
+{
+    let party = number_of(text, notes, PARTY, start, end);
+    if many_of(notes, PARTY) <= party {
+        find(notes, questions::NAME_KIND, start);
+    }
+    party
+}
+
+// Its verb: 0 for SET, 1 for OK.
+pub fn clause_verb(table: &mut [u64], notes: &[u64], verb: u64)
+    ensures { λ _. ⌜ now (table .exit) ≡ (pass.clauseVerb verb (record { table = now (table .entry); notes = now (notes .entry) })) .table ⌝ }
+{
+    let row = contract::word(notes, CLAUSES) as usize;
+    if row < Contract::CLAUSES {
+        store(table, 5027 + 35 * row + 1, verb);
+    }
+}
+
+// Field number `field` in the row at `at`, the j-th there.
+fn field_at(table: &mut [u64], notes: &mut [u64], at: usize, j: u64, field: usize)
+    requires { ⌜ at ≤ 300000 ⌝ }
+    ensures { λ _. ⌜ now (table .exit) ≡ (pass.fieldAt at j field (record { table = now (table .entry); notes = now (notes .entry) })) .table ⌝ }
+    ensures { λ _. ⌜ now (notes .exit) ≡ (pass.fieldAt at j field (record { table = now (table .entry); notes = now (notes .entry) })) .notes ⌝ }
+{
+    if j < Contract::FIELDS as u64 {
+        store(table, at + 3 + j as usize, field as u64);
+        store(table, at + 2, j + 1);
+    } else {
+        store(notes, EXCESS, 1);
+    }
+}
+
+// One more field of it.
+pub fn clause_field(text: &[u8], table: &mut [u64], notes: &mut [u64], start: usize, end: usize)
+    ensures { λ _. ⌜ now (table .exit) ≡ (pass.clauseField (now (text .entry)) start end (record { table = now (table .entry); notes = now (notes .entry) })) .table ⌝ }
+    ensures { λ _. ⌜ now (notes .exit) ≡ (pass.clauseField (now (text .entry)) start end (record { table = now (table .entry); notes = now (notes .entry) })) .notes ⌝ }
+{
+    let field = number_of(text, notes, FIELD, start, end);
+    let row = contract::word(notes, CLAUSES) as usize;
+    if many_of(notes, FIELD) <= field {
+        find(notes, questions::NAME_KIND, start);
+    }
+    if row < Contract::CLAUSES {
+        let at = 5027 + 35 * row;
+        let j = contract::word(table, at + 2);
+        field_at(table, notes, at, j, field);
+    }
+}
+
+// The end of the clause at hand.
+pub fn clause_end(notes: &mut [u64])
+    ensures { λ _. ⌜ now (notes .exit) ≡ pass.clauseEnd (now (notes .entry)) ⌝ }
+{
+    let row = contract::word(notes, CLAUSES);
+    if row < Contract::CLAUSES as u64 {
+        store(notes, CLAUSES, row + 1);
+    } else {
+        store(notes, EXCESS, 1);
+    }
+}
+
+// The mark of a function's head.
+fn head_mark(state: usize, party: usize, word: &[u8]) -> u64
+    ensures { λ r. ⌜ r ≡ pass.headMark state party (now (word .entry)) ⌝ }
+{
+    mark(word) + 16777216 * (16 * (state % 256) as u64 + (party % 16) as u64)
+}
+
+fn is_headed(text: &[u8], notes: &[u64], state: usize, party: usize, word: &[u8]) -> bool
+    ensures { λ r. ⌜ r ≡ pass.isHeaded (now (text .entry)) (now (notes .entry)) state party (now (word .entry)) ⌝ }
+{
+    let n = contract::word(notes, FUNCTIONS) as usize;
+    let many = if n < Contract::FUNCTIONS {
+        n
+    } else {
+        Contract::FUNCTIONS
+    };
+    let mark = head_mark(state, party, word);
+    find_from(text, notes, mark, word, 132, many) < many
+}
+
+// Questions 11 and 15 of a function's head.
+fn head_notes(
+    text: &[u8],
+    notes: &mut [u64],
+    place: usize,
+    state: usize,
+    party: usize,
+    start: usize,
+    end: usize,
+)
+    ensures { λ _. ⌜ now (notes .exit) ≡ pass.headNotes (now (text .entry)) place state party start end (now (notes .entry)) ⌝ }
+{
+    let word = tokens::between(text, start, end);
+    let known = is_headed(text, notes, state, party, word);
+    if Contract::FUNCTIONS as u64 <= contract::word(notes, FUNCTIONS) {
+        find(notes, questions::LIMITS, place);
+    }
+    if known {
+        find(notes, questions::FUNCTION_NEW, start);
+    }
+}
+
+// Function i with its state, party and name.
+fn write_head(
+    text: &[u8],
+    table: &mut [u64],
+    notes: &mut [u64],
+    i: usize,
+    state: usize,
+    party: usize,
+    start: usize,
+    end: usize,
+)
+    requires { ⌜ i < 64 ⌝ }
+    ensures { λ _. ⌜ now (table .exit) ≡ (pass.headed (now (text .entry)) i state party start end (record { table = now (table .entry); notes = now (notes .entry) })) .table ⌝ }
+    ensures { λ _. ⌜ now (notes .exit) ≡ (pass.headed (now (text .entry)) i state party start end (record { table = now (table .entry); notes = now (notes .entry) })) .notes ⌝ }
+{
+    let word = tokens::between(text, start, end);
+    let at = 5587 + 43 * i;
+    store(table, at, state as u64);
+    store(table, at + 1, party as u64);
+    write_row(table, at + 10, word);
+    write_slot(notes, 132 + i, head_mark(state, party, word), start, end);
+    store(notes, FUNCTIONS, i as u64 + 1);
+}
+
+// A function's head: its place, its state's and its party's number, its name.
+pub fn head(
+    text: &[u8],
+    table: &mut [u64],
+    notes: &mut [u64],
+    place: usize,
+    state: usize,
+    party: usize,
+    start: usize,
+    end: usize,
+)
+    ensures { λ _. ⌜ now (table .exit) ≡ (pass.head (now (text .entry)) place state party start end (record { table = now (table .entry); notes = now (notes .entry) })) .table ⌝ }
+    ensures { λ _. ⌜ now (notes .exit) ≡ (pass.head (now (text .entry)) place state party start end (record { table = now (table .entry); notes = now (notes .entry) })) .notes ⌝ }
+{
+    let n = contract::word(notes, FUNCTIONS) as usize;
+    head_notes(text, notes, place, state, party, start, end);
+    if n < Contract::FUNCTIONS {
+        write_head(text, table, notes, n, state, party, start, end);
+    }
+    store(notes, VALUE, 0);
+    store(notes, PARAMETER, 0);
+}
+
+// The rest of a function's row.
+pub struct Rest {
+    pub last: usize,
+    pub first: usize,
+    pub precondition: usize,
+    pub body: usize,
+    pub event: usize,
+    pub events: usize,
+}
+
+pub fn function_rest(table: &mut [u64], notes: &[u64], i: usize, rest: Rest)
+    ensures { λ _. ⌜ now (table .exit) ≡ (pass.functionRest i (rest .last) (rest .first) (rest .precondition) (rest .body) (rest .event) (rest .events) (record { table = now (table .entry); notes = now (notes .entry) })) .table ⌝ }
+{
+    if i < Contract::FUNCTIONS {
+        let at = 5587 + 43 * i + 2;
+        store(table, at, rest.last as u64);
+        store(table, at + 1, contract::word(notes, VALUE));
+        store(table, at + 2, contract::word(notes, PARAMETER));
+        store(table, at + 3, rest.first as u64);
+        store(table, at + 4, rest.precondition as u64);
+        store(table, at + 5, rest.body as u64);
+        store(table, at + 6, rest.event as u64);
+        store(table, at + 7, rest.events as u64);
+    }
+}
+
+// An event's row.
+pub fn event_row(table: &mut [u64], i: usize, state: usize, last: usize, node: usize)
+    ensures { λ _. ⌜ now (table .exit) ≡ pass.eventRow i state last node (now (table .entry)) ⌝ }
+{
+    if i < Contract::EVENTS {
+        let at = 8339 + 3 * i;
+        store(table, at, state as u64);
+        store(table, at + 1, last as u64);
+        store(table, at + 2, node as u64);
+    }
+}
+
+// The contract's name.
+pub fn title(text: &[u8], table: &mut [u64], start: usize, end: usize)
+    ensures { λ _. ⌜ now (table .exit) ≡ pass.title (now (text .entry)) start end (now (table .entry)) ⌝ }
+{
+    write_row(table, 10, tokens::between(text, start, end));
+}
+
+// How many there are of each, and the initial state.
+pub fn write_counts(table: &mut [u64], notes: &[u64], initial: usize)
+    ensures { λ _. ⌜ now (table .exit) ≡ pass.counts initial (now (notes .entry)) (now (table .entry)) ⌝ }
+{
+    store(table, 0, contract::word(notes, PARTY));
+    store(table, 1, contract::word(notes, ASSET));
+    store(table, 2, contract::word(notes, FIELD));
+    store(table, 3, contract::word(notes, STATE));
+    store(table, 4, contract::word(notes, STRING));
+    store(table, 5, contract::word(notes, CLAUSES));
+    store(table, 6, contract::word(notes, FUNCTIONS));
+    store(table, 7, contract::word(notes, EVENT));
+    store(table, 8, contract::word(notes, WRITTEN));
+    store(table, 9, initial as u64);
+}
+
+// A table of zeros.
+pub fn clear(table: &mut [u64])
+    ensures { λ _. ⌜ now (table .exit) ≡ zeros (length (now (table .entry))) ⌝ }
+{
+    let mut i: usize = 0;
+    while i < table.len() {
+        table[i] = 0;
+        i += 1;
+    }
+}

@@ -1,0 +1,39 @@
+-- `lines::name` meets its contract. Assumes nothing.
+use borrow.Author.Needs.{needs}
+use Rattle.lines.proofs.name.Statement.{statement}
+use Rattle.lines.proofs.name.Tie as tie
+use mathlib.Core.Path.{sym, ap, _∙_}
+use Rattle.tokens.specs.Classes.{isLetter}
+use Rattle.lines.specs.Steps.{nameOf}
+use Rattle.lines.proofs.Parse.{name-some, name-none}
+
+skip-requires : tie.Need-skip-requires
+skip-requires c κs = search needs
+
+byte-at-requires : tie.Need-byte-at-requires
+byte-at-requires c κs = search needs
+
+is-letter-requires : tie.Need-is-letter-requires
+is-letter-requires c κs = search needs
+
+name-end-requires : tie.Need-name-end-requires
+name-end-requires c κs = search needs
+
+returns : tie.Need-returns
+returns c =
+    sym (ap nameOf (name-some _ _ (c .before .before .before .before .skip .ensures) (ap isLetter (sym (c .before .before .before .byte-at .ensures)) ∙ sym (c .before .before .is-letter .ensures) ∙ c .before .if1 .taken) (c .name-end .ensures)))
+
+returns-2 : tie.Need-returns-2
+returns-2 c =
+    sym (ap nameOf (name-none _ _ (c .before .before .before .skip .ensures) (ap isLetter (sym (c .before .before .byte-at .ensures)) ∙ sym (c .before .is-letter .ensures) ∙ c .if1 .left)))
+
+pub name-spec : {M : Type 1} → statement M
+name-spec =
+    tie.close
+    (tie.spec
+    skip-requires
+    byte-at-requires
+    is-letter-requires
+    name-end-requires
+    returns
+    returns-2)

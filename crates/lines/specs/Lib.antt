@@ -1,0 +1,3 @@
+pub mod Lines
+pub mod Answers
+pub mod Steps

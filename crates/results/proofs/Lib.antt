@@ -1,0 +1,10 @@
+-- What the code's proofs use.
+pub mod Puts
+pub mod Digits
+pub mod Rows
+pub mod Ranges
+pub mod Texts
+pub mod Assembled
+-- What holds of the definitions.
+pub mod Worked
+pub mod ReadBack

@@ -1,0 +1,82 @@
+-- Runs of stores, one after the other. Assumes nothing.
+use mathlib.Core.Path.{_≡_, refl, sym, ap, subst, _∙_}
+use mathlib.Core.List.{List, [], _∷_, _++_, append-assoc}
+use Prim.Native.Nat.{ℕ, suc, _+_, _<_, _≤_}
+use native.Mathlib.Omega.{arith}
+use native.Mathlib.Nat.{add-zero, zero-add}
+use lib.ListN.{length, set, drop, getD, length-append, drop-of-length-le}
+use lib.Seq.{sets, sets-eq, set-comm, length-sets}
+use Rattle.laws.proofs.Lists.{cons-at}
+use Rattle.results.specs.Stores.{Put}
+
+-- ---- stores
+
+sets-then : (u v old : List ℕ) (at : ℕ) → sets (sets old at u) (at + length u) v ≡ sets old at (u ++ v)
+sets-then [] v old at = ap (λ (k : ℕ). sets old k v) (add-zero at)
+sets-then (x ∷ u) v old at =
+    let e : at + suc (length u) ≡ suc at + length u = omega arith in
+    ap (λ (k : ℕ). sets (sets (set old at x) (suc at) u) k v) e ∙ sets-then u v (set old at x) (suc at)
+
+-- a store behind a run comes before it or after it
+sets-set : (u old : List ℕ) (at j x : ℕ) → at + length u ≤ j → sets (set old j x) at u ≡ set (sets old at u) j x
+sets-set [] old at j x h = refl
+sets-set (y ∷ u) old at j x h =
+    let d : j ≡ at → ⊥ = λ e. omega arith in
+    ap (λ (l : List ℕ). sets l (suc at) u) (set-comm old j at x y d) ∙ sets-set u (set old at y) (suc at) j x (omega arith)
+
+-- the last element of a run stored first
+pub sets-last : (u old : List ℕ) (at x : ℕ) → sets (set old (at + length u) x) at u ≡ sets old at (u ++ (x ∷ []))
+sets-last u old at x =
+    let h : at + length u ≤ at + length u = omega arith in
+    sets-set u old at (at + length u) x h ∙ sets-then u (x ∷ []) old at
+
+-- ---- a word stored one byte a turn
+
+pub store-next : (new w : List ℕ) (at i : ℕ) → i < length w
+    → sets (set new (at + i) (getD w i 0)) (at + (i + 1)) (drop (i + 1) w) ≡ sets new (at + i) (drop i w)
+store-next new w at i h =
+    let e : at + (i + 1) ≡ suc (at + i) = omega arith in
+    rw (e, cons-at w i h)
+
+pub stored : {old new : List ℕ} (w : List ℕ) (at i n : ℕ) → sets new (at + i) (drop i w) ≡ sets old at w → length w ≤ i → n ≡ length w
+    → at + length w ≤ length old → Put old at w (at + n) new
+stored {old} {new} w at i n e l h r =
+    record {
+      place = ap (λ (k : ℕ). at + k) h;
+      list = sym (ap (λ (v : List ℕ). sets new (at + i) v) (drop-of-length-le w l)) ∙ e;
+      room = r;
+    }
+
+-- ---- pieces of a line
+
+pub one-byte : (old : List ℕ) (at b : ℕ) → at + 1 ≤ length old → Put old at (b ∷ []) (at + 1) (set old at b)
+one-byte old at b h = record { place = refl; list = refl; room = h }
+
+-- stores keep the length
+pub kept : {old w new : List ℕ} {at n : ℕ} → Put old at w n new → length new ≡ length old
+kept {old} {w} {new} {at} {n} p = ap length (p .list) ∙ length-sets old at w
+
+module _ {old : List ℕ} {at : ℕ} where
+  pub then : {u v mid new : List ℕ} {m n : ℕ} → Put old at u m mid → Put mid m v n new → Put old at (u ++ v) n new
+  then {u} {v} {mid} {new} {m} {n} p q =
+      record {
+        place = omega (arith, p .place, q .place, length-append u v);
+        list = q .list ∙ (λ i. sets (p .list i) (p .place i) v) ∙ sets-then u v old at;
+        room = omega (arith, p .place, q .room, kept p, length-append u v);
+      }
+
+  pub same : {u v new : List ℕ} {n : ℕ} → u ≡ v → Put old at u n new → Put old at v n new
+  same {u} {v} {new} {n} e p = subst (λ (w : List ℕ). Put old at w n new) e p
+
+  -- three pieces stored as one
+  pub apart : (a b c rest : List ℕ) {new : List ℕ} {n : ℕ} → Put old at ((a ++ (b ++ c)) ++ rest) n new → Put old at (a ++ (b ++ (c ++ rest))) n new
+  apart a b c rest p = same (append-assoc a (b ++ c) rest ∙ ap (λ (l : List ℕ). a ++ l) (append-assoc b c rest)) p
+
+-- from the first place on
+pub over : {old line new : List ℕ} {n : ℕ} → Put old 0 line n new → new ≡ line ++ drop n old
+over {old} {line} {new} {n} p =
+    let e : length line ≡ n = omega (arith, p .place) in
+    p .list ∙ sets-eq line old 0 (p .room) ∙ ap (λ (k : ℕ). line ++ drop k old) (zero-add (length line) ∙ e)
+
+pub line-end : {old line new : List ℕ} {n : ℕ} → Put old 0 line n new → n ≡ length line
+line-end {old} {line} {new} {n} p = omega (arith, p .place)

@@ -1,0 +1,166 @@
+-- Names and strings of a table that passes. Assumes nothing.
+use mathlib.Core.Path.{_≡_, sym, ap, subst, _∙_}
+use mathlib.Core.Bool.{Bool, true, false}
+use mathlib.Core.List.{List, [], _∷_}
+use Prim.Native.Nat.{ℕ, zero, suc, _+_, _-_, _*_, _%_, _<_, _≤_}
+use native.Mathlib.Omega.{arith}
+use native.Mathlib.Nat.{zero-add}
+use lib.ListN.{length, getD, set, drop, length-take, length-drop}
+use lib.Seq.{sets, getD-take, getD-drop}
+use lib.Dec.{ltb, leb}
+use borrow.Author.Tests.{ltb-true, ltb-false, le-leb, lt-leb, ne-eqb, leb-true}
+use Rattle.laws.specs.Choice.{pick}
+use Rattle.laws.proofs.Choice.{true-false}
+use Rattle.tokens.specs.Classes.{within, isLetter, isDigit, isNameByte, isPrintable, isStringByte}
+use Rattle.contract.specs.Table.{wordAt}
+use Rattle.contract.specs.Decode.{wordOf, contractOf}
+use Rattle.contract.specs.Check.{allBelow, ranges, nameOk, stringOk, namesOk, passes}
+use Rattle.contract.proofs.Fitting.{link}
+use Rattle.contract.proofs.Inversions.{by-test, ranges-of, below-at}
+use Rattle.contract.proofs.Members.{getD-each}
+use Rattle.contract.proofs.Sound.{passed, counts}
+use Rattle.results.specs.Stores.{Put, NameAt}
+use Rattle.results.proofs.Puts.{store-next, stored}
+
+-- ---- bytes
+
+no-name-byte : (b : ℕ) → 256 ≤ b → isNameByte b ≡ false
+unfolding isNameByte isLetter isDigit within pick
+no-name-byte b h =
+    simp (le-leb 97 b (omega arith), lt-leb b 122 (omega arith), le-leb 65 b (omega arith), lt-leb b 90 (omega arith), le-leb 48 b (omega arith), lt-leb b 57 (omega arith), ne-eqb b 95 (λ e. omega arith))
+
+no-letter : (b : ℕ) → 256 ≤ b → isLetter b ≡ false
+unfolding isLetter within pick
+no-letter b h = simp (le-leb 97 b (omega arith), lt-leb b 122 (omega arith), le-leb 65 b (omega arith), lt-leb b 90 (omega arith))
+
+no-string-byte : (b : ℕ) → 256 ≤ b → isStringByte b ≡ false
+unfolding isStringByte isPrintable within pick
+no-string-byte b h = simp (ne-eqb b 34 (λ e. omega arith), le-leb 32 b (omega arith), lt-leb b 126 (omega arith))
+
+below : (p : ℕ → Bool) → ((b : ℕ) → 256 ≤ b → p b ≡ false) → (b : ℕ) → p b ≡ true → b < 256
+below p outside b e = by-test (ltb b 256) (ltb-true b 256) λ t. true-false (sym e ∙ outside b (ltb-false b 256 t))
+
+-- ---- rows
+
+name-word : (w : List ℕ) (o : ℕ) → nameOk w o ≡ true → o + 33 ≤ length w → NameAt w o × (wordAt w o ≤ 32)
+unfolding nameOk
+name-word w o e h =
+    let n = wordAt w o in
+    let t = link (ranges 1 n 32 ∷ isLetter (wordAt w (o + 1)) ∷ allBelow (n - 1) (λ j. isNameByte (wordAt w (o + 2 + j))) ∷ []) e in
+    let r = ranges-of 1 n 32 (t 0) in
+    let few : n ≤ 32 = r .1 in (
+      record {
+        whole = omega arith;
+        byte = λ i l. by-place i l
+            (below isLetter no-letter (wordAt w (o + 1)) (t 1))
+            (λ j m. below isNameByte no-name-byte (wordAt w (o + 2 + j)) (below-at (n - 1) (λ j. isNameByte (wordAt w (o + 2 + j))) (t 2) j m));
+      },
+      few,
+    )
+  where
+    by-place : (i : ℕ) → i < wordAt w o → wordAt w (o + 1) < 256 → ((j : ℕ) → j < wordAt w o - 1 → wordAt w (o + 2 + j) < 256) → wordAt w (o + 1 + i) < 256
+    by-place zero l f g = let q : o + 1 ≡ o + 1 + 0 = omega arith in subst (λ (k : ℕ). wordAt w k < 256) q f
+    by-place (suc i) l f g = let q : o + 2 + i ≡ o + 1 + suc i = omega arith in subst (λ (k : ℕ). wordAt w k < 256) q (g i (omega arith))
+
+string-word : (w : List ℕ) (o : ℕ) → stringOk w o ≡ true → o + 65 ≤ length w → NameAt w o × (wordAt w o ≤ 64)
+unfolding stringOk
+string-word w o e h =
+    let n = wordAt w o in
+    let p : ℕ → Bool = λ j. isStringByte (wordAt w (o + 1 + j)) in
+    let t = link (leb n 64 ∷ allBelow n p ∷ []) e in
+    let few : n ≤ 64 = leb-true n 64 (t 0) in (
+      record {
+        whole = omega arith;
+        byte = λ i l. below isStringByte no-string-byte (wordAt w (o + 1 + i)) (below-at n p (t 1) i l);
+      },
+      few,
+    )
+
+-- word i of a list of names stands at o, and has at most so many bytes
+pub record Row (w : List ℕ) (names : List (List ℕ)) (i o most : ℕ) : Type 0 where
+  pub word : NameAt w o
+  pub few : wordAt w o ≤ most
+  pub name : getD names i [] ≡ wordOf w o
+  pub low : o ≤ 20819
+
+pub word-long : (w : List ℕ) (o : ℕ) → NameAt w o → length (wordOf w o) ≡ wordAt w o
+word-long w o h = simp (length-take, length-drop) (omega (arith, h .whole))
+
+-- one turn of storing the word at o, and its end
+module _ (w : List ℕ) (o : ℕ) (at i : ℕ) (h : NameAt w o) where
+  pub store-byte : (new : List ℕ) → i < wordAt w o
+      → sets (set new (at + i) (wordAt w (o + 1 + i) % 256)) (at + (i + 1)) (drop (i + 1) (wordOf w o)) ≡ sets new (at + i) (drop i (wordOf w o))
+  store-byte new l =
+      let b : wordAt w (o + 1 + i) < 256 = h .byte i l in
+      let e : wordAt w (o + 1 + i) % 256 ≡ wordAt w (o + 1 + i) = omega arith in
+      let g : wordAt w (o + 1 + i) ≡ getD (wordOf w o) i 0 = sym (getD-take (wordAt w o) (drop (o + 1) w) i 0 l ∙ getD-drop (o + 1) w i 0) in
+      ap (λ (x : ℕ). sets (set new (at + i) x) (at + (i + 1)) (drop (i + 1) (wordOf w o))) (e ∙ g)
+      ∙ store-next new (wordOf w o) at i (omega (arith, word-long w o h))
+
+  pub stored-name : {old new : List ℕ} → sets new (at + i) (drop i (wordOf w o)) ≡ sets old at (wordOf w o) → wordAt w o ≤ i → at + wordAt w o ≤ length old
+      → Put old at (wordOf w o) (at + wordAt w o) new
+  stored-name e l r = stored (wordOf w o) at i (wordAt w o) e (omega (arith, word-long w o h)) (sym (word-long w o h)) (omega (arith, word-long w o h))
+
+pub record Names (w : List ℕ) : Type 0 where
+  pub parties : allBelow (wordAt w 0) (λ i. nameOk w (43 + i * 33)) ≡ true
+  pub assets : allBelow (wordAt w 1) (λ i. nameOk w (307 + i * 33)) ≡ true
+  pub states : allBelow (wordAt w 3) (λ i. nameOk w (1891 + i * 33)) ≡ true
+  pub strings : allBelow (wordAt w 4) (λ i. stringOk w (2947 + i * 65)) ≡ true
+
+names : (w : List ℕ) → namesOk w ≡ true → Names w
+unfolding namesOk
+names w e =
+    let t =
+    link
+    (nameOk w 10
+    ∷ allBelow (wordAt w 0) (λ i. nameOk w (43 + i * 33))
+    ∷ allBelow (wordAt w 1) (λ i. nameOk w (307 + i * 33))
+    ∷ allBelow (wordAt w 2) (λ i. nameOk w (835 + i * 33))
+    ∷ allBelow (wordAt w 3) (λ i. nameOk w (1891 + i * 33))
+    ∷ allBelow (wordAt w 4) (λ i. stringOk w (2947 + i * 65))
+    ∷ [])
+    e in
+    record { parties = t 1; assets = t 2; states = t 4; strings = t 5 }
+
+module _ (w : List ℕ) (e : passes w ≡ true) (i : ℕ) where
+  row-of : (n start limit : ℕ) → allBelow n (λ i. nameOk w (start + i * 33)) ≡ true → n ≤ limit → start + limit * 33 ≤ 20819 → i < n
+      → (l : List (List ℕ)) → getD l i [] ≡ wordOf w (start + i * 33) → Row w l i (start + i * 33) 32
+  row-of n start limit a b c h l q =
+      let long : length w ≡ 20819 = passed w e .long in
+      let r = name-word w (start + i * 33) (below-at n (λ i. nameOk w (start + i * 33)) a i h) (omega arith) in
+      record { word = r .0; few = r .1; name = q; low = omega arith }
+
+  pub party-row : i < length (contractOf w .parties) → Row w (contractOf w .parties) i (43 + i * 33) 32
+  unfolding contractOf
+  party-row h =
+      let k : i < wordAt w 0 = omega (arith, counts w .parties) in
+      row-of (wordAt w 0) 43 8 (names w (passed w e .names) .parties) (passed w e .head .parties) (omega arith) k _
+      (getD-each 0 (wordAt w 0) (λ i. wordOf w (43 + i * 33)) i [] k ∙ ap (λ (j : ℕ). wordOf w (43 + j * 33)) (zero-add i))
+
+  pub asset-row : i < length (contractOf w .assets) → Row w (contractOf w .assets) i (307 + i * 33) 32
+  unfolding contractOf
+  asset-row h =
+      let k : i < wordAt w 1 = omega (arith, counts w .assets) in
+      row-of (wordAt w 1) 307 16 (names w (passed w e .names) .assets) (passed w e .head .assets) (omega arith) k _
+      (getD-each 0 (wordAt w 1) (λ i. wordOf w (307 + i * 33)) i [] k ∙ ap (λ (j : ℕ). wordOf w (307 + j * 33)) (zero-add i))
+
+  pub state-row : i < length (contractOf w .states) → Row w (contractOf w .states) i (1891 + i * 33) 32
+  unfolding contractOf
+  state-row h =
+      let k : i < wordAt w 3 = omega (arith, counts w .states) in
+      row-of (wordAt w 3) 1891 32 (names w (passed w e .names) .states) (passed w e .head .states) (omega arith) k _
+      (getD-each 0 (wordAt w 3) (λ i. wordOf w (1891 + i * 33)) i [] k ∙ ap (λ (j : ℕ). wordOf w (1891 + j * 33)) (zero-add i))
+
+  pub string-row : i < length (contractOf w .strings) → Row w (contractOf w .strings) i (2947 + i * 65) 64
+  unfolding contractOf
+  string-row h =
+      let k : i < wordAt w 4 = omega (arith, counts w .strings) in
+      let long : length w ≡ 20819 = passed w e .long in
+      let few : wordAt w 4 ≤ 32 = passed w e .head .strings in
+      let r = string-word w (2947 + i * 65) (below-at (wordAt w 4) (λ i. stringOk w (2947 + i * 65)) (names w (passed w e .names) .strings) i k) (omega arith) in
+      record {
+        word = r .0;
+        few = r .1;
+        name = getD-each 0 (wordAt w 4) (λ i. wordOf w (2947 + i * 65)) i [] k ∙ ap (λ (j : ℕ). wordOf w (2947 + j * 65)) (zero-add i);
+        low = omega arith;
+      }

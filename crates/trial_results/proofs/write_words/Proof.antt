@@ -1,0 +1,69 @@
+-- `trial_results::write_words` meets its contract. Assumes nothing.
+use borrow.Author.Needs.{needs}
+use Prim.Native.Nat.{_-_}
+use mathlib.Core.Path.{_≡_, _∙_}
+use native.Mathlib.Omega.{arith}
+use lib.ListN.{length}
+use Rattle.trial_results.proofs.write_words.Statement.{statement}
+use Rattle.trial_results.proofs.write_words.Tie as tie
+
+abbrev Inv-loop : tie.InvT-loop
+Inv-loop line table₀ at₀ i₀ table at i =
+    length table ≡ length table₀
+
+abbrev μ-loop : tie.MeasureT-loop
+μ-loop line table₀ at₀ i₀ table at i =
+    length line - i
+
+number-at-requires : tie.Need-number-at-requires Inv-loop μ-loop
+number-at-requires c κs = search needs
+
+loop-holds : tie.Need-loop-holds Inv-loop μ-loop
+loop-holds c = search needs
+
+same-length : tie.Need-same-length Inv-loop μ-loop
+same-length c = c .before .before .loop .inv
+
+returns : tie.Need-returns Inv-loop μ-loop
+returns c = search needs
+
+number-at-requires-2 : tie.Need-number-at-requires-2 Inv-loop μ-loop
+number-at-requires-2 c κs = search needs
+
+put-requires : tie.Need-put-requires Inv-loop μ-loop
+put-requires c κs = search needs
+
+add-at : tie.Need-add-at Inv-loop μ-loop
+add-at c = search needs
+
+loop-less : tie.Need-loop-less Inv-loop μ-loop
+loop-less c =
+    omega (arith, c .before .before .before .before .number-at2 .ensures (c .before .before .before .before .before .before .loop-test .taken))
+
+loop-again : tie.Need-loop-again Inv-loop μ-loop
+loop-again c =
+    c .before .before .put .kept .0 ∙ c .before .before .before .before .before .before .before .loop .inv
+
+same-length-2 : tie.Need-same-length-2 Inv-loop μ-loop
+same-length-2 c = c .before .loop .inv
+
+returns-2 : tie.Need-returns-2 Inv-loop μ-loop
+returns-2 c = search needs
+
+pub write-words-spec : {M : Type 1} → statement M
+write-words-spec =
+    tie.close
+    (tie.spec
+    Inv-loop
+    μ-loop
+    number-at-requires
+    loop-holds
+    same-length
+    returns
+    number-at-requires-2
+    put-requires
+    add-at
+    loop-less
+    loop-again
+    same-length-2
+    returns-2)
