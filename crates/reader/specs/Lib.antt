@@ -4,3 +4,5 @@ pub mod Items
 pub mod Rules
 pub mod Resolve
 pub mod Reading
+pub mod Masks
+pub mod Walk
