@@ -1,5 +1,5 @@
 -- The first slot that has a word. Assumes nothing.
-use mathlib.Core.Path.{_≡_, refl, sym, ap, _∙_}
+use mathlib.Core.Path.{_≡_, refl, sym, ap, subst, _∙_}
 use mathlib.Core.Bool.{true, false}
 use mathlib.Core.List.{List, [], _∷_}
 use Prim.Native.Nat.{ℕ, zero, suc, _+_, _-_, _*_, _%_, _<_, _≤_}
@@ -12,7 +12,7 @@ use Rattle.laws.specs.Bytes.{sameBytes}
 use Rattle.laws.proofs.Choice.{pick-true, pick-false}
 use Rattle.laws.proofs.Lists.{cons-at}
 use Rattle.tokens.specs.Tokens.{between}
-use Rattle.entries.specs.Pass.{slotIs, findFrom, numberIn, amongIn, isDeclared, markOf, slotOf, knownCount}
+use Rattle.entries.specs.Pass.{slotIs, findFrom, Skips, numberIn, amongIn, isDeclared, markOf, slotOf, knownCount}
 
 -- ---- one turn of the comparison, and its end
 module _ (a b : List ℕ) (i : ℕ) where
@@ -107,3 +107,37 @@ module _ (s n : List ℕ) (j m x : ℕ) (w : List ℕ) (f : x ≡ getD n (16 + 3
   slot-same a e b h g k l =
       ap (λ (v : List ℕ). sameBytes v w) (l ∙ (λ i. between s (g i) (k i)))
       ∙ sym (pick-true _ _ _ (sym (ap (λ (v : ℕ). eqb v m) f) ∙ eq-eqb x m h))
+
+-- ---- slots without a mark are skipped
+module _ (n : List ℕ) (m j many : ℕ) where
+  pub skip-none : Skips n m j 0 many 0
+  unfolding Skips
+  skip-none = (omega arith, λ s w. refl)
+
+  pub skip-most : (i : ℕ) → Skips n m j 0 many i → i ≤ many
+  unfolding Skips
+  skip-most i h = h .0
+
+  pub skip-to : (s w : List ℕ) (i : ℕ) → Skips n m j 0 many i → findFrom s n m w j 0 many ≡ findFrom s n m w j i (many - i)
+  unfolding Skips
+  skip-to s w i h = find-none s n w m j many ∙ h .1 s w
+
+  pub skip-one : (i : ℕ) → Skips n m j 0 many i → i < many → (getD n (16 + 3 * (j + i)) 0 ≡ m → ⊥) → Skips n m j 0 many (i + 1)
+  unfolding Skips
+  skip-one i h l d =
+      (omega (arith, l), λ s w. h .1 s w ∙ find-more s n m w j i many l (sym (slot-other s n (j + i) m (getD n (16 + 3 * (j + i)) 0) w refl d)))
+
+  pub skip-two :
+      (i : ℕ) → Skips n m j 0 many i → i + 1 < many → (getD n (16 + 3 * (j + i)) 0 ≡ m → ⊥) → (getD n (16 + 3 * (j + i) + 3) 0 ≡ m → ⊥) →
+      Skips n m j 0 many (i + 2)
+  skip-two i h l d e =
+      let k : i < many = omega (arith, l) in
+      let p : 16 + 3 * (j + i) + 3 ≡ 16 + 3 * (j + (i + 1)) = omega arith in
+      let q : i + 1 + 1 ≡ i + 2 = omega arith in
+      subst (Skips n m j 0 many) q (skip-one (i + 1) (skip-one i h k d) l (λ f. e (ap (λ (x : ℕ). getD n x 0) p ∙ f)))
+
+  pub skip-end : (i : ℕ) → Skips n m j 0 many i → many ≤ i → Skips n m j 0 many many
+  skip-end i h l =
+      let k : i ≤ many = skip-most i h in
+      let e : i ≡ many = omega (arith, l, k) in
+      subst (Skips n m j 0 many) e h

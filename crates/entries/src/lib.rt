@@ -167,13 +167,47 @@ fn slot_is(text: &[u8], notes: &[u64], slot: usize, mark: u64, word: &[u8]) -> b
     same_bytes(tokens::between(text, start, end), word)
 }
 
+fn less_one(n: usize) -> usize
+    ensures { λ r. ⌜ r ≡ n - 1 ⌝ }
+{
+    if 0 < n { n - 1 } else { 0 }
+}
+
+// A slot before which none has this mark: the first that has it, two slots a turn, or `many`; the first of all in short notes.
+fn find_mark(notes: &[u64], mark: u64, slot: usize, many: usize) -> usize
+    requires { ⌜ (slot ≤ 132) × (many ≤ 4096) ⌝ }
+    ensures { λ r. ⌜ pass.Skips (now (notes .entry)) mark slot 0 many r ⌝ }
+{
+    if notes.len() < 16 + 3 * (slot + many) {
+        return 0;
+    }
+    let last = less_one(many);
+    let mut i: usize = 0;
+    while i < last {
+        let at = 16 + 3 * (slot + i);
+        if notes[at] == mark {
+            return i;
+        }
+        if notes[at + 3] == mark {
+            return i + 1;
+        }
+        i += 2;
+    }
+    if i < many {
+        if notes[16 + 3 * (slot + i)] == mark {
+            return i;
+        }
+    }
+    many
+}
+
 // The first of so many slots that has this mark and these bytes.
 fn find_from(text: &[u8], notes: &[u64], mark: u64, word: &[u8], slot: usize, many: usize) -> usize
     requires { ⌜ (slot ≤ 132) × (many ≤ 4096) ⌝ }
     ensures { λ r. ⌜ r ≡ pass.findFrom (now (text .entry)) (now (notes .entry)) mark (now (word .entry)) slot 0 many ⌝ }
     ensures { λ r. ⌜ r ≤ many ⌝ }
 {
-    let mut i: usize = 0;
+    let mut i = find_mark(notes, mark, slot, many);
     while i < many {
         if slot_is(text, notes, slot + i, mark, word) {
             return i;

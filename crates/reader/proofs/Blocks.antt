@@ -2,8 +2,8 @@
 use mathlib.Core.Path.{_≡_, refl, sym, ap, subst, _∙_}
 use mathlib.Core.Bool.{Bool, true, false}
 use mathlib.Core.Logic.{_⊎_, inl, inr, ⊎-elim}
-use mathlib.Core.List.{List, [], _∷_}
-use Prim.Native.Nat.{ℕ, zero, suc, _+_, _-_, _<_, _≤_}
+use mathlib.Core.List.{List}
+use Prim.Native.Nat.{ℕ, zero, suc, _-_, _<_, _≤_}
 use native.Mathlib.Omega.{arith}
 use lib.ListN.{length}
 use lib.Dec.{eqb}
@@ -16,7 +16,7 @@ use Rattle.contract.specs.Table.{valueMoveKind, assetMoveKind, wholeMoveKind, c
 use Rattle.entries.specs.declared.Known.{Known}
 use Rattle.entries.specs.Pass.{Pass, note, counted, holderIn, valueTarget, assetTarget, wanted, put, putName}
 use Rattle.reader.specs.Grammar.{isOneOf, itemStarts}
-use Rattle.reader.specs.Walk.{Walk, on, stop, Leaves, pass, follow, after, nodes, counting, cursorAt, nextOf, token, closedBy, enclosed, expression, condition, sends, sourced, targeted, moves, movesAll, wholeNotes, wholeBy, assetMove, isAlone, action, statement, statements, braces, conditional}
+use Rattle.reader.specs.Walk.{Walk, on, stop, Leaves, pass, follow, after, nodes, counting, cursorAt, nextOf, token, closedBy, enclosed, expression, condition, sends, sourced, targeted, moves, movesAll, wholeNotes, assetMove, isAlone, action, statement, statements, braces, conditional}
 use Rattle.reader.specs.declared.Cursor.{Cursor}
 use Rattle.reader.specs.declared.Step.{Step}
 use Rattle.reader.specs.declared.Step.the-variants.{On, Stop}

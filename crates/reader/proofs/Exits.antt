@@ -1,7 +1,7 @@
 -- What the pass leaves of functions, one law for each way out of a function. Assumes nothing.
 use mathlib.Core.Path.{_≡_, refl, sym, ap, subst, _∙_}
-use mathlib.Core.Bool.{Bool, true, false}
-use mathlib.Core.List.{List, [], _∷_}
+use mathlib.Core.Bool.{true, false}
+use mathlib.Core.List.{List, []}
 use Prim.Native.Nat.{ℕ, zero, suc, _+_, _-_, _<_, _≤_}
 use native.Mathlib.Omega.{arith}
 use lib.ListN.{length, set}
@@ -12,7 +12,6 @@ use Rattle.laws.proofs.Choice.{pick-true, pick-false, by-cases}
 use Rattle.words.specs.Words.{stateArrow, eventMark, openParen, closeParen, openBrace, closeBrace, openBracket, closeBracket, colon, atSign}
 use Rattle.tokens.specs.Tokens.{between}
 use Rattle.contract.specs.Table.{eventKind}
-use Rattle.entries.specs.declared.Rest.{Rest}
 use Rattle.entries.specs.Pass.{Pass, note, counted, numberIn, partyUsed, put, withNotes, head, functionRest, eventRow}
 use Rattle.reader.specs.Grammar.{isOneOf, itemStarts}
 use Rattle.reader.specs.Walk.{Walk, on, stop, Leaves, pass, follow, after, nodes, counting, noting, cursorAt, nextOf, token, nameHere, stateAt, stated, stateNumber, enclosed, closedBy, expression, condition, names, action, braces, conditional, eventWritten, eventEnd, event, bodyGrows, oneMore, bodyRest, bodyConditional, bodyItem, bodyItems, begun, body, parameterNames, parametersIn, precondition, headOf, functionHead, functionParts, functionLast, functionEnd, function, functions}

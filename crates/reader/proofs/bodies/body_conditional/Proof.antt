@@ -1,91 +1,54 @@
+-- `reader::bodies::body_conditional` meets its contract. Assumes nothing.
 use borrow.Author.Needs.{needs}
 use Rattle.reader.proofs.bodies.body_conditional.Statement.{statement}
 use Rattle.reader.proofs.bodies.body_conditional.Tie as tie
-use Rattle.reader.proofs.bodies.body_conditional.Reads as reads
-use Rattle.reader.proofs.bodies.body_conditional.Lts as lts
-use Rattle.contract.proofs.word.Reads as word-reads
-use Rattle.reader.proofs.bodies.grow.Reads as grow-reads
-use Rattle.reader.proofs.statements.conditional.Reads as conditional-reads
-use Rattle.reader.proofs.unfit.Reads as unfit-reads
 use Rattle.reader.proofs.Exits as parts
 
--- src/bodies.rt:108:8
-word-requires : tie.Need-word-requires
-word-requires c κs = search needs
-
--- src/bodies.rt:109:9
-unfit-requires : tie.Need-unfit-requires
-unfit-requires c κs = search needs
-
--- src/bodies.rt:109:9
-same-length : tie.Need-same-length
-same-length c = search needs
-
--- src/bodies.rt:109:9
 returns : tie.Need-returns
 returns c =
-    let z = c .before .before .before .before .before .before .before .args in
-    parts.body-late (z .text .now) (z .from) (z .c) (z .table .now) (z .notes .now) _ (c .before .before .word .ensures) _ _ _ (c .before .if1 .taken) (c .unfit .ensures)
+    let c2 = c .before .before in
+    let c7 = c2 .before .before .before .before .before in
+    let z = c7 .args in
+    parts.body-late (z .text .now) (z .from) (z .c) (z .table .now) (z .notes .now) _ (c2 .word .ensures) _ _ _ (c .before .if1 .taken)
+    (c .unfit .ensures)
 
--- src/bodies.rt:111:9
-conditional-requires : tie.Need-conditional-requires
-conditional-requires c κs = search needs
-
--- src/bodies.rt:112:18
-enum-known-r : tie.Need-enum-known-r
-enum-known-r c = search needs
-
--- src/bodies.rt:113:9
-enum-told : tie.Need-enum-told
-enum-told c = search needs
-
--- src/bodies.rt:113:9
-same-length-2 : tie.Need-same-length-2
-same-length-2 c = search needs
-
--- src/bodies.rt:113:9
-same-length-3 : tie.Need-same-length-3
-same-length-3 c = search needs
-
--- src/bodies.rt:113:9
 returns-2 : tie.Need-returns-2
 returns-2 c =
-    let z = c .before .before .before .before .before .before .before .before .before .before .before .before .before .before .before .args in
-    parts.body-stops (z .text .now) (z .from) (z .c) (z .table .now) (z .notes .now) _ (c .before .before .before .before .before .before .before .before .before .before .word .ensures) (c .before .before .before .before .before .before .before .before .before .if1 .left) _ _ _ (c .before .before .before .before .before .before .conditional .ensures) _ _ _ _ (c .enum-told .given .1)
+    let c6 = c .before .before .before .before .before .before in
+    let c9 = c6 .before .before .before in
+    let c10 = c9 .before in
+    let c15 = c10 .before .before .before .before .before in
+    let z = c15 .args in
+    parts.body-stops (z .text .now) (z .from) (z .c) (z .table .now) (z .notes .now) _ (c10 .word .ensures) (c9 .if1 .left) _ _ _
+    (c6 .conditional .ensures) _ _ _ _ (c .enum-told .given .1)
 
--- src/bodies.rt:115:5
-grow-requires : tie.Need-grow-requires
-grow-requires c κs = search needs
-
--- src/bodies.rt:105:1
-same-length-4 : tie.Need-same-length-4
-same-length-4 c = search needs
-
--- src/bodies.rt:105:1
-same-length-5 : tie.Need-same-length-5
-same-length-5 c = search needs
-
--- src/bodies.rt:105:1
 returns-3 : tie.Need-returns-3
 returns-3 c =
-    let z = c .before .before .before .before .before .before .before .before .before .before .before .before .before .before .before .before .before .before .before .before .args in
-    parts.body-grows (z .text .now) (z .from) (z .c) (z .table .now) (z .notes .now) _ (c .before .before .before .before .before .before .before .before .before .before .before .before .before .before .before .word .ensures) (c .before .before .before .before .before .before .before .before .before .before .before .before .before .before .if1 .left) _ _ _ (c .before .before .before .before .before .before .before .before .before .before .before .conditional .ensures) _ _ (c .before .before .before .before .before .r .given .1) (c .before .before .grow .ensures)
+    let c2 = c .before .before in
+    let c5 = c2 .before .before .before in
+    let c11 = c5 .before .before .before .before .before .before in
+    let c14 = c11 .before .before .before in
+    let c15 = c14 .before in
+    let c20 = c15 .before .before .before .before .before in
+    let z = c20 .args in
+    parts.body-grows (z .text .now) (z .from) (z .c) (z .table .now) (z .notes .now) _ (c15 .word .ensures) (c14 .if1 .left) _ _ _
+    (c11 .conditional .ensures) _ _ (c5 .r .given .1) (c2 .grow .ensures)
 
 pub body-conditional-spec : {M : Type 1} → statement M
 body-conditional-spec =
     tie.close
     (tie.spec
-    word-requires
-    unfit-requires
-    same-length
+    (λ c κs. search needs)
+    (λ c κs. search needs)
+    (λ c. search needs)
     returns
-    conditional-requires
-    enum-known-r
-    enum-told
-    same-length-2
-    same-length-3
+    (λ c κs. search needs)
+    (λ c. search needs)
+    (λ c. search needs)
+    (λ c. search needs)
+    (λ c. search needs)
     returns-2
-    grow-requires
-    same-length-4
-    same-length-5
+    (λ c κs. search needs)
+    (λ c. search needs)
+    (λ c. search needs)
     returns-3)

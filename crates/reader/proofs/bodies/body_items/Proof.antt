@@ -1,10 +1,7 @@
+-- `reader::bodies::body_items` meets its contract. Assumes nothing.
 use borrow.Author.Needs.{needs}
 use Rattle.reader.proofs.bodies.body_items.Statement.{statement}
 use Rattle.reader.proofs.bodies.body_items.Tie as tie
-use Rattle.reader.proofs.bodies.body_items.Reads as reads
-use Rattle.reader.proofs.bodies.body_items.Lts as lts
-use Rattle.reader.proofs.bodies.body_item.Reads as body-item-reads
-use Rattle.reader.proofs.statements.is_start.Reads as is-start-reads
 use mathlib.Core.Path.{_≡_, refl, sym, _∙_}
 use native.Mathlib.Omega.{arith}
 use borrow.Author.Tests.{not-true, not-false}
@@ -15,95 +12,92 @@ use Rattle.reader.proofs.Exits as parts
 
 abbrev Inv-loop : tie.InvT-loop
 Inv-loop text table₀ notes₀ from here₀ left₀ table notes here left =
-    (walk.bodyItems text from left here (pass table notes) ≡ walk.bodyItems text from left₀ here₀ (pass table₀ notes₀)) × ((length table ≡ length table₀) × (length notes ≡ length notes₀))
+    (walk.bodyItems text from left here (pass table notes) ≡ walk.bodyItems text from left₀ here₀ (pass table₀ notes₀)) ×
+    ((length table ≡ length table₀) × (length notes ≡ length notes₀))
 
 abbrev μ-loop : tie.MeasureT-loop
 μ-loop text table₀ notes₀ from here₀ left₀ table notes here left =
     left
 
--- src/bodies.rt:141:5
 loop-holds : tie.Need-loop-holds Inv-loop μ-loop
 loop-holds c =
     (refl, (refl, refl))
 
--- src/bodies.rt:142:13
-is-start-requires : tie.Need-is-start-requires Inv-loop μ-loop
-is-start-requires c κs = search needs
-
--- src/bodies.rt:143:13
 same-length : tie.Need-same-length Inv-loop μ-loop
 same-length c =
     c .before .before .before .loop .inv .1 .0
 
--- src/bodies.rt:143:13
 same-length-2 : tie.Need-same-length-2 Inv-loop μ-loop
 same-length-2 c =
     c .before .before .before .loop .inv .1 .1
 
--- src/bodies.rt:143:13
 returns : tie.Need-returns Inv-loop μ-loop
 returns c =
-    let z = c .before .before .before .before .before .before .before .args in
-    parts.items-end (z .text .now) (z .from) _ _ _ _ _ (c .before .before .before .loop .inv .0) (sym (c .before .is-start .ensures) ∙ not-true _ (c .if1 .taken))
+    let c3 = c .before .before .before in
+    let c7 = c3 .before .before .before .before in
+    let z = c7 .args in
+    parts.items-end (z .text .now) (z .from) _ _ _ _ _ (c3 .loop .inv .0) (sym (c .before .is-start .ensures) ∙ not-true _ (c .if1 .taken))
 
--- src/bodies.rt:145:13
-body-item-requires : tie.Need-body-item-requires Inv-loop μ-loop
-body-item-requires c κs = search needs
-
--- src/bodies.rt:146:22
-enum-known-r : tie.Need-enum-known-r Inv-loop μ-loop
-enum-known-r c = search needs
-
--- src/bodies.rt:147:13
-enum-told : tie.Need-enum-told Inv-loop μ-loop
-enum-told c = search needs
-
--- src/bodies.rt:147:13
 same-length-3 : tie.Need-same-length-3 Inv-loop μ-loop
 same-length-3 c =
-    c .before .before .before .before .before .before .body-item .kept .1 .0 ∙ c .before .before .before .before .before .before .before .before .before .before .before .before .loop .inv .1 .0
+    let c6 = c .before .before .before .before .before .before in
+    let c12 = c6 .before .before .before .before .before .before in
+    c6 .body-item .kept .1 .0 ∙ c12 .loop .inv .1 .0
 
--- src/bodies.rt:147:13
 same-length-4 : tie.Need-same-length-4 Inv-loop μ-loop
 same-length-4 c =
-    c .before .before .before .before .before .before .body-item .kept .1 .1 .0 ∙ c .before .before .before .before .before .before .before .before .before .before .before .before .loop .inv .1 .1
+    let c6 = c .before .before .before .before .before .before in
+    let c12 = c6 .before .before .before .before .before .before in
+    c6 .body-item .kept .1 .1 .0 ∙ c12 .loop .inv .1 .1
 
--- src/bodies.rt:147:13
 returns-2 : tie.Need-returns-2 Inv-loop μ-loop
 returns-2 c =
-    let z = c .before .before .before .before .before .before .before .before .before .before .before .before .before .before .before .before .args in
-    parts.items-stop (z .text .now) (z .from) _ _ _ _ _ (c .before .before .before .before .before .before .before .before .before .before .before .before .loop .inv .0) _ _ _ _ _ _ _ (c .before .before .before .before .before .before .before .before .before .before .before .loop-test .taken) (sym (c .before .before .before .before .before .before .before .before .before .before .is-start .ensures) ∙ not-false _ (c .before .before .before .before .before .before .before .before .before .if1 .left)) (c .before .before .before .before .before .before .body-item .ensures) (c .enum-told .given .1)
+    let c6 = c .before .before .before .before .before .before in
+    let c9 = c6 .before .before .before in
+    let c10 = c9 .before in
+    let c11 = c10 .before in
+    let c12 = c11 .before in
+    let c16 = c12 .before .before .before .before in
+    let z = c16 .args in
+    parts.items-stop (z .text .now) (z .from) _ _ _ _ _ (c12 .loop .inv .0) _ _ _ _ _ _ _ (c11 .loop-test .taken)
+    (sym (c10 .is-start .ensures) ∙ not-false _ (c9 .if1 .left)) (c6 .body-item .ensures) (c .enum-told .given .1)
 
--- src/bodies.rt:150:9
 sub-left : tie.Need-sub-left Inv-loop μ-loop
 sub-left c =
-    omega (arith, c .before .before .before .before .before .before .before .before .before .before .before .before .loop-test .taken)
+    let c12 = c .before .before .before .before .before .before .before .before .before .before .before .before in
+    omega (arith, c12 .loop-test .taken)
 
--- src/bodies.rt:141:5
 loop-less : tie.Need-loop-less Inv-loop μ-loop
 loop-less c =
-    omega (arith, c .before .before .before .before .before .before .before .before .before .before .before .before .loop-test .taken)
+    let c12 = c .before .before .before .before .before .before .before .before .before .before .before .before in
+    omega (arith, c12 .loop-test .taken)
 
--- src/bodies.rt:141:5
 loop-again : tie.Need-loop-again Inv-loop μ-loop
 loop-again c =
-    let z = c .before .before .before .before .before .before .before .before .before .before .before .before .before .before .before .before .before .args in
-    (parts.items-turn (z .text .now) (z .from) _ _ _ _ _ (c .before .before .before .before .before .before .before .before .before .before .before .before .before .loop .inv .0) _ _ _ _ (c .before .before .before .before .before .before .before .before .before .before .before .before .loop-test .taken) (sym (c .before .before .before .before .before .before .before .before .before .before .before .is-start .ensures) ∙ not-false _ (c .before .before .before .before .before .before .before .before .before .before .if1 .left)) (c .before .before .before .before .before .before .before .body-item .ensures) (c .before .r .given .1), (c .before .before .before .before .before .before .before .body-item .kept .1 .0 ∙ c .before .before .before .before .before .before .before .before .before .before .before .before .before .loop .inv .1 .0, c .before .before .before .before .before .before .before .body-item .kept .1 .1 .0 ∙ c .before .before .before .before .before .before .before .before .before .before .before .before .before .loop .inv .1 .1))
+    let c7 = c .before .before .before .before .before .before .before in
+    let c10 = c7 .before .before .before in
+    let c11 = c10 .before in
+    let c12 = c11 .before in
+    let c13 = c12 .before in
+    let c17 = c13 .before .before .before .before in
+    let z = c17 .args in (
+      parts.items-turn (z .text .now) (z .from) _ _ _ _ _ (c13 .loop .inv .0) _ _ _ _ (c12 .loop-test .taken)
+          (sym (c11 .is-start .ensures) ∙ not-false _ (c10 .if1 .left)) (c7 .body-item .ensures) (c .before .r .given .1),
+      (c7 .body-item .kept .1 .0 ∙ c13 .loop .inv .1 .0, c7 .body-item .kept .1 .1 .0 ∙ c13 .loop .inv .1 .1),
+    )
 
--- src/bodies.rt:136:1
 same-length-5 : tie.Need-same-length-5 Inv-loop μ-loop
 same-length-5 c =
     c .before .loop .inv .1 .0
 
--- src/bodies.rt:136:1
 same-length-6 : tie.Need-same-length-6 Inv-loop μ-loop
 same-length-6 c =
     c .before .loop .inv .1 .1
 
--- src/bodies.rt:136:1
 returns-3 : tie.Need-returns-3 Inv-loop μ-loop
 returns-3 c =
-    let z = c .before .before .before .before .before .args in
+    let c5 = c .before .before .before .before .before in
+    let z = c5 .args in
     parts.items-out (z .text .now) (z .from) _ _ _ _ _ (c .before .loop .inv .0) (c .loop-test .left)
 
 pub body-items-spec : {M : Type 1} → statement M
@@ -113,13 +107,13 @@ body-items-spec =
     Inv-loop
     μ-loop
     loop-holds
-    is-start-requires
+    (λ c κs. search needs)
     same-length
     same-length-2
     returns
-    body-item-requires
-    enum-known-r
-    enum-told
+    (λ c κs. search needs)
+    (λ c. search needs)
+    (λ c. search needs)
     same-length-3
     same-length-4
     returns-2

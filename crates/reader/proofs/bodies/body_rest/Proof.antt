@@ -1,147 +1,87 @@
+-- `reader::bodies::body_rest` meets its contract. Assumes nothing.
 use borrow.Author.Needs.{needs}
 use Rattle.reader.proofs.bodies.body_rest.Statement.{statement}
 use Rattle.reader.proofs.bodies.body_rest.Tie as tie
-use Rattle.reader.proofs.bodies.body_rest.Reads as reads
-use Rattle.reader.proofs.bodies.body_rest.Lts as lts
-use Rattle.contract.proofs.word.Reads as word-reads
-use Rattle.reader.proofs.bodies.event.Reads as event-reads
-use Rattle.reader.proofs.bodies.grow.Reads as grow-reads
-use Rattle.reader.proofs.bodies.one_more.Reads as one-more-reads
-use Rattle.reader.proofs.statements.action.Reads as action-reads
-use Rattle.reader.proofs.unfit.Reads as unfit-reads
 use Rattle.reader.proofs.Exits as parts
 
--- src/bodies.rt:86:13
-event-requires : tie.Need-event-requires
-event-requires c κs = search needs
-
--- src/bodies.rt:87:22
-enum-known-r : tie.Need-enum-known-r
-enum-known-r c = search needs
-
--- src/bodies.rt:88:13
-enum-told : tie.Need-enum-told
-enum-told c = search needs
-
--- src/bodies.rt:88:13
-same-length : tie.Need-same-length
-same-length c = search needs
-
--- src/bodies.rt:88:13
-same-length-2 : tie.Need-same-length-2
-same-length-2 c = search needs
-
--- src/bodies.rt:88:13
 returns : tie.Need-returns
 returns c =
-    let z = c .before .before .before .before .before .before .before .before .before .before .before .before .before .before .args in
-    parts.rest-refused (z .text .now) (z .from) (z .first) (z .before) (z .c) (z .table .now) (z .notes .now) (c .before .before .before .before .before .before .before .before .before .if1 .taken) _ _ _ (c .before .before .before .before .before .before .event .ensures) _ _ _ _ (c .enum-told .given .1)
+    let c6 = c .before .before .before .before .before .before in
+    let c9 = c6 .before .before .before in
+    let c14 = c9 .before .before .before .before .before in
+    let z = c14 .args in
+    parts.rest-refused (z .text .now) (z .from) (z .first) (z .before) (z .c) (z .table .now) (z .notes .now) (c9 .if1 .taken) _ _ _
+    (c6 .event .ensures) _ _ _ _ (c .enum-told .given .1)
 
--- src/bodies.rt:90:9
-one-more-requires : tie.Need-one-more-requires
-one-more-requires c κs = search needs
-
--- src/bodies.rt:91:9
-same-length-3 : tie.Need-same-length-3
-same-length-3 c = search needs
-
--- src/bodies.rt:91:9
-same-length-4 : tie.Need-same-length-4
-same-length-4 c = search needs
-
--- src/bodies.rt:91:9
 returns-2 : tie.Need-returns-2
 returns-2 c =
-    let z = c .before .before .before .before .before .before .before .before .before .before .before .before .before .before .before .before .before .before .before .args in
-    parts.rest-event (z .text .now) (z .from) (z .first) (z .before) (z .c) (z .table .now) (z .notes .now) (c .before .before .before .before .before .before .before .before .before .before .before .before .before .before .if1 .taken) _ _ _ (c .before .before .before .before .before .before .before .before .before .before .before .event .ensures) _ _ (c .before .before .before .before .before .r .given .1) (c .before .before .one-more .ensures)
+    let c2 = c .before .before in
+    let c5 = c2 .before .before .before in
+    let c11 = c5 .before .before .before .before .before .before in
+    let c14 = c11 .before .before .before in
+    let c19 = c14 .before .before .before .before .before in
+    let z = c19 .args in
+    parts.rest-event (z .text .now) (z .from) (z .first) (z .before) (z .c) (z .table .now) (z .notes .now) (c14 .if1 .taken) _ _ _
+    (c11 .event .ensures) _ _ (c5 .r .given .1) (c2 .one-more .ensures)
 
--- src/bodies.rt:93:8
-word-requires : tie.Need-word-requires
-word-requires c κs = search needs
-
--- src/bodies.rt:94:9
-unfit-requires : tie.Need-unfit-requires
-unfit-requires c κs = search needs
-
--- src/bodies.rt:94:9
-same-length-5 : tie.Need-same-length-5
-same-length-5 c = search needs
-
--- src/bodies.rt:94:9
 returns-3 : tie.Need-returns-3
 returns-3 c =
-    let z = c .before .before .before .before .before .before .before .before .before .args in
-    parts.rest-late (z .text .now) (z .from) (z .first) (z .before) (z .c) (z .table .now) (z .notes .now) (c .before .before .before .before .if1 .left) _ (c .before .before .word .ensures) _ _ _ (c .before .if2 .taken) (c .unfit .ensures)
+    let c2 = c .before .before in
+    let c4 = c2 .before .before in
+    let c9 = c4 .before .before .before .before .before in
+    let z = c9 .args in
+    parts.rest-late (z .text .now) (z .from) (z .first) (z .before) (z .c) (z .table .now) (z .notes .now) (c4 .if1 .left) _ (c2 .word .ensures) _ _ _
+    (c .before .if2 .taken) (c .unfit .ensures)
 
--- src/bodies.rt:96:9
-action-requires : tie.Need-action-requires
-action-requires c κs = search needs
-
--- src/bodies.rt:97:18
-enum-known-r-2 : tie.Need-enum-known-r-2
-enum-known-r-2 c = search needs
-
--- src/bodies.rt:98:9
-enum-told-2 : tie.Need-enum-told-2
-enum-told-2 c = search needs
-
--- src/bodies.rt:98:9
-same-length-6 : tie.Need-same-length-6
-same-length-6 c = search needs
-
--- src/bodies.rt:98:9
-same-length-7 : tie.Need-same-length-7
-same-length-7 c = search needs
-
--- src/bodies.rt:98:9
 returns-4 : tie.Need-returns-4
 returns-4 c =
-    let z = c .before .before .before .before .before .before .before .before .before .before .before .before .before .before .before .before .before .args in
-    parts.rest-stops (z .text .now) (z .from) (z .first) (z .before) (z .c) (z .table .now) (z .notes .now) (c .before .before .before .before .before .before .before .before .before .before .before .before .if1 .left) _ (c .before .before .before .before .before .before .before .before .before .before .word .ensures) (c .before .before .before .before .before .before .before .before .before .if2 .left) _ _ _ (c .before .before .before .before .before .before .action .ensures) _ _ _ _ (c .enum-told2 .given .1)
+    let c6 = c .before .before .before .before .before .before in
+    let c9 = c6 .before .before .before in
+    let c10 = c9 .before in
+    let c12 = c10 .before .before in
+    let c17 = c12 .before .before .before .before .before in
+    let z = c17 .args in
+    parts.rest-stops (z .text .now) (z .from) (z .first) (z .before) (z .c) (z .table .now) (z .notes .now) (c12 .if1 .left) _ (c10 .word .ensures)
+    (c9 .if2 .left) _ _ _ (c6 .action .ensures) _ _ _ _ (c .enum-told2 .given .1)
 
--- src/bodies.rt:100:5
-grow-requires : tie.Need-grow-requires
-grow-requires c κs = search needs
-
--- src/bodies.rt:82:1
-same-length-8 : tie.Need-same-length-8
-same-length-8 c = search needs
-
--- src/bodies.rt:82:1
-same-length-9 : tie.Need-same-length-9
-same-length-9 c = search needs
-
--- src/bodies.rt:82:1
 returns-5 : tie.Need-returns-5
 returns-5 c =
-    let z = c .before .before .before .before .before .before .before .before .before .before .before .before .before .before .before .before .before .before .before .before .before .before .args in
-    parts.rest-grows (z .text .now) (z .from) (z .first) (z .before) (z .c) (z .table .now) (z .notes .now) (c .before .before .before .before .before .before .before .before .before .before .before .before .before .before .before .before .before .if1 .left) _ (c .before .before .before .before .before .before .before .before .before .before .before .before .before .before .before .word .ensures) (c .before .before .before .before .before .before .before .before .before .before .before .before .before .before .if2 .left) _ _ _ (c .before .before .before .before .before .before .before .before .before .before .before .action .ensures) _ _ (c .before .before .before .before .before .r2 .given .1) (c .before .before .grow .ensures)
+    let c2 = c .before .before in
+    let c5 = c2 .before .before .before in
+    let c11 = c5 .before .before .before .before .before .before in
+    let c14 = c11 .before .before .before in
+    let c15 = c14 .before in
+    let c17 = c15 .before .before in
+    let c22 = c17 .before .before .before .before .before in
+    let z = c22 .args in
+    parts.rest-grows (z .text .now) (z .from) (z .first) (z .before) (z .c) (z .table .now) (z .notes .now) (c17 .if1 .left) _ (c15 .word .ensures)
+    (c14 .if2 .left) _ _ _ (c11 .action .ensures) _ _ (c5 .r2 .given .1) (c2 .grow .ensures)
 
 pub body-rest-spec : {M : Type 1} → statement M
 body-rest-spec =
     tie.close
     (tie.spec
-    event-requires
-    enum-known-r
-    enum-told
-    same-length
-    same-length-2
+    (λ c κs. search needs)
+    (λ c. search needs)
+    (λ c. search needs)
+    (λ c. search needs)
+    (λ c. search needs)
     returns
-    one-more-requires
-    same-length-3
-    same-length-4
+    (λ c κs. search needs)
+    (λ c. search needs)
+    (λ c. search needs)
     returns-2
-    word-requires
-    unfit-requires
-    same-length-5
+    (λ c κs. search needs)
+    (λ c κs. search needs)
+    (λ c. search needs)
     returns-3
-    action-requires
-    enum-known-r-2
-    enum-told-2
-    same-length-6
-    same-length-7
+    (λ c κs. search needs)
+    (λ c. search needs)
+    (λ c. search needs)
+    (λ c. search needs)
+    (λ c. search needs)
     returns-4
-    grow-requires
-    same-length-8
-    same-length-9
+    (λ c κs. search needs)
+    (λ c. search needs)
+    (λ c. search needs)
     returns-5)

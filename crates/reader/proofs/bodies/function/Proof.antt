@@ -1,117 +1,68 @@
+-- `reader::bodies::function` meets its contract. Assumes nothing.
 use borrow.Author.Needs.{needs}
 use Rattle.reader.proofs.bodies.function.Statement.{statement}
 use Rattle.reader.proofs.bodies.function.Tie as tie
-use Rattle.reader.proofs.bodies.function.Reads as reads
-use Rattle.reader.proofs.bodies.function.Lts as lts
-use Rattle.contract.proofs.word.Reads as word-reads
-use Rattle.reader.proofs.bodies.function_end.Reads as function-end-reads
-use Rattle.reader.proofs.bodies.function_head.Reads as function-head-reads
-use Rattle.reader.proofs.bodies.function_parts.Reads as function-parts-reads
-use Rattle.reader.proofs.nodes.Reads as nodes-reads
 use Rattle.reader.proofs.Exits as parts
 
--- src/bodies.rt:282:13
-word-requires : tie.Need-word-requires
-word-requires c κs = search needs
-
--- src/bodies.rt:283:9
-nodes-requires : tie.Need-nodes-requires
-nodes-requires c κs = search needs
-
--- src/bodies.rt:284:17
-word-requires-2 : tie.Need-word-requires-2
-word-requires-2 c κs = search needs
-
--- src/bodies.rt:285:9
-function-head-requires : tie.Need-function-head-requires
-function-head-requires c κs = search needs
-
--- src/bodies.rt:286:18
-enum-known-a : tie.Need-enum-known-a
-enum-known-a c = search needs
-
--- src/bodies.rt:287:9
-enum-told : tie.Need-enum-told
-enum-told c = search needs
-
--- src/bodies.rt:287:9
-same-length : tie.Need-same-length
-same-length c = search needs
-
--- src/bodies.rt:287:9
-same-length-2 : tie.Need-same-length-2
-same-length-2 c = search needs
-
--- src/bodies.rt:287:9
 returns : tie.Need-returns
 returns c =
-    let z = c .before .before .before .before .before .before .before .before .before .before .before .before .before .before .before .before .before .before .args in
-    parts.function-unfit (z .text .now) (z .c) (z .table .now) (z .notes .now) _ _ _ (c .before .before .before .before .before .before .before .before .before .before .before .before .before .word .ensures) (c .before .before .before .before .before .before .before .before .before .before .before .nodes .ensures) (c .before .before .before .before .before .before .before .before .before .word2 .ensures) _ _ _ (c .before .before .before .before .before .before .function-head .ensures) _ _ _ _ (c .enum-told .given .1)
+    let c6 = c .before .before .before .before .before .before in
+    let c9 = c6 .before .before .before in
+    let c11 = c9 .before .before in
+    let c13 = c11 .before .before in
+    let c18 = c13 .before .before .before .before .before in
+    let z = c18 .args in
+    parts.function-unfit (z .text .now) (z .c) (z .table .now) (z .notes .now) _ _ _ (c13 .word .ensures) (c11 .nodes .ensures) (c9 .word2 .ensures) _
+    _ _ (c6 .function-head .ensures) _ _ _ _ (c .enum-told .given .1)
 
--- src/bodies.rt:289:9
-function-parts-requires : tie.Need-function-parts-requires
-function-parts-requires c κs = search needs
-
--- src/bodies.rt:290:18
-enum-known-b : tie.Need-enum-known-b
-enum-known-b c = search needs
-
--- src/bodies.rt:291:9
-enum-told-2 : tie.Need-enum-told-2
-enum-told-2 c = search needs
-
--- src/bodies.rt:291:9
-same-length-3 : tie.Need-same-length-3
-same-length-3 c = search needs
-
--- src/bodies.rt:291:9
-same-length-4 : tie.Need-same-length-4
-same-length-4 c = search needs
-
--- src/bodies.rt:291:9
 returns-2 : tie.Need-returns-2
 returns-2 c =
-    let z = c .before .before .before .before .before .before .before .before .before .before .before .before .before .before .before .before .before .before .before .before .before .before .before .before .before .before .before .before .args in
-    parts.function-stops (z .text .now) (z .c) (z .table .now) (z .notes .now) _ _ _ (c .before .before .before .before .before .before .before .before .before .before .before .before .before .before .before .before .before .before .before .before .before .before .before .word .ensures) (c .before .before .before .before .before .before .before .before .before .before .before .before .before .before .before .before .before .before .before .before .before .nodes .ensures) (c .before .before .before .before .before .before .before .before .before .before .before .before .before .before .before .before .before .before .before .word2 .ensures) _ _ _ (c .before .before .before .before .before .before .before .before .before .before .before .before .before .before .before .before .function-head .ensures) _ (c .before .before .before .before .before .before .before .before .before .before .a .given .1) _ _ _ (c .before .before .before .before .before .before .function-parts .ensures) _ _ _ _ (c .enum-told2 .given .1)
+    let c6 = c .before .before .before .before .before .before in
+    let c10 = c6 .before .before .before .before in
+    let c16 = c10 .before .before .before .before .before .before in
+    let c19 = c16 .before .before .before in
+    let c21 = c19 .before .before in
+    let c23 = c21 .before .before in
+    let c28 = c23 .before .before .before .before .before in
+    let z = c28 .args in
+    parts.function-stops (z .text .now) (z .c) (z .table .now) (z .notes .now) _ _ _ (c23 .word .ensures) (c21 .nodes .ensures) (c19 .word2 .ensures)
+    _ _ _ (c16 .function-head .ensures) _ (c10 .a .given .1) _ _ _ (c6 .function-parts .ensures) _ _ _ _ (c .enum-told2 .given .1)
 
--- src/bodies.rt:293:5
-function-end-requires : tie.Need-function-end-requires
-function-end-requires c κs = search needs
-
--- src/bodies.rt:279:1
-same-length-5 : tie.Need-same-length-5
-same-length-5 c = search needs
-
--- src/bodies.rt:279:1
-same-length-6 : tie.Need-same-length-6
-same-length-6 c = search needs
-
--- src/bodies.rt:279:1
 returns-3 : tie.Need-returns-3
 returns-3 c =
-    let z = c .before .before .before .before .before .before .before .before .before .before .before .before .before .before .before .before .before .before .before .before .before .before .before .before .before .before .before .before .before .before .before .before .before .before .before .before .args in
-    parts.function-ends (z .text .now) (z .c) (z .table .now) (z .notes .now) _ _ _ (c .before .before .before .before .before .before .before .before .before .before .before .before .before .before .before .before .before .before .before .before .before .before .before .before .before .before .before .before .before .before .before .word .ensures) (c .before .before .before .before .before .before .before .before .before .before .before .before .before .before .before .before .before .before .before .before .before .before .before .before .before .before .before .before .before .nodes .ensures) (c .before .before .before .before .before .before .before .before .before .before .before .before .before .before .before .before .before .before .before .before .before .before .before .before .before .before .before .word2 .ensures) _ _ _ (c .before .before .before .before .before .before .before .before .before .before .before .before .before .before .before .before .before .before .before .before .before .before .before .before .function-head .ensures) _ (c .before .before .before .before .before .before .before .before .before .before .before .before .before .before .before .before .before .before .a .given .1) _ _ _ (c .before .before .before .before .before .before .before .before .before .before .before .before .before .before .function-parts .ensures) _ _ _ _ (c .before .before .before .before .before .before .before .before .b .given .1) (c .before .before .before .before .function-end .ensures)
+    let c4 = c .before .before .before .before in
+    let c8 = c4 .before .before .before .before in
+    let c14 = c8 .before .before .before .before .before .before in
+    let c18 = c14 .before .before .before .before in
+    let c24 = c18 .before .before .before .before .before .before in
+    let c27 = c24 .before .before .before in
+    let c29 = c27 .before .before in
+    let c31 = c29 .before .before in
+    let c36 = c31 .before .before .before .before .before in
+    let z = c36 .args in
+    parts.function-ends (z .text .now) (z .c) (z .table .now) (z .notes .now) _ _ _ (c31 .word .ensures) (c29 .nodes .ensures) (c27 .word2 .ensures) _
+    _ _ (c24 .function-head .ensures) _ (c18 .a .given .1) _ _ _ (c14 .function-parts .ensures) _ _ _ _ (c8 .b .given .1) (c4 .function-end .ensures)
 
 pub function-spec : {M : Type 1} → statement M
 function-spec =
     tie.close
     (tie.spec
-    word-requires
-    nodes-requires
-    word-requires-2
-    function-head-requires
-    enum-known-a
-    enum-told
-    same-length
-    same-length-2
+    (λ c κs. search needs)
+    (λ c κs. search needs)
+    (λ c κs. search needs)
+    (λ c κs. search needs)
+    (λ c. search needs)
+    (λ c. search needs)
+    (λ c. search needs)
+    (λ c. search needs)
     returns
-    function-parts-requires
-    enum-known-b
-    enum-told-2
-    same-length-3
-    same-length-4
+    (λ c κs. search needs)
+    (λ c. search needs)
+    (λ c. search needs)
+    (λ c. search needs)
+    (λ c. search needs)
     returns-2
-    function-end-requires
-    same-length-5
-    same-length-6
+    (λ c κs. search needs)
+    (λ c. search needs)
+    (λ c. search needs)
     returns-3)

@@ -1,30 +1,17 @@
+-- `reader::bodies::grow` meets its contract. Assumes nothing.
 use borrow.Author.Needs.{needs}
 use Rattle.reader.proofs.bodies.grow.Statement.{statement}
 use Rattle.reader.proofs.bodies.grow.Tie as tie
-use Rattle.reader.proofs.bodies.grow.Reads as reads
-use Rattle.reader.proofs.bodies.grow.Lts as lts
-use Rattle.entries.proofs.store.Reads as store-reads
-use Rattle.reader.proofs.nodes_since.Reads as nodes-since-reads
 use Prim.Native.Nat.{ℕ}
 use mathlib.Core.Path.{ap, _∙_}
 use lib.ListN.{set}
 
--- src/bodies.rt:77:9
-nodes-since-requires : tie.Need-nodes-since-requires
-nodes-since-requires c κs = search needs
-
--- src/bodies.rt:78:5
-store-requires : tie.Need-store-requires
-store-requires c κs = search needs
-
--- src/bodies.rt:74:1
-same-length : tie.Need-same-length
-same-length c = search needs
-
--- src/bodies.rt:74:1
 returns : tie.Need-returns
 returns c =
-    c .before .before .store .ensures ∙ ap (λ (v : ℕ). set (c .before .before .before .before .before .before .before .args .notes .now) 604 v) (c .before .before .before .before .nodes-since .ensures)
+    let c2 = c .before .before in
+    let c4 = c2 .before .before in
+    let c7 = c4 .before .before .before in
+    c2 .store .ensures ∙ ap (λ (v : ℕ). set (c7 .args .notes .now) 604 v) (c4 .nodes-since .ensures)
 
 pub grow-spec : {M : Type 1} → statement M
-grow-spec = tie.close (tie.spec nodes-since-requires store-requires same-length returns)
+grow-spec = tie.close (tie.spec (λ c κs. search needs) (λ c κs. search needs) (λ c. search needs) returns)

@@ -1,87 +1,51 @@
+-- `reader::statements::action` meets its contract. Assumes nothing.
 use borrow.Author.Needs.{needs}
 use Rattle.reader.proofs.statements.action.Statement.{statement}
 use Rattle.reader.proofs.statements.action.Tie as tie
-use Rattle.reader.proofs.statements.action.Reads as reads
-use Rattle.reader.proofs.statements.action.Lts as lts
-use Rattle.reader.proofs.lex.Reads as lex-reads
-use Rattle.reader.proofs.statements.asset_move.Reads as asset-move-reads
-use Rattle.reader.proofs.statements.is_alone.Reads as is-alone-reads
-use Rattle.reader.proofs.statements.sends.Reads as sends-reads
-use Rattle.reader.proofs.unfit.Reads as unfit-reads
 use Rattle.reader.proofs.Blocks.{action-sends, action-moves, action-unfit}
 
--- src/statements.rt:95:55
-lex-requires : tie.Need-lex-requires
-lex-requires c κs = search needs
-
--- src/statements.rt:95:9
-sends-requires : tie.Need-sends-requires
-sends-requires c κs = search needs
-
--- src/statements.rt:95:9
-same-length : tie.Need-same-length
-same-length c = search needs
-
--- src/statements.rt:95:9
-same-length-2 : tie.Need-same-length-2
-same-length-2 c = search needs
-
--- src/statements.rt:95:9
 returns : tie.Need-returns
 returns c =
-    let z = c .before .before .before .before .before .before .before .before .before .before .before .before .args in
-    action-sends (z .text .now) (z .handler) (z .first) (z .from) (z .c) _ _ _ _ _ (c .before .before .before .before .before .before .before .before .if1 .taken) (c .before .before .before .before .before .lex .ensures) (c .before .before .before .before .sends .ensures)
+    let c4 = c .before .before .before .before in
+    let c5 = c4 .before in
+    let c8 = c5 .before .before .before in
+    let c12 = c8 .before .before .before .before in
+    let z = c12 .args in
+    action-sends (z .text .now) (z .handler) (z .first) (z .from) (z .c) _ _ _ _ _ (c8 .if1 .taken) (c5 .lex .ensures) (c4 .sends .ensures)
 
--- src/statements.rt:98:13
-is-alone-requires : tie.Need-is-alone-requires
-is-alone-requires c κs = search needs
-
--- src/statements.rt:99:67
-lex-requires-2 : tie.Need-lex-requires-2
-lex-requires-2 c κs = search needs
-
--- src/statements.rt:99:9
-asset-move-requires : tie.Need-asset-move-requires
-asset-move-requires c κs = search needs
-
--- src/statements.rt:99:9
-same-length-3 : tie.Need-same-length-3
-same-length-3 c = search needs
-
--- src/statements.rt:99:9
-same-length-4 : tie.Need-same-length-4
-same-length-4 c = search needs
-
--- src/statements.rt:99:9
 returns-2 : tie.Need-returns-2
 returns-2 c =
-    let z = c .before .before .before .before .before .before .before .before .before .before .before .before .before .before .args in
-    action-moves (z .text .now) (z .handler) (z .first) (z .from) (z .c) _ _ _ _ _ _ (c .before .before .before .before .before .before .before .before .before .before .if1 .left) (c .before .before .before .before .before .before .before .before .before .if2 .taken) (c .before .before .before .before .before .before .before .before .is-alone .ensures) (c .before .before .before .before .before .lex2 .ensures) (c .before .before .before .before .asset-move .ensures)
+    let c4 = c .before .before .before .before in
+    let c5 = c4 .before in
+    let c8 = c5 .before .before .before in
+    let c9 = c8 .before in
+    let c10 = c9 .before in
+    let c14 = c10 .before .before .before .before in
+    let z = c14 .args in
+    action-moves (z .text .now) (z .handler) (z .first) (z .from) (z .c) _ _ _ _ _ _ (c10 .if1 .left) (c9 .if2 .taken) (c8 .is-alone .ensures)
+    (c5 .lex2 .ensures) (c4 .asset-move .ensures)
 
--- src/statements.rt:101:5
-unfit-requires : tie.Need-unfit-requires
-unfit-requires c κs = search needs
-
--- src/statements.rt:90:1
 returns-3 : tie.Need-returns-3
 returns-3 c =
-    let z = c .before .before .before .before .before .before .args in
-    action-unfit (z .text .now) (z .handler) (z .first) (z .from) (z .c) _ _ _ _ (c .before .before .if1 .left) (c .before .if2 .left) (c .unfit .ensures)
+    let c2 = c .before .before in
+    let c6 = c2 .before .before .before .before in
+    let z = c6 .args in
+    action-unfit (z .text .now) (z .handler) (z .first) (z .from) (z .c) _ _ _ _ (c2 .if1 .left) (c .before .if2 .left) (c .unfit .ensures)
 
 pub action-spec : {M : Type 1} → statement M
 action-spec =
     tie.close
     (tie.spec
-    lex-requires
-    sends-requires
-    same-length
-    same-length-2
+    (λ c κs. search needs)
+    (λ c κs. search needs)
+    (λ c. search needs)
+    (λ c. search needs)
     returns
-    is-alone-requires
-    lex-requires-2
-    asset-move-requires
-    same-length-3
-    same-length-4
+    (λ c κs. search needs)
+    (λ c κs. search needs)
+    (λ c κs. search needs)
+    (λ c. search needs)
+    (λ c. search needs)
     returns-2
-    unfit-requires
+    (λ c κs. search needs)
     returns-3)
