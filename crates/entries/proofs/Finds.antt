@@ -59,6 +59,10 @@ module _ (s n w : List ℕ) where
   unfolding numberIn
   number-is k m j l r e f g h = h ∙ (λ i. findFrom s n (e i) w (f i) 0 (g i))
 
+  pub number-none : (k l : ℕ) → l ≡ knownCount n k → l ≡ 0 → 0 ≡ numberIn s n k w
+  unfolding numberIn findFrom
+  number-none k l g e = ap (findFrom s n (markOf w) w (slotOf k) 0) (sym e ∙ g)
+
   pub among-is : (k x y : ℕ) → x ≡ numberIn s n k w → y ≡ knownCount n k → ltb x y ≡ amongIn s n k w
   unfolding amongIn
   among-is k x y e f = λ i. ltb (e i) (f i)

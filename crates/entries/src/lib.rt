@@ -249,6 +249,9 @@ fn number_by(text: &[u8], notes: &[u64], kind: usize, mark: u64, word: &[u8]) ->
     ensures { λ r. ⌜ r ≡ pass.numberIn (now (text .entry)) (now (notes .entry)) kind (now (word .entry)) ⌝ }
 {
     let many = many_of(notes, kind);
+    if many == 0 {
+        return 0;
+    }
     find_from(text, notes, mark, word, slot_of(kind), many)
 }
 

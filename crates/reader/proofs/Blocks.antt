@@ -17,9 +17,9 @@ use Rattle.entries.specs.declared.Known.{Known}
 use Rattle.entries.specs.Pass.{Pass, note, counted, holderIn, valueTarget, assetTarget, wanted, put, putName}
 use Rattle.reader.specs.Grammar.{isOneOf, itemStarts}
 use Rattle.reader.specs.Walk.{Walk, on, stop, Leaves, pass, follow, after, nodes, counting, cursorAt, nextOf, token, closedBy, enclosed, expression, condition, sends, sourced, targeted, moves, movesAll, wholeNotes, assetMove, isAlone, action, statement, statements, braces, conditional}
-use Rattle.reader.specs.declared.Cursor.{Cursor}
-use Rattle.reader.specs.declared.Step.{Step}
-use Rattle.reader.specs.declared.Step.the-variants.{On, Stop}
+use Rattle.reader.specs.Walk.{Cursor}
+use Rattle.reader.specs.Walk.{Step}
+use Rattle.reader.specs.Walk.{On, Stop}
 use Rattle.reader.proofs.Leaves.{went, halted, leaves-same, is-on, is-stop, follow-on, follow-stop, after-on, after-stop, steps-on}
 
 -- a pass by its two lists

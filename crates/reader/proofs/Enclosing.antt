@@ -9,9 +9,9 @@ use Rattle.words.specs.Words.{legalContract, openBrace}
 use Rattle.entries.specs.Pass.{Pass, note, found, title, clauseCount, excess}
 use Rattle.reader.specs.Walk.{Walk, on, after, pass, Leaves, nextOf, token, nameHere, opening, closed}
 use Rattle.reader.specs.Masks.{rowsOf, keptByMasks}
-use Rattle.reader.specs.declared.Cursor.{Cursor}
-use Rattle.reader.specs.declared.Step.{Step}
-use Rattle.reader.specs.declared.Step.the-variants.{On}
+use Rattle.reader.specs.Walk.{Cursor}
+use Rattle.reader.specs.Walk.{Step}
+use Rattle.reader.specs.Walk.{On}
 use Rattle.reader.proofs.Leaves.{leaves-same, steps-on, after-on}
 
 -- no text is read at a name

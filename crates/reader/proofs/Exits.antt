@@ -15,9 +15,9 @@ use Rattle.contract.specs.Table.{eventKind}
 use Rattle.entries.specs.Pass.{Pass, note, counted, numberIn, partyUsed, put, withNotes, head, functionRest, eventRow}
 use Rattle.reader.specs.Grammar.{isOneOf, itemStarts}
 use Rattle.reader.specs.Walk.{Walk, on, stop, Leaves, pass, follow, after, nodes, counting, noting, cursorAt, nextOf, token, nameHere, stateAt, stated, stateNumber, enclosed, closedBy, expression, condition, names, action, braces, conditional, eventWritten, eventEnd, event, bodyGrows, oneMore, bodyRest, bodyConditional, bodyItem, bodyItems, begun, body, parameterNames, parametersIn, precondition, headOf, functionHead, functionParts, functionLast, functionEnd, function, functions}
-use Rattle.reader.specs.declared.Cursor.{Cursor}
-use Rattle.reader.specs.declared.Step.{Step}
-use Rattle.reader.specs.declared.Step.the-variants.{On, Stop}
+use Rattle.reader.specs.Walk.{Cursor}
+use Rattle.reader.specs.Walk.{Step}
+use Rattle.reader.specs.Walk.{On, Stop}
 use Rattle.reader.proofs.Leaves.{went, halted, leaves-same, is-on, is-stop, follow-on, follow-stop, after-on, after-stop, steps-on}
 use Rattle.reader.proofs.Blocks.{both, goes-on, closed-by}
 
@@ -335,9 +335,9 @@ module _ (s : List ℕ) where
     unfolding functionHead
     head-unfit t n x o f = is-stop _ a t n x o (after-stop _ x o to-party (sym h₁ ∙ f)) f
 
-    module _ (q : Cursor) (g₁ : a ≡ On q) (c₁ : Cursor) (e₁ : c₁ ≡ cursorAt s (q .end)) (b : Step) (h₂ : b ≡ nameHere [] c₁) where
+    module _ (q : Cursor) (g₁ : a ≡ On q) (c₁ : Cursor) (e₁ : c₁ ≡ cursorAt s (q .end)) (b : Step) (h₂ : b ≡ nameHere s c₁) where
       head₁ : functionHead s c (pass t₀ n₀) ≡ after b (to-colon q)
-      unfolding functionHead nameHere
+      unfolding functionHead
       head₁ =
           after-on _ q to-party (sym h₁ ∙ g₁)
           ∙ ap (λ (x : Step). after x (to-colon q)) (sym (h₂ ∙ ap (nameHere s) e₁))
@@ -354,12 +354,11 @@ module _ (s : List ℕ) where
         pub head-no-colon : (t n : List ℕ) (x o : ℕ) → d ≡ Stop x o → Leaves (functionHead s c (pass t₀ n₀)) d t n
         head-no-colon t n x o f = is-stop _ d t n x o (head₂ ∙ after-stop _ x o (to-name q p) f) f
 
-        module _ (i : Cursor) (g₃ : d ≡ On i) (j : Step) (h₄ : j ≡ nameHere [] i) where
+        module _ (i : Cursor) (g₃ : d ≡ On i) (j : Step) (h₄ : j ≡ nameHere s i) where
           abbrev heads : Cursor → Walk
           heads f = on (nextOf s f) (headOf s c q p f (pass t₀ n₀))
 
           head₃ : functionHead s c (pass t₀ n₀) ≡ after j heads
-          unfolding nameHere
           head₃ = head₂ ∙ after-on _ i (to-name q p) g₃ ∙ ap (λ (x : Step). after x heads) (sym h₄)
 
           pub head-no-name : (t n : List ℕ) (x o : ℕ) → j ≡ Stop x o → Leaves (functionHead s c (pass t₀ n₀)) j t n

@@ -5,9 +5,9 @@ use Prim.Native.Nat.{ℕ}
 use native.Mathlib.Omega.{arith}
 use Rattle.entries.specs.Pass.{Pass}
 use Rattle.reader.specs.Walk.{Walk, on, stop, Leaves, pass, follow, after}
-use Rattle.reader.specs.declared.Cursor.{Cursor}
-use Rattle.reader.specs.declared.Step.{Step}
-use Rattle.reader.specs.declared.Step.the-variants.{On, Stop}
+use Rattle.reader.specs.Walk.{Cursor}
+use Rattle.reader.specs.Walk.{Step}
+use Rattle.reader.specs.Walk.{On, Stop}
 
 -- a callee went on
 pub went : (w : Walk) (r : Step) (t n : List ℕ) (d : Cursor) → Leaves w r t n → r ≡ On d → w ≡ on d (pass t n)

@@ -70,3 +70,10 @@ pub mod Listed
 pub mod Enclosing
 pub mod Blocks
 pub mod Exits
+pub mod Values
+pub mod Packs
+pub mod PackedTerms
+pub mod PackedRanks
+pub mod PackedBlocks
+pub mod PackedBodies
+pub mod PackedWhole

@@ -10,7 +10,7 @@ use Rattle.words.specs.Words.{comma}
 use Rattle.tokens.specs.Tokens.{name as nameKind}
 use Rattle.entries.specs.Pass.{Pass, declare, clauseField, clauseParty, clauseVerb}
 use Rattle.reader.specs.Walk.{Walk, on, stop, pass, follow, nextOf, oneName, names, moreNames, oneField, clauseFields, moreFields, clauseRest, clauseFrom, clause, clauses}
-use Rattle.reader.specs.declared.Cursor.{Cursor}
+use Rattle.reader.specs.Walk.{Cursor}
 use Rattle.reader.proofs.Leaves.{follow-on, follow-stop}
 
 -- ---- declared names

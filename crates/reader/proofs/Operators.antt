@@ -15,7 +15,7 @@ use Rattle.contract.specs.Table.{notKind, stringKind, atLeastKind}
 use Rattle.entries.specs.Pass.{Pass, note, counted, mention, numberIn, put}
 use Rattle.reader.specs.Grammar.{isOneOf, operators, comparisons}
 use Rattle.reader.specs.Walk.{Walk, pass, counting, nodes, operatorNode, negations, nextOf, innerStart, innerEnd, stringLeaf, nots}
-use Rattle.reader.specs.declared.Cursor.{Cursor}
+use Rattle.reader.specs.Walk.{Cursor}
 
 -- ---- operators
 

@@ -10,11 +10,12 @@ use Rattle.laws.specs.Choice.{pick}
 use Rattle.laws.proofs.Choice.{pick-true, pick-false}
 use Rattle.entries.specs.Pass.{Pass, note, counted, put}
 use Rattle.reader.specs.Grammar.{isOneOf, operators, comparisons}
-use Rattle.reader.specs.Walk.{Walk, on, stop, Leaves, pass, follow, after, counting, nodes, operatorNode, negations, nextOf, token, closedBy, enclosed, factor, rowFrom, chain, insideExpression, expression, comparison, simple, NotsAre, primary, insideCondition, condition, operandAt}
-use Rattle.reader.specs.declared.Cursor.{Cursor}
+use Rattle.reader.specs.Walk.{Walk, on, stop, Leaves, pass, follow, after, counting, nodes, operatorNode, negations, nextOf, token, closedBy, enclosed, factor, rowFrom, chain, insideExpression, expression, comparison, simple, primary, insideCondition, condition, operandAt}
+use Rattle.reader.specs.Walk.{Cursor}
 use Rattle.reader.specs.declared.terms.Nots.{Nots}
-use Rattle.reader.specs.declared.Step.{Step}
-use Rattle.reader.specs.declared.Step.the-variants.{On, Stop}
+use Rattle.reader.specs.Packed.{seen, NotsAre}
+use Rattle.reader.specs.Walk.{Step}
+use Rattle.reader.specs.Walk.{On, Stop}
 use Rattle.reader.proofs.Leaves.{leaves-same}
 
 -- the place of a rank's operands in the order of calls at one level
@@ -160,14 +161,14 @@ module _ (s : List ℕ) (h : Bool) where
 
   module _ (lv : ℕ) (inside : ℕ → Cursor → Pass → Walk) (c : Cursor) (t n n₁ : List ℕ) (r : Nots) (are : NotsAre s c n r n₁) where
     primary-is : primary s h lv inside c (pass t n)
-        ≡ follow (simple s h lv inside (r .next) (pass t n₁)) (λ e u. on e (negations (r .many) (note n 14) u))
-    unfolding primary NotsAre
-    primary-is = are t (λ m d q. follow (simple s h lv inside d q) (λ e u. on e (negations m (note n 14) u)))
+        ≡ follow (simple s h lv inside (seen s (r .next)) (pass t n₁)) (λ e u. on e (negations (r .many) (note n 14) u))
+    unfolding primary
+    primary-is = are .same t (λ m d q. follow (simple s h lv inside d q) (λ e u. on e (negations m (note n 14) u)))
 
-    pub primary-halt : (q o : ℕ) → simple s h lv inside (r .next) (pass t n₁) ≡ stop q o → primary s h lv inside c (pass t n) ≡ stop q o
+    pub primary-halt : (q o : ℕ) → simple s h lv inside (seen s (r .next)) (pass t n₁) ≡ stop q o → primary s h lv inside c (pass t n) ≡ stop q o
     primary-halt q o e = primary-is ∙ ap (λ (w : Walk). follow w (λ e u. on e (negations (r .many) (note n 14) u))) e
 
-    pub primary-done : (e : Cursor) (t₂ n₂ : List ℕ) (b : ℕ) (t₃ n₃ : List ℕ) → simple s h lv inside (r .next) (pass t n₁) ≡ on e (pass t₂ n₂)
+    pub primary-done : (e : Cursor) (t₂ n₂ : List ℕ) (b : ℕ) (t₃ n₃ : List ℕ) → simple s h lv inside (seen s (r .next)) (pass t n₁) ≡ on e (pass t₂ n₂)
         → b ≡ note n 14 → t₃ ≡ (negations (r .many) b (pass t₂ n₂)) .table → n₃ ≡ (negations (r .many) b (pass t₂ n₂)) .notes
         → primary s h lv inside c (pass t n) ≡ on e (pass t₃ n₃)
     primary-done e t₂ n₂ b t₃ n₃ g b-is t-is m-is =

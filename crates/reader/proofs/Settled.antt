@@ -13,9 +13,9 @@ use Rattle.contract.specs.Encode.{zeros}
 use Rattle.entries.specs.Pass.{Pass, note, counts}
 use Rattle.reader.specs.Reading.{Reading, accepted, refused, readText, answerOf, tableOf}
 use Rattle.reader.specs.Walk.{Walk, on, stop, Leaves, Ends, settledAnswer, settledTable, walk, pass}
-use Rattle.reader.specs.declared.Cursor.{Cursor}
-use Rattle.reader.specs.declared.Step.{Step}
-use Rattle.reader.specs.declared.Step.the-variants.{On, Stop}
+use Rattle.reader.specs.Walk.{Cursor}
+use Rattle.reader.specs.Walk.{Step}
+use Rattle.reader.specs.Walk.{On, Stop}
 use Rattle.reader.specs.declared.Answer.{Answer}
 use Rattle.reader.specs.declared.Answer.the-variants.{Accepted, Refused}
 use Rattle.reader.proofs.ReadIs.{Reads}

@@ -14,7 +14,7 @@ use Rattle.tokens.specs.Tokens.{tokenAt, name as nameKind, number as numberKind
 use Rattle.tokens.specs.declared.Token.{Token}
 use Rattle.tokens.specs.declared.Lexed.{Lexed}
 use Rattle.tokens.specs.declared.Lexed.the-variants.{Found, Refused, End}
-use Rattle.reader.specs.declared.Cursor.{Cursor}
+use Rattle.reader.specs.Walk.{Cursor}
 use Rattle.reader.specs.Syntax.{Span, Term, named, operated}
 use Rattle.reader.specs.Grammar.{Parsed, done, no, Parser, andThen, give, isOneOf, operators, leaves, leafOf, unfit, nextIn, tokenIn, repeated, enclosed, factor, chain, sum, insideExpression, expression, misfit, wholeMove}
 use Rattle.reader.specs.Walk.{cursorAt, isAlone}

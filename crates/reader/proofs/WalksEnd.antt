@@ -15,7 +15,7 @@ use Rattle.tokens.specs.declared.Lexed.the-variants.{Found, Refused, End}
 use Rattle.contract.specs.Fits.{every}
 use Rattle.contract.proofs.Fitting.{both-left, both-right}
 use Rattle.entries.specs.Pass.{Pass}
-use Rattle.reader.specs.declared.Step.the-variants.{On}
+use Rattle.reader.specs.Walk.{On}
 use Rattle.reader.specs.Grammar.{no, andThen, unfit, tokenIn, ending, endsOn}
 use Rattle.reader.specs.Walk.{on, after, textEnd, cursorOf, cursorAt, token, endingAt, atEnd}
 use Rattle.reader.specs.Walk as walk

@@ -9,7 +9,7 @@ use Rattle.laws.specs.Choice.{pick}
 use Rattle.laws.proofs.Choice.{pick-true, pick-false}
 use Rattle.words.specs.Words.{valueArrow, assetArrow, openParen, closeParen, openBrace, closeBrace, comma}
 use Rattle.entries.specs.Pass.{Pass}
-use Rattle.reader.specs.declared.Cursor.{Cursor}
+use Rattle.reader.specs.Walk.{Cursor}
 use Rattle.reader.specs.Syntax.{Term, Action, sends, moves, movesAll, Block, none, perform, conditional}
 use Rattle.reader.specs.Grammar.{Parsed, done, no, Parser, andThen, give, isOneOf, itemStarts, nextIn, tokenIn, place, repeated, wholeMove, conditionalAfter, misfit}
 use Rattle.reader.specs.Grammar as grammar

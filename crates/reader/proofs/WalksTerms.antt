@@ -15,7 +15,7 @@ use Rattle.tokens.specs.Tokens.{between, name as nameKind, number as numberKind
 use Rattle.contract.specs.Table.{stringKind as stringNode, nowKind, trueKind, falseKind, notKind}
 use Rattle.tokens.specs.declared.Token.{Token}
 use Rattle.entries.specs.Pass.{Pass, counted, numberIn, mention, put, putLeaf, written}
-use Rattle.reader.specs.declared.Cursor.{Cursor}
+use Rattle.reader.specs.Walk.{Cursor}
 use Rattle.reader.specs.Syntax.{Term, named, numeral, quoted, fixed, negated, operated}
 use Rattle.reader.specs.Grammar.{done, Parser, andThen, give, isOneOf, operators, comparisons, leaves, leafOf, negatedAt, nextIn, tokenIn, repeated}
 use Rattle.reader.specs.Grammar as grammar

@@ -14,9 +14,9 @@ use Rattle.tokens.specs.declared.Lexed.the-variants.{Found, Refused, End}
 use Rattle.tokens.proofs.Facts.{progress}
 use Rattle.words.specs.Words.{atSign}
 use Rattle.entries.specs.Pass.{Pass}
-use Rattle.reader.specs.declared.Cursor.{Cursor}
-use Rattle.reader.specs.declared.Step.{Step}
-use Rattle.reader.specs.declared.Step.the-variants.{On, Stop}
+use Rattle.reader.specs.Walk.{Cursor}
+use Rattle.reader.specs.Walk.{Step}
+use Rattle.reader.specs.Walk.{On, Stop}
 use Rattle.reader.specs.Syntax.{Span}
 use Rattle.reader.specs.Grammar.{Parsed, done, no, Parser, andThen, give, onFound, isOneOf, unfit, misfit, nextIn, tokenIn, place, repeated, name, state}
 use Rattle.reader.specs.Walk.{Walk, on, stop, after, follow, noToken, textEnd, cursorOf, cursorAt, token, nameHere, stateAt}

@@ -6,3 +6,4 @@ pub mod Resolve
 pub mod Reading
 pub mod Masks
 pub mod Walk
+pub mod Packed

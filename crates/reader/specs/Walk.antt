@@ -16,10 +16,6 @@ use Rattle.entries.specs.declared.Known.{Known}
 use Rattle.entries.specs.Pass.{Pass, note, withNotes, withTable, counted, found, declare, mention, numberIn, partyUsed, nameIn, holderIn, valueTarget, assetTarget, wanted, put, putName, putLeaf, clauseParty, clauseVerb, clauseField, clauseEnd, clauseCount, excess, written, functionCount, bodyNodes, eventsHere, head, functionRest, eventRow, title, question, place, counts}
 use Rattle.reader.specs.Grammar.{isOneOf, operators, comparisons, itemStarts, maxLevels}
 use Rattle.reader.specs.Masks.{rowsOf, keptByMasks}
-use Rattle.reader.specs.declared.Cursor.{Cursor}
-use Rattle.reader.specs.declared.terms.Nots.{Nots}
-use Rattle.reader.specs.declared.Step.{Step}
-use Rattle.reader.specs.declared.Step.the-variants.{On, Stop}
 use Rattle.reader.specs.declared.Answer.{Answer}
 use Rattle.reader.specs.declared.Answer.the-variants.{Accepted, Refused}
 
@@ -29,6 +25,21 @@ noToken = 203
 
 abbrev pub textEnd : ℕ
 textEnd = 204
+
+-- The token that is read next: its kind, the question that refuses it where it does not fit, its place, a number's value, and the place from
+-- which it was looked for.
+pub record Cursor : Type 0 where
+  pub at : ℕ
+  pub kind : ℕ
+  pub question : ℕ
+  pub start : ℕ
+  pub end : ℕ
+  pub value : ℕ
+
+-- what a parser answers: the cursor after what it read, or a refusal's question and place
+pub data Step : Type 0 where
+  On : Cursor → Step
+  Stop : ℕ → ℕ → Step
 
 pub data Walk : Type 0 where
   on : Cursor → Pass → Walk
@@ -245,11 +256,6 @@ module _ (s : List ℕ) where
   unfoldable pub nots : ℕ → ℕ → Cursor → Pass → (ℕ → Cursor → Pass → Walk) → Walk
   nots zero m c p go = go m c p
   nots (suc f) m c p go = pick (eqb (c .kind) notMark) (nots f (m + 1) (nextOf c) (counting 9 (c .start) p) go) (go m c p)
-
-  -- what code leaves of them
-  unfoldable pub NotsAre : Cursor → List ℕ → Nots → List ℕ → Type 0
-  NotsAre c n r m =
-      (t : List ℕ) (go : ℕ → Cursor → Pass → Walk) → nots (length s) 0 c (pass t n) go ≡ go (r .many) (r .next) (pass t m)
 
   unfoldable pub primary : Bool → ℕ → (ℕ → Cursor → Pass → Walk) → Cursor → Pass → Walk
   primary h n inside c p =

@@ -1,10 +1,12 @@
 // Expressions and conditions: parsers that call each other, with the levels of parentheses falling.
 ghost use mathlib.Core.Path.{_≡_};
+ghost use Prim.Native.Nat.{_≤_};
+ghost use mathlib.Core.Bool.{false};
 ghost use lib.ListN.{length};
+ghost use Rattle.reader.specs.Packed.{isStop, seen, told};
 ghost use Rattle.reader.specs.Walk as walk;
 ghost use Rattle.reader.specs.Walk.{Leaves, pass};
-use crate::Cursor;
-use crate::Step;
+use crate::packed;
 use crate::terms;
 use contract::Node;
 
@@ -13,39 +15,41 @@ fn rest(
     text: &[u8],
     table: &mut [u64],
     notes: &mut [u64],
-    c: Cursor,
+    c: u64,
     levels: usize,
     rank: u8,
     before: usize,
     handler: bool,
-) -> Step
-    ensures { λ r. ⌜ Leaves (walk.rowFrom (now (text .entry)) rank (walk.operandAt (now (text .entry)) handler levels rank) before (length (now (text .entry))) c (pass (now (table .entry)) (now (notes .entry)))) r (now (table .exit)) (now (notes .exit)) ⌝ }
+) -> u64
+    requires { ⌜ (length (now text) ≤ 16384) × (isStop c ≡ false) ⌝ }
+    ensures { λ r. ⌜ Leaves (walk.rowFrom (now (text .entry)) rank (walk.operandAt (now (text .entry)) handler levels rank) before (length (now (text .entry))) (seen (now (text .entry)) c) (pass (now (table .entry)) (now (notes .entry)))) (told (now (text .entry)) r) (now (table .exit)) (now (notes .exit)) ⌝ }
 {
     let mut here = c;
     let mut left = text.len();
     while 0 < left {
-        let kind = here.kind;
+        let kind = packed::kind_of(here);
         if !terms::is_operator(rank, kind) {
-            return Step::On(here);
+            return here;
         }
-        entries::count(notes, entries::NODE, here.start);
+        entries::count(notes, entries::NODE, packed::start_of(here));
         let second = operand(
             text,
             table,
             notes,
-            crate::lex(text, here.end),
+            packed::lex(text, packed::end_of(here)),
             levels,
             rank,
             handler,
         );
-        let Step::On(e) = second else {
+        if packed::stops(second) {
             return second;
-        };
+        }
+        let e = second;
         entries::put(table, notes, terms::operator_node(kind), 0, before);
         here = e;
         left -= 1;
     }
-    Step::On(here)
+    here
 }
 
 // An operand of a rank, and the operators of the next rank after it.
@@ -53,12 +57,13 @@ fn operand(
     text: &[u8],
     table: &mut [u64],
     notes: &mut [u64],
-    c: Cursor,
+    c: u64,
     levels: usize,
     rank: u8,
     handler: bool,
-) -> Step
-    ensures { λ r. ⌜ Leaves (walk.operandAt (now (text .entry)) handler levels rank c (pass (now (table .entry)) (now (notes .entry)))) r (now (table .exit)) (now (notes .exit)) ⌝ }
+) -> u64
+    requires { ⌜ (length (now text) ≤ 16384) × (isStop c ≡ false) ⌝ }
+    ensures { λ r. ⌜ Leaves (walk.operandAt (now (text .entry)) handler levels rank (seen (now (text .entry)) c) (pass (now (table .entry)) (now (notes .entry)))) (told (now (text .entry)) r) (now (table .exit)) (now (notes .exit)) ⌝ }
 {
     match rank {
         0 => conjunction(text, table, notes, c, levels, handler),
@@ -73,18 +78,20 @@ fn product(
     text: &[u8],
     table: &mut [u64],
     notes: &mut [u64],
-    c: Cursor,
+    c: u64,
     levels: usize,
     handler: bool,
-) -> Step
-    ensures { λ r. ⌜ Leaves (walk.operandAt (now (text .entry)) handler levels 2 c (pass (now (table .entry)) (now (notes .entry)))) r (now (table .exit)) (now (notes .exit)) ⌝ }
+) -> u64
+    requires { ⌜ (length (now text) ≤ 16384) × (isStop c ≡ false) ⌝ }
+    ensures { λ r. ⌜ Leaves (walk.operandAt (now (text .entry)) handler levels 2 (seen (now (text .entry)) c) (pass (now (table .entry)) (now (notes .entry)))) (told (now (text .entry)) r) (now (table .exit)) (now (notes .exit)) ⌝ }
 {
     let before = crate::nodes(notes);
     let r = factor(text, table, notes, c, levels, handler);
-    let Step::On(d) = r else {
+    if packed::stops(r) {
         return r;
-    };
-    if terms::is_operator(3, d.kind) {
+    }
+    let d = r;
+    if terms::is_operator(3, packed::kind_of(d)) {
         return rest(text, table, notes, d, levels, 3, before, handler);
     }
     r
@@ -95,18 +102,20 @@ pub(crate) fn expression(
     text: &[u8],
     table: &mut [u64],
     notes: &mut [u64],
-    c: Cursor,
+    c: u64,
     levels: usize,
     handler: bool,
-) -> Step
-    ensures { λ r. ⌜ Leaves (walk.expression (now (text .entry)) handler levels c (pass (now (table .entry)) (now (notes .entry)))) r (now (table .exit)) (now (notes .exit)) ⌝ }
+) -> u64
+    requires { ⌜ (length (now text) ≤ 16384) × (isStop c ≡ false) ⌝ }
+    ensures { λ r. ⌜ Leaves (walk.expression (now (text .entry)) handler levels (seen (now (text .entry)) c) (pass (now (table .entry)) (now (notes .entry)))) (told (now (text .entry)) r) (now (table .exit)) (now (notes .exit)) ⌝ }
 {
     let before = crate::nodes(notes);
     let r = product(text, table, notes, c, levels, handler);
-    let Step::On(d) = r else {
+    if packed::stops(r) {
         return r;
-    };
-    if terms::is_operator(2, d.kind) {
+    }
+    let d = r;
+    if terms::is_operator(2, packed::kind_of(d)) {
         return rest(text, table, notes, d, levels, 2, before, handler);
     }
     r
@@ -117,18 +126,20 @@ fn conjunction(
     text: &[u8],
     table: &mut [u64],
     notes: &mut [u64],
-    c: Cursor,
+    c: u64,
     levels: usize,
     handler: bool,
-) -> Step
-    ensures { λ r. ⌜ Leaves (walk.operandAt (now (text .entry)) handler levels 0 c (pass (now (table .entry)) (now (notes .entry)))) r (now (table .exit)) (now (notes .exit)) ⌝ }
+) -> u64
+    requires { ⌜ (length (now text) ≤ 16384) × (isStop c ≡ false) ⌝ }
+    ensures { λ r. ⌜ Leaves (walk.operandAt (now (text .entry)) handler levels 0 (seen (now (text .entry)) c) (pass (now (table .entry)) (now (notes .entry)))) (told (now (text .entry)) r) (now (table .exit)) (now (notes .exit)) ⌝ }
 {
     let before = crate::nodes(notes);
     let r = primary(text, table, notes, c, levels, handler);
-    let Step::On(d) = r else {
+    if packed::stops(r) {
         return r;
-    };
-    if terms::is_operator(1, d.kind) {
+    }
+    let d = r;
+    if terms::is_operator(1, packed::kind_of(d)) {
         return rest(text, table, notes, d, levels, 1, before, handler);
     }
     r
@@ -139,18 +150,20 @@ pub(crate) fn condition(
     text: &[u8],
     table: &mut [u64],
     notes: &mut [u64],
-    c: Cursor,
+    c: u64,
     levels: usize,
     handler: bool,
-) -> Step
-    ensures { λ r. ⌜ Leaves (walk.condition (now (text .entry)) handler levels c (pass (now (table .entry)) (now (notes .entry)))) r (now (table .exit)) (now (notes .exit)) ⌝ }
+) -> u64
+    requires { ⌜ (length (now text) ≤ 16384) × (isStop c ≡ false) ⌝ }
+    ensures { λ r. ⌜ Leaves (walk.condition (now (text .entry)) handler levels (seen (now (text .entry)) c) (pass (now (table .entry)) (now (notes .entry)))) (told (now (text .entry)) r) (now (table .exit)) (now (notes .exit)) ⌝ }
 {
     let before = crate::nodes(notes);
     let r = conjunction(text, table, notes, c, levels, handler);
-    let Step::On(d) = r else {
+    if packed::stops(r) {
         return r;
-    };
-    if terms::is_operator(0, d.kind) {
+    }
+    let d = r;
+    if terms::is_operator(0, packed::kind_of(d)) {
         return rest(text, table, notes, d, levels, 0, before, handler);
     }
     r
@@ -160,23 +173,24 @@ fn factor(
     text: &[u8],
     table: &mut [u64],
     notes: &mut [u64],
-    c: Cursor,
+    c: u64,
     levels: usize,
     handler: bool,
-) -> Step
-    ensures { λ r. ⌜ Leaves (walk.factor (now (text .entry)) handler (walk.insideExpression (now (text .entry)) handler levels) c (pass (now (table .entry)) (now (notes .entry)))) r (now (table .exit)) (now (notes .exit)) ⌝ }
+) -> u64
+    requires { ⌜ (length (now text) ≤ 16384) × (isStop c ≡ false) ⌝ }
+    ensures { λ r. ⌜ Leaves (walk.factor (now (text .entry)) handler (walk.insideExpression (now (text .entry)) handler levels) (seen (now (text .entry)) c) (pass (now (table .entry)) (now (notes .entry)))) (told (now (text .entry)) r) (now (table .exit)) (now (notes .exit)) ⌝ }
 {
-    if c.kind != words::OPEN_PAREN {
+    if packed::kind_of(c) != words::OPEN_PAREN {
         return terms::leaf(text, table, notes, c, handler);
     }
     if levels == 0 {
-        return Step::Stop(questions::LEVELS, c.start);
+        return packed::stop(questions::LEVELS, packed::start_of(c));
     }
     let inner = expression(
         text,
         table,
         notes,
-        crate::lex(text, c.end),
+        packed::lex(text, packed::end_of(c)),
         levels - 1,
         handler,
     );
@@ -188,21 +202,23 @@ fn primary(
     text: &[u8],
     table: &mut [u64],
     notes: &mut [u64],
-    c: Cursor,
+    c: u64,
     levels: usize,
     handler: bool,
-) -> Step
-    ensures { λ r. ⌜ Leaves (walk.primary (now (text .entry)) handler levels (walk.insideCondition (now (text .entry)) handler levels) c (pass (now (table .entry)) (now (notes .entry)))) r (now (table .exit)) (now (notes .exit)) ⌝ }
+) -> u64
+    requires { ⌜ (length (now text) ≤ 16384) × (isStop c ≡ false) ⌝ }
+    ensures { λ r. ⌜ Leaves (walk.primary (now (text .entry)) handler levels (walk.insideCondition (now (text .entry)) handler levels) (seen (now (text .entry)) c) (pass (now (table .entry)) (now (notes .entry)))) (told (now (text .entry)) r) (now (table .exit)) (now (notes .exit)) ⌝ }
 {
     let before = crate::nodes(notes);
     let nots = terms::count_nots(text, notes, c);
     let many = nots.many;
     let r = simple(text, table, notes, nots.next, levels, handler);
-    let Step::On(e) = r else {
+    if packed::stops(r) {
         return r;
-    };
+    }
+    let e = r;
     terms::negate(table, notes, many, before);
-    Step::On(e)
+    e
 }
 
 // A condition in parentheses, true, false or a comparison.
@@ -210,34 +226,35 @@ fn simple(
     text: &[u8],
     table: &mut [u64],
     notes: &mut [u64],
-    c: Cursor,
+    c: u64,
     levels: usize,
     handler: bool,
-) -> Step
-    ensures { λ r. ⌜ Leaves (walk.simple (now (text .entry)) handler levels (walk.insideCondition (now (text .entry)) handler levels) c (pass (now (table .entry)) (now (notes .entry)))) r (now (table .exit)) (now (notes .exit)) ⌝ }
+) -> u64
+    requires { ⌜ (length (now text) ≤ 16384) × (isStop c ≡ false) ⌝ }
+    ensures { λ r. ⌜ Leaves (walk.simple (now (text .entry)) handler levels (walk.insideCondition (now (text .entry)) handler levels) (seen (now (text .entry)) c) (pass (now (table .entry)) (now (notes .entry)))) (told (now (text .entry)) r) (now (table .exit)) (now (notes .exit)) ⌝ }
 {
-    let kind = c.kind;
+    let kind = packed::kind_of(c);
     if kind == words::OPEN_PAREN {
         if levels == 0 {
-            return Step::Stop(questions::LEVELS, c.start);
+            return packed::stop(questions::LEVELS, packed::start_of(c));
         }
         let inner = condition(
             text,
             table,
             notes,
-            crate::lex(text, c.end),
+            packed::lex(text, packed::end_of(c)),
             levels - 1,
             handler,
         );
         return terms::close(text, inner);
     }
     if kind == words::TRUE {
-        entries::put_leaf(table, notes, Node::TRUE, 0, c.start);
-        return Step::On(crate::lex(text, c.end));
+        entries::put_leaf(table, notes, Node::TRUE, 0, packed::start_of(c));
+        return packed::lex(text, packed::end_of(c));
     }
     if kind == words::FALSE {
-        entries::put_leaf(table, notes, Node::FALSE, 0, c.start);
-        return Step::On(crate::lex(text, c.end));
+        entries::put_leaf(table, notes, Node::FALSE, 0, packed::start_of(c));
+        return packed::lex(text, packed::end_of(c));
     }
     comparison(text, table, notes, c, levels, handler)
 }
@@ -247,26 +264,36 @@ fn comparison(
     text: &[u8],
     table: &mut [u64],
     notes: &mut [u64],
-    c: Cursor,
+    c: u64,
     levels: usize,
     handler: bool,
-) -> Step
-    ensures { λ r. ⌜ Leaves (walk.comparison (now (text .entry)) handler levels c (pass (now (table .entry)) (now (notes .entry)))) r (now (table .exit)) (now (notes .exit)) ⌝ }
+) -> u64
+    requires { ⌜ (length (now text) ≤ 16384) × (isStop c ≡ false) ⌝ }
+    ensures { λ r. ⌜ Leaves (walk.comparison (now (text .entry)) handler levels (seen (now (text .entry)) c) (pass (now (table .entry)) (now (notes .entry)))) (told (now (text .entry)) r) (now (table .exit)) (now (notes .exit)) ⌝ }
 {
     let before = crate::nodes(notes);
     let first = expression(text, table, notes, c, levels, handler);
-    let Step::On(d) = first else {
+    if packed::stops(first) {
         return first;
-    };
-    let kind = d.kind;
-    if !terms::is_comparison(kind) {
-        return crate::unfit(d);
     }
-    entries::count(notes, entries::NODE, d.start);
-    let second = expression(text, table, notes, crate::lex(text, d.end), levels, handler);
-    let Step::On(e) = second else {
+    let d = first;
+    let kind = packed::kind_of(d);
+    if !terms::is_comparison(kind) {
+        return packed::unfit(text, d);
+    }
+    entries::count(notes, entries::NODE, packed::start_of(d));
+    let second = expression(
+        text,
+        table,
+        notes,
+        packed::lex(text, packed::end_of(d)),
+        levels,
+        handler,
+    );
+    if packed::stops(second) {
         return second;
-    };
+    }
+    let e = second;
     entries::put(table, notes, terms::operator_node(kind), 0, before);
-    Step::On(e)
+    e
 }

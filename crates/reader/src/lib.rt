@@ -1,20 +1,22 @@
 // Reading a contract's text into a table.
 ghost use mathlib.Core.Path.{_≡_};
-ghost use Prim.Native.Nat.{_-_};
+ghost use mathlib.Core.Bool.{false};
+ghost use Prim.Native.Nat.{_-_, _≤_};
 ghost use mathlib.Core.List.{[]};
 ghost use lib.ListN.{length};
 ghost use Rattle.contract.specs.Encode.{zeros};
 ghost use Rattle.entries.specs.Pass.{note};
+ghost use Rattle.reader.specs.Packed.{isStop, seen, told};
 ghost use Rattle.reader.specs.Walk as walk;
 ghost use Rattle.reader.specs.Walk.{Leaves, pass};
 ghost use Rattle.reader.specs.Reading.{readText, answerOf, tableOf};
-use tokens::Lexed;
 use tokens::Token;
 
 mod agreement;
 mod bodies;
 mod clauses;
 mod expressions;
+mod packed;
 mod statements;
 mod terms;
 
@@ -29,23 +31,7 @@ impl Answer {
     pub const TEXT: usize = 16384;
 }
 
-// The token that is read next: its kind, or NO_TOKEN where the text is refused there, or TEXT_END. The question is the one that refuses
-// it where it does not fit.
-struct Cursor {
-    at: usize,
-    kind: u8,
-    question: u8,
-    start: usize,
-    end: usize,
-    value: u64,
-}
-
-// What a parser answers: the cursor after what it read, or a refusal's question and place.
-enum Step {
-    On(Cursor),
-    Stop(u8, usize),
-}
-
+// The kinds of a cursor where no token is: a place that is refused, the text's end.
 const NO_TOKEN: u8 = 203;
 
 const TEXT_END: u8 = 204;
@@ -53,74 +39,26 @@ const TEXT_END: u8 = 204;
 // Levels of parentheses.
 const LEVELS: usize = 16;
 
-// The cursor at the next token from a place on.
-fn lex(text: &[u8], at: usize) -> Cursor
-    ensures { λ r. ⌜ r ≡ walk.cursorAt (now (text .entry)) at ⌝ }
-{
-    let found = tokens::next(text, at);
-    match found {
-        Lexed::Found(t) => Cursor {
-            at,
-            kind: t.kind,
-            question: questions::GRAMMAR,
-            start: t.start,
-            end: t.end,
-            value: t.value,
-        },
-        Lexed::Refused(q, p) => Cursor {
-            at,
-            kind: NO_TOKEN,
-            question: q,
-            start: p,
-            end: p,
-            value: 0,
-        },
-        Lexed::End => Cursor {
-            at,
-            kind: TEXT_END,
-            question: questions::GRAMMAR,
-            start: text.len(),
-            end: text.len(),
-            value: 0,
-        },
-    }
-}
-
-// The token at the cursor does not fit.
-fn unfit(c: Cursor) -> Step
-    ensures { λ r. ⌜ r ≡ walk.unfitAt [] c ⌝ }
-{
-    Step::Stop(c.question, c.start)
-}
-
-// Past a token of a kind.
-fn token(text: &[u8], c: Cursor, kind: u8) -> Step
-    ensures { λ r. ⌜ r ≡ walk.token (now (text .entry)) kind c ⌝ }
-{
-    if c.kind == kind {
-        return Step::On(lex(text, c.end));
-    }
-    unfit(c)
-}
-
 // At a name.
-fn name_here(c: Cursor) -> Step
-    ensures { λ r. ⌜ r ≡ walk.nameHere [] c ⌝ }
+fn name_here(text: &[u8], c: u64) -> u64
+    requires { ⌜ (length (now text) ≤ 16384) × (isStop c ≡ false) ⌝ }
+    ensures { λ r. ⌜ told (now (text .entry)) r ≡ walk.nameHere (now (text .entry)) (seen (now (text .entry)) c) ⌝ }
 {
-    if c.kind == Token::NAME {
-        return Step::On(c);
+    if packed::kind_of(c) == Token::NAME {
+        return c;
     }
-    unfit(c)
+    packed::unfit(text, c)
 }
 
 // At the name of a state, after its `@`.
-fn state_at(text: &[u8], c: Cursor) -> Step
-    ensures { λ r. ⌜ r ≡ walk.stateAt (now (text .entry)) c ⌝ }
+fn state_at(text: &[u8], c: u64) -> u64
+    requires { ⌜ (length (now text) ≤ 16384) × (isStop c ≡ false) ⌝ }
+    ensures { λ r. ⌜ told (now (text .entry)) r ≡ walk.stateAt (now (text .entry)) (seen (now (text .entry)) c) ⌝ }
 {
-    if c.kind == words::AT_SIGN {
-        return name_here(lex(text, c.end));
+    if packed::kind_of(c) == words::AT_SIGN {
+        return name_here(text, packed::lex(text, packed::end_of(c)));
     }
-    unfit(c)
+    packed::unfit(text, c)
 }
 
 // How many nodes are written.
@@ -139,40 +77,50 @@ fn nodes_since(notes: &[u64], before: usize) -> usize
 }
 
 // A state's mention, and its number.
-fn mention_state(text: &[u8], table: &mut [u64], notes: &mut [u64], c: Cursor) -> usize
-    ensures { λ r. ⌜ r ≡ walk.stateNumber (now (text .entry)) c (pass (now (table .entry)) (now (notes .entry))) ⌝ }
-    ensures { λ _. ⌜ now (table .exit) ≡ (walk.stated (now (text .entry)) c (pass (now (table .entry)) (now (notes .entry)))) .table ⌝ }
-    ensures { λ _. ⌜ now (notes .exit) ≡ (walk.stated (now (text .entry)) c (pass (now (table .entry)) (now (notes .entry)))) .notes ⌝ }
+fn mention_state(text: &[u8], table: &mut [u64], notes: &mut [u64], c: u64) -> usize
+    requires { ⌜ (length (now text) ≤ 16384) × (isStop c ≡ false) ⌝ }
+    ensures { λ r. ⌜ r ≡ walk.stateNumber (now (text .entry)) (seen (now (text .entry)) c) (pass (now (table .entry)) (now (notes .entry))) ⌝ }
+    ensures { λ _. ⌜ now (table .exit) ≡ (walk.stated (now (text .entry)) (seen (now (text .entry)) c) (pass (now (table .entry)) (now (notes .entry)))) .table ⌝ }
+    ensures { λ _. ⌜ now (notes .exit) ≡ (walk.stated (now (text .entry)) (seen (now (text .entry)) c) (pass (now (table .entry)) (now (notes .entry)))) .notes ⌝ }
 {
-    let start = c.start;
-    let end = c.end;
+    let start = packed::start_of(c);
+    let end = packed::end_of(c);
     entries::mention(text, table, notes, entries::STATE, start, end, start)
 }
 
 // legal_contract N {
-fn opening(text: &[u8], table: &mut [u64], notes: &[u64], c: Cursor) -> Step
-    ensures { λ r. ⌜ Leaves (walk.opening (now (text .entry)) c (pass (now (table .entry)) (now (notes .entry)))) r (now (table .exit)) (now (notes .entry)) ⌝ }
+fn opening(text: &[u8], table: &mut [u64], notes: &[u64], c: u64) -> u64
+    requires { ⌜ (length (now text) ≤ 16384) × (isStop c ≡ false) ⌝ }
+    ensures { λ r. ⌜ Leaves (walk.opening (now (text .entry)) (seen (now (text .entry)) c) (pass (now (table .entry)) (now (notes .entry)))) (told (now (text .entry)) r) (now (table .exit)) (now (notes .entry)) ⌝ }
 {
-    let a = token(text, c, words::LEGAL_CONTRACT);
-    let Step::On(d) = a else {
+    let a = packed::token(text, c, words::LEGAL_CONTRACT);
+    if packed::stops(a) {
         return a;
-    };
-    let b = name_here(d);
-    let Step::On(n) = b else {
+    }
+    let d = a;
+    let b = name_here(text, d);
+    if packed::stops(b) {
         return b;
-    };
-    entries::title(text, table, n.start, n.end);
-    token(text, lex(text, n.end), words::OPEN_BRACE)
+    }
+    let n = b;
+    entries::title(text, table, packed::start_of(n), packed::end_of(n));
+    packed::token(
+        text,
+        packed::lex(text, packed::end_of(n)),
+        words::OPEN_BRACE,
+    )
 }
 
 // The lines of assets and fields.
-fn declarations(text: &[u8], table: &mut [u64], notes: &mut [u64], c: Cursor) -> Step
-    ensures { λ r. ⌜ Leaves (walk.declarations (now (text .entry)) c (pass (now (table .entry)) (now (notes .entry)))) r (now (table .exit)) (now (notes .exit)) ⌝ }
+fn declarations(text: &[u8], table: &mut [u64], notes: &mut [u64], c: u64) -> u64
+    requires { ⌜ (length (now text) ≤ 16384) × (isStop c ≡ false) ⌝ }
+    ensures { λ r. ⌜ Leaves (walk.declarations (now (text .entry)) (seen (now (text .entry)) c) (pass (now (table .entry)) (now (notes .entry)))) (told (now (text .entry)) r) (now (table .exit)) (now (notes .exit)) ⌝ }
 {
     let a = clauses::line(text, table, notes, c, words::ASSETS, entries::ASSET);
-    let Step::On(d) = a else {
+    if packed::stops(a) {
         return a;
-    };
+    }
+    let d = a;
     clauses::line(text, table, notes, d, words::FIELDS, entries::FIELD)
 }
 
@@ -192,98 +140,117 @@ fn close(table: &[u64], notes: &mut [u64], place: usize)
 }
 
 // => @Q after the agreement's closing brace.
-fn initial_state(text: &[u8], table: &mut [u64], notes: &mut [u64], c: Cursor) -> Step
-    ensures { λ r. ⌜ Leaves (walk.initialState (now (text .entry)) c (pass (now (table .entry)) (now (notes .entry)))) r (now (table .exit)) (now (notes .exit)) ⌝ }
+fn initial_state(text: &[u8], table: &mut [u64], notes: &mut [u64], c: u64) -> u64
+    requires { ⌜ (length (now text) ≤ 16384) × (isStop c ≡ false) ⌝ }
+    ensures { λ r. ⌜ Leaves (walk.initialState (now (text .entry)) (seen (now (text .entry)) c) (pass (now (table .entry)) (now (notes .entry)))) (told (now (text .entry)) r) (now (table .exit)) (now (notes .exit)) ⌝ }
 {
-    let a = token(text, c, words::STATE_ARROW);
-    let Step::On(f) = a else {
+    let a = packed::token(text, c, words::STATE_ARROW);
+    if packed::stops(a) {
         return a;
-    };
+    }
+    let f = a;
     let b = state_at(text, f);
-    let Step::On(l) = b else {
+    if packed::stops(b) {
         return b;
-    };
+    }
+    let l = b;
     let state = mention_state(text, table, notes, l);
     entries::store(table, 9, state as u64);
-    Step::On(lex(text, l.end))
+    packed::lex(text, packed::end_of(l))
 }
 
 // The clauses, and what is after them.
-fn agreement_rest(text: &[u8], table: &mut [u64], notes: &mut [u64], c: Cursor) -> Step
-    ensures { λ r. ⌜ Leaves (walk.agreementRest (now (text .entry)) c (pass (now (table .entry)) (now (notes .entry)))) r (now (table .exit)) (now (notes .exit)) ⌝ }
+fn agreement_rest(text: &[u8], table: &mut [u64], notes: &mut [u64], c: u64) -> u64
+    requires { ⌜ (length (now text) ≤ 16384) × (isStop c ≡ false) ⌝ }
+    ensures { λ r. ⌜ Leaves (walk.agreementRest (now (text .entry)) (seen (now (text .entry)) c) (pass (now (table .entry)) (now (notes .entry)))) (told (now (text .entry)) r) (now (table .exit)) (now (notes .exit)) ⌝ }
 {
     let a = clauses::clauses(text, table, notes, c);
-    let Step::On(d) = a else {
+    if packed::stops(a) {
         return a;
-    };
-    let b = token(text, d, words::CLOSE_BRACE);
-    let Step::On(e) = b else {
+    }
+    let d = a;
+    let b = packed::token(text, d, words::CLOSE_BRACE);
+    if packed::stops(b) {
         return b;
-    };
-    close(table, notes, d.start);
+    }
+    let e = b;
+    close(table, notes, packed::start_of(d));
     initial_state(text, table, notes, e)
 }
 
-fn agreement_of(text: &[u8], table: &mut [u64], notes: &mut [u64], c: Cursor) -> Step
-    ensures { λ r. ⌜ Leaves (walk.agreement (now (text .entry)) c (pass (now (table .entry)) (now (notes .entry)))) r (now (table .exit)) (now (notes .exit)) ⌝ }
+fn agreement_of(text: &[u8], table: &mut [u64], notes: &mut [u64], c: u64) -> u64
+    requires { ⌜ (length (now text) ≤ 16384) × (isStop c ≡ false) ⌝ }
+    ensures { λ r. ⌜ Leaves (walk.agreement (now (text .entry)) (seen (now (text .entry)) c) (pass (now (table .entry)) (now (notes .entry)))) (told (now (text .entry)) r) (now (table .exit)) (now (notes .exit)) ⌝ }
 {
-    let a = token(text, c, words::AGREEMENT);
-    let Step::On(d) = a else {
+    let a = packed::token(text, c, words::AGREEMENT);
+    if packed::stops(a) {
         return a;
-    };
-    let b = token(text, d, words::OPEN_PAREN);
-    let Step::On(e) = b else {
+    }
+    let d = a;
+    let b = packed::token(text, d, words::OPEN_PAREN);
+    if packed::stops(b) {
         return b;
-    };
+    }
+    let e = b;
     let names = clauses::names(text, table, notes, e, entries::PARTY);
-    let Step::On(f) = names else {
+    if packed::stops(names) {
         return names;
-    };
-    let g = token(text, f, words::CLOSE_PAREN);
-    let Step::On(h) = g else {
+    }
+    let f = names;
+    let g = packed::token(text, f, words::CLOSE_PAREN);
+    if packed::stops(g) {
         return g;
-    };
-    let i = token(text, h, words::OPEN_BRACE);
-    let Step::On(j) = i else {
+    }
+    let h = g;
+    let i = packed::token(text, h, words::OPEN_BRACE);
+    if packed::stops(i) {
         return i;
-    };
+    }
+    let j = i;
     agreement_rest(text, table, notes, j)
 }
 
 // The closing brace, and nothing but the text's end after it.
-fn ending(text: &[u8], c: Cursor) -> Step
-    ensures { λ r. ⌜ r ≡ walk.endingAt (now (text .entry)) c ⌝ }
+fn ending(text: &[u8], c: u64) -> u64
+    requires { ⌜ (length (now text) ≤ 16384) × (isStop c ≡ false) ⌝ }
+    ensures { λ r. ⌜ told (now (text .entry)) r ≡ walk.endingAt (now (text .entry)) (seen (now (text .entry)) c) ⌝ }
 {
-    let a = token(text, c, words::CLOSE_BRACE);
-    let Step::On(d) = a else {
-        return a;
-    };
-    if d.kind == TEXT_END {
+    let a = packed::token(text, c, words::CLOSE_BRACE);
+    if packed::stops(a) {
         return a;
     }
-    unfit(d)
+    let d = a;
+    if packed::kind_of(d) == TEXT_END {
+        return a;
+    }
+    packed::unfit(text, d)
 }
 
 // The whole text.
-fn contract_text(text: &[u8], table: &mut [u64], notes: &mut [u64]) -> Step
-    ensures { λ r. ⌜ Leaves (walk.walk (now (text .entry)) (pass (now (table .entry)) (now (notes .entry)))) r (now (table .exit)) (now (notes .exit)) ⌝ }
+fn contract_text(text: &[u8], table: &mut [u64], notes: &mut [u64]) -> u64
+    requires { ⌜ length (now text) ≤ 16384 ⌝ }
+    ensures { λ r. ⌜ Leaves (walk.walk (now (text .entry)) (pass (now (table .entry)) (now (notes .entry)))) (told (now (text .entry)) r) (now (table .exit)) (now (notes .exit)) ⌝ }
 {
-    let a = opening(text, table, notes, lex(text, 0));
-    let Step::On(c) = a else {
+    let a = opening(text, table, notes, packed::lex(text, 0));
+    if packed::stops(a) {
         return a;
-    };
+    }
+    let c = a;
     let b = declarations(text, table, notes, c);
-    let Step::On(d) = b else {
+    if packed::stops(b) {
         return b;
-    };
+    }
+    let d = b;
     let e = agreement_of(text, table, notes, d);
-    let Step::On(f) = e else {
+    if packed::stops(e) {
         return e;
-    };
+    }
+    let f = e;
     let g = bodies::functions(text, table, notes, f);
-    let Step::On(h) = g else {
+    if packed::stops(g) {
         return g;
-    };
+    }
+    let h = g;
     ending(text, h)
 }
 
@@ -304,14 +271,15 @@ fn settle(table: &mut [u64], notes: &[u64]) -> Answer
 
 // The pass with notes of its own, all zeros.
 fn pass_over(text: &[u8], table: &mut [u64]) -> Answer
+    requires { ⌜ length (now text) ≤ 16384 ⌝ }
     ensures { λ r. ⌜ walk.Ends (walk.walk (now (text .entry)) (pass (now (table .entry)) (zeros 606))) r (now (table .exit)) ⌝ }
 {
     let mut notes: [u64; 606] = [0; 606];
     let r = contract_text(text, table, &mut notes);
-    match r {
-        Step::On(_) => settle(table, &notes),
-        Step::Stop(q, p) => Answer::Refused(q, p),
+    if packed::stops(r) {
+        return Answer::Refused(packed::kind_of(r), packed::start_of(r));
     }
+    settle(table, &notes)
 }
 
 // Reads a contract's text into a lent table; a refused one leaves zeros.

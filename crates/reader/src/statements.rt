@@ -2,38 +2,32 @@
 ghost use mathlib.Core.Path.{_≡_};
 ghost use mathlib.Core.Bool.{Bool, true, false};
 ghost use mathlib.Core.List.{[]};
-ghost use Prim.Native.Nat.{_-_};
+ghost use Prim.Native.Nat.{_-_, _≤_};
 ghost use lib.ListN.{length};
 ghost use Rattle.entries.specs.Pass.{note};
 ghost use Rattle.reader.specs.Grammar.{isOneOf, itemStarts};
+ghost use Rattle.reader.specs.Packed.{isStop, seen, told};
 ghost use Rattle.reader.specs.Walk as walk;
 ghost use Rattle.reader.specs.Walk.{Leaves, pass};
-use crate::Cursor;
-use crate::Step;
 use crate::expressions;
+use crate::packed;
 use crate::terms;
 use contract::Node;
 use tokens::Token;
 
 // E -> t, at t. `first` is the statement's first token, `from` its block's first node.
-fn sends(
-    text: &[u8],
-    table: &mut [u64],
-    notes: &mut [u64],
-    first: Cursor,
-    from: usize,
-    c: Cursor,
-) -> Step
-    ensures { λ r. ⌜ Leaves (walk.sends (now (text .entry)) first from c (pass (now (table .entry)) (now (notes .entry)))) r (now (table .exit)) (now (notes .exit)) ⌝ }
+fn sends(text: &[u8], table: &mut [u64], notes: &mut [u64], first: u64, from: usize, c: u64) -> u64
+    requires { ⌜ (length (now text) ≤ 16384) × (isStop first ≡ false) × (isStop c ≡ false) ⌝ }
+    ensures { λ r. ⌜ Leaves (walk.sends (now (text .entry)) (seen (now (text .entry)) first) from (seen (now (text .entry)) c) (pass (now (table .entry)) (now (notes .entry)))) (told (now (text .entry)) r) (now (table .exit)) (now (notes .exit)) ⌝ }
 {
-    if c.kind != Token::NAME {
-        return crate::unfit(c);
+    if packed::kind_of(c) != Token::NAME {
+        return packed::unfit(text, c);
     }
-    entries::count(notes, entries::STATEMENT, first.start);
-    let target = entries::value_target(text, notes, c.start, c.end);
-    entries::put_name(table, notes, target, c.start);
+    entries::count(notes, entries::STATEMENT, packed::start_of(first));
+    let target = entries::value_target(text, notes, packed::start_of(c), packed::end_of(c));
+    entries::put_name(table, notes, target, packed::start_of(c));
     entries::put(table, notes, Node::VALUE_MOVE, 0, from);
-    Step::On(crate::lex(text, c.end))
+    packed::lex(text, packed::end_of(c))
 }
 
 // E -o h, t, at t.
@@ -41,24 +35,37 @@ fn moves(
     text: &[u8],
     table: &mut [u64],
     notes: &mut [u64],
-    first: Cursor,
+    first: u64,
     from: usize,
-    source: Cursor,
-    c: Cursor,
+    source: u64,
+    c: u64,
     handler: bool,
-) -> Step
-    ensures { λ r. ⌜ Leaves (walk.moves (now (text .entry)) handler first from source c (pass (now (table .entry)) (now (notes .entry)))) r (now (table .exit)) (now (notes .exit)) ⌝ }
+) -> u64
+    requires { ⌜ (length (now text) ≤ 16384) × (isStop first ≡ false) × (isStop source ≡ false) × (isStop c ≡ false) ⌝ }
+    ensures { λ r. ⌜ Leaves (walk.moves (now (text .entry)) handler (seen (now (text .entry)) first) from (seen (now (text .entry)) source) (seen (now (text .entry)) c) (pass (now (table .entry)) (now (notes .entry)))) (told (now (text .entry)) r) (now (table .exit)) (now (notes .exit)) ⌝ }
 {
-    if c.kind != Token::NAME {
-        return crate::unfit(c);
+    if packed::kind_of(c) != Token::NAME {
+        return packed::unfit(text, c);
     }
-    entries::count(notes, entries::STATEMENT, first.start);
-    let holder = entries::holder(text, notes, handler, source.start, source.end);
-    entries::put_name(table, notes, holder, source.start);
-    let target = entries::asset_target(text, notes, handler, c.start, c.end);
-    entries::put_name(table, notes, target, c.start);
+    entries::count(notes, entries::STATEMENT, packed::start_of(first));
+    let holder = entries::holder(
+        text,
+        notes,
+        handler,
+        packed::start_of(source),
+        packed::end_of(source),
+    );
+    entries::put_name(table, notes, holder, packed::start_of(source));
+    let target = entries::asset_target(
+        text,
+        notes,
+        handler,
+        packed::start_of(c),
+        packed::end_of(c),
+    );
+    entries::put_name(table, notes, target, packed::start_of(c));
     entries::put(table, notes, Node::ASSET_MOVE, 0, from);
-    Step::On(crate::lex(text, c.end))
+    packed::lex(text, packed::end_of(c))
 }
 
 // h -o t, at t.
@@ -66,21 +73,34 @@ fn moves_all(
     text: &[u8],
     table: &mut [u64],
     notes: &mut [u64],
-    first: Cursor,
+    first: u64,
     from: usize,
-    c: Cursor,
+    c: u64,
     handler: bool,
 )
-    ensures { λ _. ⌜ now (table .exit) ≡ (walk.movesAll (now (text .entry)) handler first from c (pass (now (table .entry)) (now (notes .entry)))) .table ⌝ }
-    ensures { λ _. ⌜ now (notes .exit) ≡ (walk.movesAll (now (text .entry)) handler first from c (pass (now (table .entry)) (now (notes .entry)))) .notes ⌝ }
+    requires { ⌜ (length (now text) ≤ 16384) × (isStop first ≡ false) × (isStop c ≡ false) ⌝ }
+    ensures { λ _. ⌜ now (table .exit) ≡ (walk.movesAll (now (text .entry)) handler (seen (now (text .entry)) first) from (seen (now (text .entry)) c) (pass (now (table .entry)) (now (notes .entry)))) .table ⌝ }
+    ensures { λ _. ⌜ now (notes .exit) ≡ (walk.movesAll (now (text .entry)) handler (seen (now (text .entry)) first) from (seen (now (text .entry)) c) (pass (now (table .entry)) (now (notes .entry)))) .notes ⌝ }
 {
     let before = crate::nodes(notes);
-    entries::count(notes, entries::STATEMENT, first.start);
-    entries::count(notes, entries::NODE, c.start);
-    let holder = entries::holder(text, notes, handler, first.start, first.end);
-    let target = entries::asset_target(text, notes, handler, c.start, c.end);
-    entries::want(notes, holder, first.start);
-    entries::want(notes, target, c.start);
+    entries::count(notes, entries::STATEMENT, packed::start_of(first));
+    entries::count(notes, entries::NODE, packed::start_of(c));
+    let holder = entries::holder(
+        text,
+        notes,
+        handler,
+        packed::start_of(first),
+        packed::end_of(first),
+    );
+    let target = entries::asset_target(
+        text,
+        notes,
+        handler,
+        packed::start_of(c),
+        packed::end_of(c),
+    );
+    entries::want(notes, holder, packed::start_of(first));
+    entries::want(notes, target, packed::start_of(c));
     entries::put(table, notes, target.kind, target.number, before);
     entries::put(table, notes, Node::WHOLE_MOVE, 0, from);
 }
@@ -90,19 +110,20 @@ fn asset_move(
     text: &[u8],
     table: &mut [u64],
     notes: &mut [u64],
-    first: Cursor,
+    first: u64,
     from: usize,
     alone: bool,
-    c: Cursor,
+    c: u64,
     handler: bool,
-) -> Step
-    ensures { λ r. ⌜ Leaves (walk.assetMove (now (text .entry)) handler first from alone c (pass (now (table .entry)) (now (notes .entry)))) r (now (table .exit)) (now (notes .exit)) ⌝ }
+) -> u64
+    requires { ⌜ (length (now text) ≤ 16384) × (isStop first ≡ false) × (isStop c ≡ false) ⌝ }
+    ensures { λ r. ⌜ Leaves (walk.assetMove (now (text .entry)) handler (seen (now (text .entry)) first) from alone (seen (now (text .entry)) c) (pass (now (table .entry)) (now (notes .entry)))) (told (now (text .entry)) r) (now (table .exit)) (now (notes .exit)) ⌝ }
 {
-    if c.kind != Token::NAME {
-        return crate::unfit(c);
+    if packed::kind_of(c) != Token::NAME {
+        return packed::unfit(text, c);
     }
-    let d = crate::lex(text, c.end);
-    if d.kind == words::COMMA {
+    let d = packed::lex(text, packed::end_of(c));
+    if packed::kind_of(d) == words::COMMA {
         return moves(
             text,
             table,
@@ -110,23 +131,23 @@ fn asset_move(
             first,
             from,
             c,
-            crate::lex(text, d.end),
+            packed::lex(text, packed::end_of(d)),
             handler,
         );
     }
     if alone {
         moves_all(text, table, notes, first, from, c, handler);
-        return Step::On(d);
+        return d;
     }
-    crate::unfit(d)
+    packed::unfit(text, d)
 }
 
 // Whether an expression from `first` up to c is one name alone.
-fn is_alone(first: Cursor, c: Cursor) -> bool
-    ensures { λ r. ⌜ r ≡ walk.isAlone [] first c ⌝ }
+fn is_alone(first: u64, c: u64) -> bool
+    ensures { λ r. ⌜ r ≡ walk.isAlone [] (seen [] first) (seen [] c) ⌝ }
 {
-    if first.kind == Token::NAME {
-        c.at == first.end
+    if packed::kind_of(first) == Token::NAME {
+        packed::at_of(c) == packed::end_of(first)
     } else {
         false
     }
@@ -137,16 +158,24 @@ pub(crate) fn action(
     text: &[u8],
     table: &mut [u64],
     notes: &mut [u64],
-    first: Cursor,
+    first: u64,
     from: usize,
-    c: Cursor,
+    c: u64,
     handler: bool,
-) -> Step
-    ensures { λ r. ⌜ Leaves (walk.action (now (text .entry)) handler first from c (pass (now (table .entry)) (now (notes .entry)))) r (now (table .exit)) (now (notes .exit)) ⌝ }
+) -> u64
+    requires { ⌜ (length (now text) ≤ 16384) × (isStop first ≡ false) × (isStop c ≡ false) ⌝ }
+    ensures { λ r. ⌜ Leaves (walk.action (now (text .entry)) handler (seen (now (text .entry)) first) from (seen (now (text .entry)) c) (pass (now (table .entry)) (now (notes .entry)))) (told (now (text .entry)) r) (now (table .exit)) (now (notes .exit)) ⌝ }
 {
-    let kind = c.kind;
+    let kind = packed::kind_of(c);
     if kind == words::VALUE_ARROW {
-        return sends(text, table, notes, first, from, crate::lex(text, c.end));
+        return sends(
+            text,
+            table,
+            notes,
+            first,
+            from,
+            packed::lex(text, packed::end_of(c)),
+        );
     }
     if kind == words::ASSET_ARROW {
         let alone = is_alone(first, c);
@@ -157,11 +186,11 @@ pub(crate) fn action(
             first,
             from,
             alone,
-            crate::lex(text, c.end),
+            packed::lex(text, packed::end_of(c)),
             handler,
         );
     }
-    crate::unfit(c)
+    packed::unfit(text, c)
 }
 
 // Whether a token may start a statement or an event.
@@ -178,21 +207,23 @@ fn statement(
     text: &[u8],
     table: &mut [u64],
     notes: &mut [u64],
-    c: Cursor,
+    c: u64,
     levels: usize,
     from: usize,
     handler: bool,
-) -> Step
-    ensures { λ r. ⌜ Leaves (walk.statement (now (text .entry)) handler levels (walk.conditional (now (text .entry)) handler levels) from c (pass (now (table .entry)) (now (notes .entry)))) r (now (table .exit)) (now (notes .exit)) ⌝ }
+) -> u64
+    requires { ⌜ (length (now text) ≤ 16384) × (isStop c ≡ false) ⌝ }
+    ensures { λ r. ⌜ Leaves (walk.statement (now (text .entry)) handler levels (walk.conditional (now (text .entry)) handler levels) from (seen (now (text .entry)) c) (pass (now (table .entry)) (now (notes .entry)))) (told (now (text .entry)) r) (now (table .exit)) (now (notes .exit)) ⌝ }
 {
-    if c.kind == words::OPEN_PAREN {
+    if packed::kind_of(c) == words::OPEN_PAREN {
         return conditional(text, table, notes, c, levels, from, handler);
     }
-    entries::count(notes, entries::NODE, c.start);
+    entries::count(notes, entries::NODE, packed::start_of(c));
     let r = expressions::expression(text, table, notes, c, levels, handler);
-    let Step::On(d) = r else {
+    if packed::stops(r) {
         return r;
-    };
+    }
+    let d = r;
     action(text, table, notes, c, from, d, handler)
 }
 
@@ -201,27 +232,29 @@ fn statements(
     text: &[u8],
     table: &mut [u64],
     notes: &mut [u64],
-    c: Cursor,
+    c: u64,
     levels: usize,
     from: usize,
     handler: bool,
-) -> Step
-    ensures { λ r. ⌜ Leaves (walk.statements (now (text .entry)) handler levels (walk.conditional (now (text .entry)) handler levels) from (length (now (text .entry))) c (pass (now (table .entry)) (now (notes .entry)))) r (now (table .exit)) (now (notes .exit)) ⌝ }
+) -> u64
+    requires { ⌜ (length (now text) ≤ 16384) × (isStop c ≡ false) ⌝ }
+    ensures { λ r. ⌜ Leaves (walk.statements (now (text .entry)) handler levels (walk.conditional (now (text .entry)) handler levels) from (length (now (text .entry))) (seen (now (text .entry)) c) (pass (now (table .entry)) (now (notes .entry)))) (told (now (text .entry)) r) (now (table .exit)) (now (notes .exit)) ⌝ }
 {
     let mut here = c;
     let mut left = text.len();
     while 0 < left {
-        if !is_start(here.kind) {
-            return Step::On(here);
+        if !is_start(packed::kind_of(here)) {
+            return here;
         }
         let r = statement(text, table, notes, here, levels, from, handler);
-        let Step::On(d) = r else {
+        if packed::stops(r) {
             return r;
-        };
+        }
+        let d = r;
         here = d;
         left -= 1;
     }
-    Step::On(here)
+    here
 }
 
 // { S }
@@ -229,22 +262,25 @@ pub(crate) fn braces(
     text: &[u8],
     table: &mut [u64],
     notes: &mut [u64],
-    c: Cursor,
+    c: u64,
     levels: usize,
     handler: bool,
-) -> Step
-    ensures { λ r. ⌜ Leaves (walk.braces (now (text .entry)) handler levels (walk.conditional (now (text .entry)) handler levels) c (pass (now (table .entry)) (now (notes .entry)))) r (now (table .exit)) (now (notes .exit)) ⌝ }
+) -> u64
+    requires { ⌜ (length (now text) ≤ 16384) × (isStop c ≡ false) ⌝ }
+    ensures { λ r. ⌜ Leaves (walk.braces (now (text .entry)) handler levels (walk.conditional (now (text .entry)) handler levels) (seen (now (text .entry)) c) (pass (now (table .entry)) (now (notes .entry)))) (told (now (text .entry)) r) (now (table .exit)) (now (notes .exit)) ⌝ }
 {
     let from = crate::nodes(notes);
-    let a = crate::token(text, c, words::OPEN_BRACE);
-    let Step::On(d) = a else {
+    let a = packed::token(text, c, words::OPEN_BRACE);
+    if packed::stops(a) {
         return a;
-    };
+    }
+    let d = a;
     let r = statements(text, table, notes, d, levels, from, handler);
-    let Step::On(e) = r else {
+    if packed::stops(r) {
         return r;
-    };
-    crate::token(text, e, words::CLOSE_BRACE)
+    }
+    let e = r;
+    packed::token(text, e, words::CLOSE_BRACE)
 }
 
 // (B) { S }, with so many levels left for it.
@@ -252,34 +288,38 @@ pub(crate) fn conditional(
     text: &[u8],
     table: &mut [u64],
     notes: &mut [u64],
-    c: Cursor,
+    c: u64,
     levels: usize,
     from: usize,
     handler: bool,
-) -> Step
-    ensures { λ r. ⌜ Leaves (walk.conditional (now (text .entry)) handler levels from c (pass (now (table .entry)) (now (notes .entry)))) r (now (table .exit)) (now (notes .exit)) ⌝ }
+) -> u64
+    requires { ⌜ (length (now text) ≤ 16384) × (isStop c ≡ false) ⌝ }
+    ensures { λ r. ⌜ Leaves (walk.conditional (now (text .entry)) handler levels from (seen (now (text .entry)) c) (pass (now (table .entry)) (now (notes .entry)))) (told (now (text .entry)) r) (now (table .exit)) (now (notes .exit)) ⌝ }
 {
-    let place = c.start;
+    let place = packed::start_of(c);
     if levels == 0 {
-        return Step::Stop(questions::LEVELS, place);
+        return packed::stop(questions::LEVELS, place);
     }
-    let a = crate::token(text, c, words::OPEN_PAREN);
-    let Step::On(d) = a else {
+    let a = packed::token(text, c, words::OPEN_PAREN);
+    if packed::stops(a) {
         return a;
-    };
+    }
+    let d = a;
     entries::count(notes, entries::NODE, place);
     entries::count(notes, entries::STATEMENT, place);
     let inner = expressions::condition(text, table, notes, d, levels - 1, handler);
     let b = terms::close(text, inner);
-    let Step::On(f) = b else {
+    if packed::stops(b) {
         return b;
-    };
+    }
+    let f = b;
     let before = crate::nodes(notes);
     let r = braces(text, table, notes, f, levels - 1, handler);
-    let Step::On(g) = r else {
+    if packed::stops(r) {
         return r;
-    };
+    }
+    let g = r;
     let block = crate::nodes_since(notes, before);
     entries::put(table, notes, Node::CONDITIONAL, block as u64, from);
-    Step::On(g)
+    g
 }

@@ -1,11 +1,13 @@
 // Leaves of expressions and conditions, and their operators.
 ghost use mathlib.Core.Path.{_≡_};
+ghost use Prim.Native.Nat.{_≤_};
+ghost use mathlib.Core.Bool.{false};
 ghost use Rattle.reader.specs.Grammar.{isOneOf, operators, comparisons};
 ghost use lib.ListN.{length};
+ghost use Rattle.reader.specs.Packed.{isStop, seen, told, NotsAre};
 ghost use Rattle.reader.specs.Walk as walk;
 ghost use Rattle.reader.specs.Walk.{Leaves, pass};
-use crate::Cursor;
-use crate::Step;
+use crate::packed;
 use contract::Node;
 use tokens::Token;
 
@@ -57,17 +59,18 @@ pub(crate) fn is_comparison(kind: u8) -> bool
 }
 
 // A string's node.
-fn string_leaf(text: &[u8], table: &mut [u64], notes: &mut [u64], c: Cursor)
-    ensures { λ _. ⌜ now (table .exit) ≡ (walk.stringLeaf (now (text .entry)) c (pass (now (table .entry)) (now (notes .entry)))) .table ⌝ }
-    ensures { λ _. ⌜ now (notes .exit) ≡ (walk.stringLeaf (now (text .entry)) c (pass (now (table .entry)) (now (notes .entry)))) .notes ⌝ }
+fn string_leaf(text: &[u8], table: &mut [u64], notes: &mut [u64], c: u64)
+    requires { ⌜ (length (now text) ≤ 16384) × (isStop c ≡ false) ⌝ }
+    ensures { λ _. ⌜ now (table .exit) ≡ (walk.stringLeaf (now (text .entry)) (seen (now (text .entry)) c) (pass (now (table .entry)) (now (notes .entry)))) .table ⌝ }
+    ensures { λ _. ⌜ now (notes .exit) ≡ (walk.stringLeaf (now (text .entry)) (seen (now (text .entry)) c) (pass (now (table .entry)) (now (notes .entry)))) .notes ⌝ }
 {
-    let mut start = c.start;
-    let mut end = c.end;
+    let mut start = packed::start_of(c);
+    let mut end = packed::end_of(c);
     if start < end {
         start += 1;
         end -= 1;
     }
-    let place = c.start;
+    let place = packed::start_of(c);
     entries::count(notes, entries::NODE, place);
     let number = entries::mention(text, table, notes, entries::STRING, start, end, place);
     let before = crate::nodes(notes);
@@ -75,44 +78,47 @@ fn string_leaf(text: &[u8], table: &mut [u64], notes: &mut [u64], c: Cursor)
 }
 
 // A name, a number, a string or now.
-pub(crate) fn leaf(
-    text: &[u8],
-    table: &mut [u64],
-    notes: &mut [u64],
-    c: Cursor,
-    handler: bool,
-) -> Step
-    ensures { λ r. ⌜ Leaves (walk.leaf (now (text .entry)) handler c (pass (now (table .entry)) (now (notes .entry)))) r (now (table .exit)) (now (notes .exit)) ⌝ }
+pub(crate) fn leaf(text: &[u8], table: &mut [u64], notes: &mut [u64], c: u64, handler: bool) -> u64
+    requires { ⌜ (length (now text) ≤ 16384) × (isStop c ≡ false) ⌝ }
+    ensures { λ r. ⌜ Leaves (walk.leaf (now (text .entry)) handler (seen (now (text .entry)) c) (pass (now (table .entry)) (now (notes .entry)))) (told (now (text .entry)) r) (now (table .exit)) (now (notes .exit)) ⌝ }
 {
-    let kind = c.kind;
+    let kind = packed::kind_of(c);
     if kind == Token::NAME {
-        let name = entries::name(text, notes, handler, c.start, c.end);
-        entries::put_name(table, notes, name, c.start);
-        return Step::On(crate::lex(text, c.end));
+        let name = entries::name(text, notes, handler, packed::start_of(c), packed::end_of(c));
+        entries::put_name(table, notes, name, packed::start_of(c));
+        return packed::lex(text, packed::end_of(c));
     }
     if kind == Token::NUMBER {
-        entries::put_leaf(table, notes, Node::CONSTANT, c.value, c.start);
-        return Step::On(crate::lex(text, c.end));
+        entries::put_leaf(
+            table,
+            notes,
+            Node::CONSTANT,
+            tokens::value_of(text, packed::start_of(c)),
+            packed::start_of(c),
+        );
+        return packed::lex(text, packed::end_of(c));
     }
     if kind == Token::STRING {
         string_leaf(text, table, notes, c);
-        return Step::On(crate::lex(text, c.end));
+        return packed::lex(text, packed::end_of(c));
     }
     if kind == words::NOW {
-        entries::put_leaf(table, notes, Node::NOW, 0, c.start);
-        return Step::On(crate::lex(text, c.end));
+        entries::put_leaf(table, notes, Node::NOW, 0, packed::start_of(c));
+        return packed::lex(text, packed::end_of(c));
     }
-    crate::unfit(c)
+    packed::unfit(text, c)
 }
 
 // Past the closing parenthesis.
-pub(crate) fn close(text: &[u8], r: Step) -> Step
-    ensures { λ a. ⌜ a ≡ walk.closedBy (now (text .entry)) r ⌝ }
+pub(crate) fn close(text: &[u8], r: u64) -> u64
+    requires { ⌜ length (now text) ≤ 16384 ⌝ }
+    ensures { λ a. ⌜ told (now (text .entry)) a ≡ walk.closedBy (now (text .entry)) (told (now (text .entry)) r) ⌝ }
 {
-    let Step::On(d) = r else {
+    if packed::stops(r) {
         return r;
-    };
-    crate::token(text, d, words::CLOSE_PAREN)
+    }
+    let d = r;
+    packed::token(text, d, words::CLOSE_PAREN)
 }
 
 // The nodes of `~`, so many.
@@ -130,20 +136,21 @@ pub(crate) fn negate(table: &mut [u64], notes: &mut [u64], many: usize, before: 
 // `~` in a row: how many, and the cursor after them.
 pub(crate) struct Nots {
     pub(crate) many: usize,
-    pub(crate) next: Cursor,
+    pub(crate) next: u64,
 }
 
-pub(crate) fn count_nots(text: &[u8], notes: &mut [u64], c: Cursor) -> Nots
-    ensures { λ r. ⌜ walk.NotsAre (now (text .entry)) c (now (notes .entry)) r (now (notes .exit)) ⌝ }
+pub(crate) fn count_nots(text: &[u8], notes: &mut [u64], c: u64) -> Nots
+    requires { ⌜ (length (now text) ≤ 16384) × (isStop c ≡ false) ⌝ }
+    ensures { λ r. ⌜ NotsAre (now (text .entry)) (seen (now (text .entry)) c) (now (notes .entry)) r (now (notes .exit)) ⌝ }
 {
     let mut here = c;
     let mut many: usize = 0;
     while many < text.len() {
-        if here.kind != words::NOT {
+        if packed::kind_of(here) != words::NOT {
             return Nots { many, next: here };
         }
-        entries::count(notes, entries::NODE, here.start);
-        here = crate::lex(text, here.end);
+        entries::count(notes, entries::NODE, packed::start_of(here));
+        here = packed::lex(text, packed::end_of(here));
         many += 1;
     }
     Nots { many, next: here }

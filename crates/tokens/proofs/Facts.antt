@@ -24,7 +24,7 @@ Placed s at (Found t) = (at ≤ t .start) × (t .start < t .end) × (t .end ≤ 
 Placed s at (Refused k p) = (at ≤ p) × (p < length s)
 Placed s at End = Unit {0}
 
-letter-name : (b : ℕ) → isLetter b ≡ true → isNameByte b ≡ true
+pub letter-name : (b : ℕ) → isLetter b ≡ true → isNameByte b ≡ true
 unfolding isNameByte pick
 letter-name b e = rw e
 

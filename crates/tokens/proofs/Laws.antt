@@ -1,17 +1,64 @@
 -- How runs, numbers and gaps go on from an index of a text, and where they end. Assumes nothing.
-use mathlib.Core.Path.{_≡_, refl, _∙_}
+use mathlib.Core.Path.{_≡_, refl, sym, ap, _∙_}
 use mathlib.Core.List.{List, [], _∷_}
 use mathlib.Core.Bool.{Bool, true, false}
 use Prim.Native.Nat.{ℕ, suc, _+_, _-_, _*_, _<_, _≤_, min}
 use native.Mathlib.Omega.{arith}
 use lib.ListN.{length, getD, drop, length-drop}
-use lib.Dec.{eqb}
-use borrow.Author.Tests.{eq-eqb, ne-eqb}
+use lib.Dec.{eqb, leb}
+use borrow.Author.Tests.{eq-eqb, ne-eqb, eqb-true, eqb-false, leb-true, le-leb}
 use Rattle.laws.specs.Choice.{pick}
 use Rattle.laws.specs.Bytes.{startsWith}
-use Rattle.laws.proofs.Choice.{pick-true, pick-false}
+use Rattle.laws.proofs.Choice.{pick-true, pick-false, true-false}
 use Rattle.laws.proofs.Lists.{cons-at, next-at}
-use Rattle.tokens.specs.Classes.{isDigit, isBlank, isText, run, decimal, gap}
+use Rattle.tokens.specs.Classes.{within, isLetter, isDigit, isPrintable, isBlank, isText, run, decimal, gap}
+
+-- a letter, a digit and a quote are text
+within-true : (b lo hi : ℕ) → within b lo hi ≡ true → (lo ≤ b) × (b ≤ hi)
+unfolding within pick
+within-true b lo hi = go (leb lo b) refl
+  where
+    go : (x : Bool) → leb lo b ≡ x → pick x (leb b hi) false ≡ true → (lo ≤ b) × (b ≤ hi)
+    go true e f = (leb-true lo b e, leb-true b hi f)
+    go false e f = true-false (sym f)
+
+printable : (b : ℕ) → 32 ≤ b → b ≤ 126 → isText b ≡ true
+unfolding isText isPrintable within pick
+printable b h k = rw (le-leb 32 b h, le-leb b 126 k)
+
+pub letter-text : (b : ℕ) → isLetter b ≡ true → isText b ≡ true
+unfolding isLetter pick
+letter-text b = go (within b 97 122) refl
+  where
+    go : (x : Bool) → within b 97 122 ≡ x → pick x true (within b 65 90) ≡ true → isText b ≡ true
+    go true e f =
+        let w = within-true b 97 122 e in
+        printable b (omega (arith, w .0)) (omega (arith, w .1))
+    go false e f =
+        let w = within-true b 65 90 f in
+        printable b (omega (arith, w .0)) (omega (arith, w .1))
+
+pub digit-text : (b : ℕ) → isDigit b ≡ true → isText b ≡ true
+unfolding isDigit
+digit-text b e =
+    let w = within-true b 48 57 e in
+    printable b (omega (arith, w .0)) (omega (arith, w .1))
+
+pub quote-text : (b : ℕ) → b ≡ 34 → isText b ≡ true
+quote-text b e = printable b (omega (arith, e)) (omega (arith, e))
+
+-- what is no text is no blank and no slash
+not-blank : (b : ℕ) → isText b ≡ false → isBlank b ≡ false
+unfolding isText pick
+not-blank b = go (isPrintable b)
+  where
+    go : (x : Bool) → pick x true (isBlank b) ≡ false → isBlank b ≡ false
+    go true f = true-false f
+    go false f = f
+
+not-slash : (b : ℕ) → isText b ≡ false → b ≡ 47 → ⊥
+unfolding isText isPrintable within pick
+not-slash b f g = true-false (ap isText (sym g) ∙ f)
 
 module _ (s : List ℕ) (i : ℕ) (h : i < length s) where
   pub run-go : (p : ℕ → Bool) → p (getD s i 0) ≡ true → run p (drop i s) ≡ suc (run p (drop (i + 1) s))
@@ -64,11 +111,29 @@ module _ (s : List ℕ) (i : ℕ) (h : i < length s) where
           near true = refl
           near false = refl
 
-  pub comment-opens : isBlank (getD s i 0) ≡ false → getD s i 0 ≡ 47 → getD s (i + 1) 0 ≡ 47 → gap false (drop i s) ≡ suc (gap true (drop (i + 1) s))
-  comment-opens e b n = slash-at b e ∙ pick-true _ _ _ (eq-eqb (getD s (i + 1) 0) 47 n)
+  -- whether a comment opens at i, as the code tests it
+  abbrev pub opened : Bool
+  opened = pick (eqb (getD s i 0) 47) (eqb (getD s (i + 1) 0) 47) false
 
-  pub slash-stops : isBlank (getD s i 0) ≡ false → getD s i 0 ≡ 47 → (getD s (i + 1) 0 ≡ 47 → ⊥) → gap false (drop i s) ≡ 0
-  slash-stops e b n = slash-at b e ∙ pick-false _ _ _ (ne-eqb (getD s (i + 1) 0) 47 n)
+  pub comment-opens : isBlank (getD s i 0) ≡ false → opened ≡ true → gap false (drop i s) ≡ suc (gap true (drop (i + 1) s))
+  unfolding pick
+  comment-opens e = go (eqb (getD s i 0) 47) refl
+    where
+      go : (x : Bool) → eqb (getD s i 0) 47 ≡ x → pick x (eqb (getD s (i + 1) 0) 47) false ≡ true → gap false (drop i s) ≡ suc (gap true (drop (i + 1) s))
+      go true f g = slash-at (eqb-true (getD s i 0) 47 f) e ∙ pick-true _ _ _ g
+      go false f g = true-false (sym g)
+
+  pub no-comment : isBlank (getD s i 0) ≡ false → opened ≡ false → gap false (drop i s) ≡ 0
+  unfolding pick
+  no-comment e = go (eqb (getD s i 0) 47) refl
+    where
+      go : (x : Bool) → eqb (getD s i 0) 47 ≡ x → pick x (eqb (getD s (i + 1) 0) 47) false ≡ false → gap false (drop i s) ≡ 0
+      go true f g = slash-at (eqb-true (getD s i 0) 47 f) e ∙ pick-false _ _ _ g
+      go false f g = blank-stops e (eqb-false (getD s i 0) 47 f)
+
+  -- a byte that is no text ends the gap outside a comment too
+  pub other-stops : isText (getD s i 0) ≡ false → gap false (drop i s) ≡ 0
+  other-stops e = blank-stops (not-blank (getD s i 0) e) (not-slash (getD s i 0) e)
 
 -- a run ends within its list
 run-length : (p : ℕ → Bool) (t : List ℕ) → run p t ≤ length t

@@ -11,13 +11,13 @@ ghost use Rattle.tokens.specs.Classes.{within, isLetter, isDigit, isName
 ghost use Rattle.tokens.specs.Tokens.{token, tokenAt, partOf, between, nameAt, numberAt, stringAt, markAt, marks, startAt, kindAmong, reserved};
 
 pub struct Token {
-    // The number of the fixed word that it is, or NAME, NUMBER or STRING.
-    pub kind: u8,
     pub start: usize,
     // The place after its last byte.
     pub end: usize,
     // A number's value, else 0.
     pub value: u64,
+    // The number of the fixed word that it is, or NAME, NUMBER or STRING.
+    pub kind: u8,
 }
 
 impl Token {
@@ -115,38 +115,21 @@ fn byte_at(text: &[u8], i: usize) -> u8
     if i < text.len() { text[i] } else { 0 }
 }
 
-// The place after the blanks and comments that start at `at`.
-fn skip(text: &[u8], at: usize) -> usize
-    ensures { λ r. ⌜ r ≡ at + gap false (drop at (now (text .entry))) ⌝ }
+// The place after the comment's bytes that start at `at`.
+fn comment_end(text: &[u8], at: usize) -> usize
+    ensures { λ r. ⌜ (at ≤ r) × (r + gap false (drop r (now (text .entry))) ≡ at + gap true (drop at (now (text .entry)))) ⌝ }
 {
     let mut i = at;
-    let mut comment = false;
     while i < text.len() {
         let b = text[i];
-        if comment {
-            if b == b'\n' {
-                comment = false;
-                i += 1;
-                continue;
-            }
-            if is_text(b) {
-                i += 1;
-                continue;
-            }
-            return i;
+        if b == b'\n' {
+            return i + 1;
         }
-        if is_blank(b) {
+        if is_text(b) {
             i += 1;
-            continue;
-        }
-        if b != b'/' {
+        } else {
             return i;
         }
-        if byte_at(text, i + 1) != b'/' {
-            return i;
-        }
-        comment = true;
-        i += 1;
     }
     i
 }
@@ -228,6 +211,14 @@ fn read_digits(text: &[u8], at: usize) -> Digits
     Digits { end: i, value: v }
 }
 
+// The value of the digits at a place, or ABOVE_TOP where it is greater than TOP.
+pub fn value_of(text: &[u8], at: usize) -> u64
+    ensures { λ r. ⌜ r ≡ min (decimal 0 (drop at (now (text .entry)))) 9223372036854775808 ⌝ }
+{
+    let d = read_digits(text, at);
+    d.value
+}
+
 // A token without a value.
 fn found(kind: u8, start: usize, end: usize) -> Lexed
     ensures { λ r. ⌜ r ≡ token kind start end 0 ⌝ }
@@ -274,10 +265,10 @@ fn name_kind(name: &[u8]) -> u8
 
 // The name or reserved word that starts at i.
 fn name_at(text: &[u8], i: usize) -> Lexed
-    requires { ⌜ i < length (now text) ⌝ }
+    requires { ⌜ (i < length (now text)) × (isLetter (getD (now text) i 0) ≡ true) ⌝ }
     ensures { λ r. ⌜ r ≡ nameAt (now (text .entry)) i ⌝ }
 {
-    let end = name_end(text, i);
+    let end = name_end(text, i + 1);
     if end - i <= Token::NAME_BYTES {
         found(name_kind(&text[i..end]), i, end)
     } else {
@@ -434,31 +425,50 @@ fn start_at(text: &[u8], i: usize) -> Lexed
     ensures { λ r. ⌜ r ≡ startAt (now (text .entry)) i (getD (now (text .entry)) i 0) ⌝ }
 {
     let b = text[i];
+    if is_letter(b) {
+        return name_at(text, i);
+    }
+    if is_digit(b) {
+        return number_at(text, i);
+    }
+    if b == b'"' {
+        return string_at(text, i);
+    }
     if is_text(b) {
-        if is_letter(b) {
-            return name_at(text, i);
-        }
-        if is_digit(b) {
-            return number_at(text, i);
-        }
-        if b == b'"' {
-            return string_at(text, i);
-        }
         return mark_at(text, i);
     }
     Lexed::Refused(questions::BYTE, i)
+}
+
+// Whether a comment opens at i.
+fn opens(text: &[u8], i: usize) -> bool
+    requires { ⌜ i < length (now text) ⌝ }
+    ensures { λ r. ⌜ r ≡ pick (eqb (getD (now (text .entry)) i 0) 47) (eqb (getD (now (text .entry)) (i + 1) 0) 47) false ⌝ }
+{
+    if text[i] == b'/' {
+        byte_at(text, i + 1) == b'/'
+    } else {
+        false
+    }
 }
 
 // The first token at or after `at`.
 pub fn next(text: &[u8], at: usize) -> Lexed
     ensures { λ r. ⌜ r ≡ tokenAt (now (text .entry)) at ⌝ }
 {
-    let i = skip(text, at);
-    if i < text.len() {
-        start_at(text, i)
-    } else {
-        Lexed::End
+    let mut i = at;
+    while i < text.len() {
+        if is_blank(text[i]) {
+            i += 1;
+            continue;
+        }
+        if opens(text, i) {
+            i = comment_end(text, i + 1);
+            continue;
+        }
+        return start_at(text, i);
     }
+    Lexed::End
 }
 
 // The bytes from a up to, not including, e; none where they are not all in the text.

@@ -48,3 +48,11 @@ same-starts [] (y ∷ ys) e = refl
 same-starts (x ∷ xs) [] e = absurd (omega arith)
 same-starts (x ∷ xs) (y ∷ ys) e =
     ap (λ (t : Bool). pick (eqb x y) t false) (same-starts xs ys (omega arith))
+
+-- lists that begin differently are different
+pub same-first : (a b : List ℕ) → (getD a 0 0 ≡ getD b 0 0 → ⊥) → sameBytes a b ≡ false
+unfolding sameBytes pick
+same-first [] [] h = absurd (h refl)
+same-first [] (y ∷ ys) h = refl
+same-first (x ∷ xs) [] h = refl
+same-first (x ∷ xs) (y ∷ ys) h = rw (ne-eqb x y h)

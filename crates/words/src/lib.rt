@@ -315,6 +315,9 @@ pub fn is_word(part: &[u8], which: u8) -> bool
     if part.len() != word_length(which) {
         return false;
     }
+    if at(part, 0) != byte(which, 0) {
+        return false;
+    }
     continues(part, 0, which)
 }
 

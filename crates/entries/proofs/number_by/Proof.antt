@@ -1,11 +1,16 @@
 -- `entries::number_by` meets its contract. Assumes nothing.
 use borrow.Author.Needs.{needs}
-use Rattle.entries.proofs.Finds.{number-is}
+use Rattle.entries.proofs.Finds.{number-is, number-none}
 use Rattle.entries.proofs.number_by.Statement.{statement}
 use Rattle.entries.proofs.number_by.Tie as tie
 
 many-of-requires : tie.Need-many-of-requires
 many-of-requires c κs = search needs
+
+returns : tie.Need-returns
+returns c =
+    let a = c .before .before .before .before .before .args in
+    number-none (a .text .now) (a .notes .now) (a .word .now) (a .kind) _ (c .before .many-of .ensures .0) (c .if1 .taken)
 
 slot-of-requires : tie.Need-slot-of-requires
 slot-of-requires c κs = search needs
@@ -13,10 +18,11 @@ slot-of-requires c κs = search needs
 find-from-requires : tie.Need-find-from-requires
 find-from-requires c κs = search needs
 
-returns : tie.Need-returns
-returns c =
-    let a = c .before .before .before .before .before .before .args in
-    number-is (a .text .now) (a .notes .now) (a .word .now) (a .kind) (a .mark) _ _ _ (c .before .before .before .before .before .before .pre) (c .before .slot-of .ensures .0) (c .before .before .many-of .ensures .0) (c .find-from .ensures .0)
+returns-2 : tie.Need-returns-2
+returns-2 c =
+    let a = c .before .before .before .before .before .before .before .args in
+    number-is (a .text .now) (a .notes .now) (a .word .now) (a .kind) (a .mark) _ _ _ (c .before .before .before .before .before .before .before .pre) (c .before .slot-of .ensures .0) (c .before .before .before .many-of .ensures .0) (c .find-from .ensures .0)
 
 pub number-by-spec : {M : Type 1} → statement M
-number-by-spec = tie.close (tie.spec many-of-requires slot-of-requires find-from-requires returns)
+number-by-spec =
+    tie.close (tie.spec many-of-requires returns slot-of-requires find-from-requires returns-2)

@@ -4,92 +4,84 @@ use Rattle.reader.proofs.agreement_rest.Statement.{statement}
 use Rattle.reader.proofs.agreement_rest.Tie as tie
 use mathlib.Core.Path.{sym, ap, _∙_}
 use Rattle.reader.specs.Walk as walk
+use Rattle.reader.specs.Packed.{seen}
 use Rattle.reader.proofs.Leaves.{leaves-same, went, handed, is-stop, follow-on, follow-stop, after-on, after-stop}
-use Rattle.reader.proofs.Enclosing.{closed-is}
-
-clauses-requires : tie.Need-clauses-requires
-clauses-requires c κs = search needs
-
-enum-known-a : tie.Need-enum-known-a
-enum-known-a c = search needs
-
-enum-told : tie.Need-enum-told
-enum-told c = search needs
-
-same-length : tie.Need-same-length
-same-length c = search needs
-
-same-length-2 : tie.Need-same-length-2
-same-length-2 c = search needs
+use Rattle.reader.proofs.PackedBodies as packed
+use Rattle.reader.proofs.PackedWhole.{closed-at}
 
 returns : tie.Need-returns
 unfolding walk.agreementRest
 returns c =
-    handed _ _ _ _ _ _ _ _ _ (c .before .before .before .before .before .before .clauses .ensures) (c .enum-told .given .1) (λ e. follow-stop _ _ _ _ e)
+    let c1 = c .before in
+    let c6 = c1 .before .before .before .before .before in
+    let c12 = c6 .before .before .before .before .before .before in
+    handed _ _ _ _ _ _ _ _ _ (c6 .clauses .ensures) (packed.halts (c12 .args .text .now) _ _ (c1 .stops .ensures) (c .if1 .taken)) (λ e. follow-stop _ _ _ _ e)
 
 token-requires : tie.Need-token-requires
-token-requires c κs = search needs
-
-enum-known-b : tie.Need-enum-known-b
-enum-known-b c = search needs
-
-enum-told-2 : tie.Need-enum-told-2
-enum-told-2 c = search needs
-
-same-length-3 : tie.Need-same-length-3
-same-length-3 c = search needs
-
-same-length-4 : tie.Need-same-length-4
-same-length-4 c = search needs
+token-requires c κs =
+    let c12 = c .before .before .before .before .before .before .before .before .before .before .before .before in
+    c12 .pre .0
 
 returns-2 : tie.Need-returns-2
 unfolding walk.agreementRest
 returns-2 c =
+    let c1 = c .before in
+    let c2 = c1 .before in
+    let c3 = c2 .before in
+    let c4 = c3 .before in
+    let c9 = c4 .before .before .before .before .before in
+    let c15 = c9 .before .before .before .before .before .before in
+    let s = c15 .args .text .now in
+    let f = packed.halts s _ _ (c1 .stops2 .ensures) (c .if2 .taken) in
     is-stop _ _ _ _ _ _
-    (follow-on _ _ _ _ (went _ _ _ _ _ (c .before .before .before .before .before .before .before .before .before .before .clauses .ensures) (c .before .before .before .before .a .given .1))
-    ∙ after-stop _ _ _ _ (sym (c .before .before .token .ensures) ∙ c .enum-told2 .given .1))
-    (c .enum-told2 .given .1)
-
-close-requires : tie.Need-close-requires
-close-requires c κs = search needs
+    (follow-on _ _ _ _ (went _ _ _ _ _ (c9 .clauses .ensures) (packed.keeps s _ _ (c4 .stops .ensures) (c3 .if1 .left)))
+    ∙ after-stop _ _ _ _ (sym (c2 .token .ensures) ∙ f)) f
 
 initial-state-requires : tie.Need-initial-state-requires
-initial-state-requires c κs = search needs
-
-same-length-5 : tie.Need-same-length-5
-same-length-5 c = search needs
-
-same-length-6 : tie.Need-same-length-6
-same-length-6 c = search needs
+initial-state-requires c κs =
+    let c8 = c .before .before .before .before .before .before .before .before in
+    let c9 = c8 .before in
+    let c23 = c9 .before .before .before .before .before .before .before .before .before .before .before .before .before .before in
+    (c23 .pre .0, sym (c9 .stops2 .ensures) ∙ c8 .if2 .left)
 
 returns-3 : tie.Need-returns-3
 unfolding walk.agreementRest
 returns-3 c =
+    let c4 = c .before .before .before .before in
+    let c9 = c4 .before .before .before .before .before in
+    let c10 = c9 .before in
+    let c13 = c10 .before .before .before in
+    let c14 = c13 .before in
+    let c15 = c14 .before in
+    let c16 = c15 .before in
+    let c17 = c16 .before in
+    let c22 = c17 .before .before .before .before .before in
+    let c28 = c22 .before .before .before .before .before .before in
+    let s = c28 .args .text .now in
     leaves-same _ _ _ _ _
     (sym
-    (follow-on _ _ _ _ (went _ _ _ _ _ (c .before .before .before .before .before .before .before .before .before .before .before .before .before .before .before .before .before .before .before .before .before .before .before .clauses .ensures) (c .before .before .before .before .before .before .before .before .before .before .before .before .before .before .before .before .before .a .given .1))
-    ∙ after-on _ _ _ (sym (c .before .before .before .before .before .before .before .before .before .before .before .before .before .before .before .token .ensures) ∙ c .before .before .before .before .before .before .before .before .before .before .before .before .before .b .given .1)
-    ∙ ap (walk.initialState (c .before .before .before .before .before .before .before .before .before .before .before .before .before .before .before .before .before .before .before .before .before .before .before .before .before .before .before .before .before .args .text .now) (c .before .before .before .before .before .before .before .before .before .before .before .before .before .b .given .0 .0)) (closed-is _ _ _ _ (c .before .before .before .before .before .before .before .before .before .close .ensures))))
-    (c .before .before .before .before .initial-state .ensures)
+    (follow-on _ _ _ _ (went _ _ _ _ _ (c22 .clauses .ensures) (packed.keeps s _ _ (c17 .stops .ensures) (c16 .if1 .left)))
+    ∙ after-on _ _ _ (sym (c15 .token .ensures) ∙ packed.keeps s _ _ (c14 .stops2 .ensures) (c13 .if2 .left))
+    ∙ ap (walk.initialState s _) (closed-at s _ _ _ _ _ (c10 .start-of .ensures) (c9 .close .ensures))))
+    (c4 .initial-state .ensures)
 
 pub agreement-rest-spec : {M : Type 1} → statement M
 agreement-rest-spec =
     tie.close
     (tie.spec
-    clauses-requires
-    enum-known-a
-    enum-told
-    same-length
-    same-length-2
+    (λ c κs. search needs)
+    (λ c κs. search needs)
+    (λ c. search needs)
+    (λ c. search needs)
     returns
     token-requires
-    enum-known-b
-    enum-told-2
-    same-length-3
-    same-length-4
+    (λ c κs. search needs)
+    (λ c. search needs)
+    (λ c. search needs)
     returns-2
-    close-requires
+    (λ c κs. search needs)
+    (λ c κs. search needs)
     initial-state-requires
-    same-length-5
-    same-length-6
+    (λ c. search needs)
+    (λ c. search needs)
     returns-3)

@@ -2,40 +2,46 @@
 use borrow.Author.Needs.{needs}
 use Rattle.reader.proofs.ending.Statement.{statement}
 use Rattle.reader.proofs.ending.Tie as tie
-use mathlib.Core.Path.{sym, ap, _∙_}
-use borrow.Author.Tests.{eq-eqb, ne-eqb}
-use Rattle.laws.proofs.Choice.{pick-true, pick-false}
-use Rattle.reader.specs.Walk as walk
-
-token-requires : tie.Need-token-requires
-token-requires c κs = search needs
-
-enum-known-a : tie.Need-enum-known-a
-enum-known-a c = search needs
-
-enum-told : tie.Need-enum-told
-enum-told c = search needs
+use Rattle.reader.proofs.PackedBodies as packed
+use Rattle.reader.proofs.PackedWhole.{ending-stops, ending-ends, ending-unfit}
 
 returns : tie.Need-returns
-unfolding walk.endingAt
 returns c =
-    c .enum-told .given .1 ∙ sym (ap (walk.atEnd (c .before .before .before .before .args .text .now)) (sym (c .before .before .token .ensures) ∙ c .enum-told .given .1))
+    let c1 = c .before in
+    let c2 = c1 .before in
+    let c4 = c2 .before .before in
+    let s = c4 .args .text .now in
+    ending-stops s _ _ (c2 .token .ensures) _ _ (packed.halts s _ _ (c1 .stops .ensures) (c .if1 .taken))
 
 returns-2 : tie.Need-returns-2
-unfolding walk.endingAt
 returns-2 c =
-    sym (ap (walk.atEnd (c .before .before .before .before .before .before .before .args .text .now)) (sym (c .before .before .before .before .before .token .ensures) ∙ c .before .before .before .a .given .1) ∙ pick-true _ _ _ (eq-eqb _ _ (c .if1 .taken)))
-
-unfit-requires : tie.Need-unfit-requires
-unfit-requires c κs = search needs
+    let c1 = c .before in
+    let c2 = c1 .before in
+    let c3 = c2 .before in
+    let c4 = c3 .before in
+    let c6 = c4 .before .before in
+    let s = c6 .args .text .now in
+    ending-ends s _ _ (c4 .token .ensures) (packed.keeps s _ _ (c3 .stops .ensures) (c2 .if1 .left)) _ (c1 .kind-of .ensures) (c .if2 .taken)
 
 returns-3 : tie.Need-returns-3
-unfolding walk.endingAt
 returns-3 c =
-    c .unfit .ensures
-    ∙ sym (ap (walk.atEnd (c .before .before .before .before .before .before .before .before .args .text .now)) (sym (c .before .before .before .before .before .before .token .ensures) ∙ c .before .before .before .before .a .given .1) ∙ pick-false _ _ _ (ne-eqb _ _ (c .before .if1 .left)))
+    let c1 = c .before in
+    let c2 = c1 .before in
+    let c3 = c2 .before in
+    let c4 = c3 .before in
+    let c5 = c4 .before in
+    let c7 = c5 .before .before in
+    let s = c7 .args .text .now in
+    ending-unfit s _ _ (c5 .token .ensures) (packed.keeps s _ _ (c4 .stops .ensures) (c3 .if1 .left)) _ (c2 .kind-of .ensures) _ (c1 .if2 .left) (c .unfit .ensures .0)
 
 pub ending-spec : {M : Type 1} → statement M
 ending-spec =
     tie.close
-    (tie.spec token-requires enum-known-a enum-told returns returns-2 unfit-requires returns-3)
+    (tie.spec
+    (λ c κs. search needs)
+    (λ c κs. search needs)
+    returns
+    (λ c κs. search needs)
+    returns-2
+    (λ c κs. search needs)
+    returns-3)

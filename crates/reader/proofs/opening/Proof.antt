@@ -5,69 +5,82 @@ use Rattle.reader.proofs.opening.Tie as tie
 use mathlib.Core.Path.{sym, _∙_}
 use Rattle.reader.specs.Walk as walk
 use Rattle.reader.proofs.Leaves.{is-stop, after-on, after-stop}
-use Rattle.reader.proofs.Enclosing.{name-here, opens}
-
-token-requires : tie.Need-token-requires
-token-requires c κs = search needs
-
-enum-known-a : tie.Need-enum-known-a
-enum-known-a c = search needs
-
-enum-told : tie.Need-enum-told
-enum-told c = search needs
+use Rattle.reader.proofs.PackedBodies as packed
+use Rattle.reader.proofs.PackedWhole.{opens}
 
 returns : tie.Need-returns
 unfolding walk.opening
 returns c =
-    is-stop _ _ _ _ _ _ (after-stop _ _ _ _ (sym (c .before .before .token .ensures) ∙ c .enum-told .given .1)) (c .enum-told .given .1)
+    let c1 = c .before in
+    let c2 = c1 .before in
+    let c6 = c2 .before .before .before .before in
+    let f = packed.halts (c6 .args .text .now) _ _ (c1 .stops .ensures) (c .if1 .taken) in
+    is-stop _ _ _ _ _ _ (after-stop _ _ _ _ (sym (c2 .token .ensures) ∙ f)) f
 
 name-here-requires : tie.Need-name-here-requires
-name-here-requires c κs = search needs
-
-enum-known-b : tie.Need-enum-known-b
-enum-known-b c = search needs
-
-enum-told-2 : tie.Need-enum-told-2
-enum-told-2 c = search needs
+name-here-requires c κs =
+    let c1 = c .before in
+    let c6 = c1 .before .before .before .before .before in
+    (c6 .pre .0, sym (c1 .stops .ensures) ∙ c .if1 .left)
 
 returns-2 : tie.Need-returns-2
 unfolding walk.opening
 returns-2 c =
+    let c1 = c .before in
+    let c2 = c1 .before in
+    let c3 = c2 .before in
+    let c4 = c3 .before in
+    let c5 = c4 .before in
+    let c9 = c5 .before .before .before .before in
+    let s = c9 .args .text .now in
+    let f = packed.halts s _ _ (c1 .stops2 .ensures) (c .if2 .taken) in
     is-stop _ _ _ _ _ _
-    (after-on _ _ _ (sym (c .before .before .before .before .before .before .token .ensures) ∙ c .before .before .before .before .a .given .1)
-    ∙ after-stop _ _ _ _ (name-here _ _ ∙ sym (c .before .before .name-here .ensures) ∙ c .enum-told2 .given .1))
-    (c .enum-told2 .given .1)
-
-title-requires : tie.Need-title-requires
-title-requires c κs = search needs
+    (after-on _ _ _ (sym (c5 .token .ensures) ∙ packed.keeps s _ _ (c4 .stops .ensures) (c3 .if1 .left)) ∙ after-stop _ _ _ _ (sym (c2 .name-here .ensures) ∙ f)) f
 
 lex-requires : tie.Need-lex-requires
-lex-requires c κs = search needs
+lex-requires c κs =
+    let c16 = c .before .before .before .before .before .before .before .before .before .before .before .before .before .before .before .before in
+    (c16 .pre .0, packed.end-small _ _ (c .end-of2 .ensures))
 
 token-requires-2 : tie.Need-token-requires-2
-token-requires-2 c κs = search needs
-
-same-length : tie.Need-same-length
-same-length c = search needs
+token-requires-2 c κs =
+    let c17 = c .before .before .before .before .before .before .before .before .before .before .before .before .before .before .before .before .before in
+    c17 .pre .0
 
 returns-3 : tie.Need-returns-3
 returns-3 c =
-    opens _ _ _ _ _ _ _ _ _ (sym (c .before .before .before .before .before .before .before .before .before .before .before .before .before .token .ensures) ∙ c .before .before .before .before .before .before .before .before .before .before .before .a .given .1) (sym (c .before .before .before .before .before .before .before .before .before .name-here .ensures) ∙ c .before .before .before .before .before .before .before .b .given .1) (c .before .lex .ensures) (c .before .before .before .before .title .ensures) (c .token2 .ensures)
+    let c1 = c .before in
+    let c2 = c1 .before in
+    let c5 = c2 .before .before .before in
+    let c6 = c5 .before in
+    let c7 = c6 .before in
+    let c9 = c7 .before .before in
+    let c10 = c9 .before in
+    let c11 = c10 .before in
+    let c12 = c11 .before in
+    let c13 = c12 .before in
+    let c14 = c13 .before in
+    let c18 = c14 .before .before .before .before in
+    let s = c18 .args .text .now in
+    opens s _ _ _ _ _ _ _ _ _ _ _ (sym (c14 .token .ensures) ∙ packed.keeps s _ _ (c13 .stops .ensures) (c12 .if1 .left))
+    (sym (c11 .name-here .ensures) ∙ packed.keeps s _ _ (c10 .stops2 .ensures) (c9 .if2 .left)) (c7 .start-of .ensures) (c6 .end-of .ensures) (c5 .title .ensures)
+    (c2 .end-of2 .ensures) (c1 .lex .ensures .0) (c .token2 .ensures)
 
 pub opening-spec : {M : Type 1} → statement M
 opening-spec =
     tie.close
     (tie.spec
-    token-requires
-    enum-known-a
-    enum-told
+    (λ c κs. search needs)
+    (λ c κs. search needs)
     returns
     name-here-requires
-    enum-known-b
-    enum-told-2
+    (λ c κs. search needs)
     returns-2
-    title-requires
+    (λ c κs. search needs)
+    (λ c κs. search needs)
+    (λ c κs. search needs)
+    (λ c κs. search needs)
     lex-requires
     token-requires-2
-    same-length
+    (λ c. search needs)
     returns-3)

@@ -19,6 +19,9 @@ returns-2 c =
     let q = wrong-table _ _ (c1 .if1 .left) (λ e. c .if2 .taken (c4 .clear .kept .0 ∙ e)) in
     (sym (ap answerOf q), c4 .clear .ensures ∙ sym (ap (tableOf _) q))
 
+pass-over-requires : tie.Need-pass-over-requires
+pass-over-requires c κs = c .before .before .if1 .left
+
 returns-3 : tie.Need-returns-3
 returns-3 c =
     let c2 = c .before .before in
@@ -46,7 +49,7 @@ read-spec =
     returns
     (λ c. search needs)
     returns-2
-    (λ c κs. search needs)
+    pass-over-requires
     (λ c. search needs)
     (λ c. search needs)
     (λ c κs. search needs)

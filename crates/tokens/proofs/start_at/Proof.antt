@@ -1,32 +1,28 @@
 -- `tokens::start_at` meets its contract. Assumes nothing.
 use borrow.Author.Needs.{needs}
-use borrow.Author.Tests.{eq-eqb, ne-eqb}
-use Rattle.laws.specs.Choice.{pick}
-use Rattle.tokens.specs.Tokens.{startAt}
 use Rattle.tokens.proofs.start_at.Statement.{statement}
 use Rattle.tokens.proofs.start_at.Tie as tie
+use mathlib.Core.Path.{sym, _∙_}
+use borrow.Author.Tests.{eq-eqb, ne-eqb}
+use Rattle.laws.proofs.Choice.{pick-true, pick-false}
+use Rattle.tokens.specs.Tokens.{startAt}
+use Rattle.tokens.proofs.Laws.{letter-text, digit-text, quote-text}
 
 shared-slice-read-b : tie.Need-shared-slice-read-b
 shared-slice-read-b c = search needs
-
-is-text-requires : tie.Need-is-text-requires
-is-text-requires c κs = search needs
 
 is-letter-requires : tie.Need-is-letter-requires
 is-letter-requires c κs = search needs
 
 name-at-requires : tie.Need-name-at-requires
-name-at-requires c κs = search needs
+name-at-requires c κs =
+    (c .before .before .before .before .pre, sym (c .before .is-letter .ensures) ∙ c .if1 .taken)
 
 returns : tie.Need-returns
-unfolding startAt pick
+unfolding startAt
 returns c =
-    rw (
-      ← c .before .before .before .before .is-text .ensures,
-      c .before .before .before .if1 .taken,
-      ← c .before .before .is-letter .ensures,
-      c .before .if2 .taken,
-    ) (c .name-at .ensures)
+    let e = sym (c .before .before .is-letter .ensures) ∙ c .before .if1 .taken in
+    c .name-at .ensures ∙ sym (pick-true _ _ _ (letter-text _ e) ∙ pick-true _ _ _ e)
 
 is-digit-requires : tie.Need-is-digit-requires
 is-digit-requires c κs = search needs
@@ -35,60 +31,46 @@ number-at-requires : tie.Need-number-at-requires
 number-at-requires c κs = search needs
 
 returns-2 : tie.Need-returns-2
-unfolding startAt pick
+unfolding startAt
 returns-2 c =
-    rw (
-      ← c .before .before .before .before .before .before .is-text .ensures,
-      c .before .before .before .before .before .if1 .taken,
-      ← c .before .before .before .before .is-letter .ensures,
-      c .before .before .before .if2 .left,
-      ← c .before .before .is-digit .ensures,
-      c .before .if3 .taken,
-    ) (c .number-at .ensures)
+    let e = sym (c .before .before .before .before .is-letter .ensures) ∙ c .before .before .before .if1 .left in
+    let d = sym (c .before .before .is-digit .ensures) ∙ c .before .if2 .taken in
+    c .number-at .ensures ∙ sym (pick-true _ _ _ (digit-text _ d) ∙ pick-false _ _ _ e ∙ pick-true _ _ _ d)
 
 string-at-requires : tie.Need-string-at-requires
 string-at-requires c κs = search needs
 
 returns-3 : tie.Need-returns-3
-unfolding startAt pick
+unfolding startAt
 returns-3 c =
-    rw (
-      ← c .before .before .before .before .before .before .before .is-text .ensures,
-      c .before .before .before .before .before .before .if1 .taken,
-      ← c .before .before .before .before .before .is-letter .ensures,
-      c .before .before .before .before .if2 .left,
-      ← c .before .before .before .is-digit .ensures,
-      c .before .before .if3 .left,
-      eq-eqb _ _ (c .before .if4 .taken),
-    ) (c .string-at .ensures)
+    let e = sym (c .before .before .before .before .before .is-letter .ensures) ∙ c .before .before .before .before .if1 .left in
+    let d = sym (c .before .before .before .is-digit .ensures) ∙ c .before .before .if2 .left in
+    c .string-at .ensures ∙ sym (pick-true _ _ _ (quote-text _ (c .before .if3 .taken)) ∙ pick-false _ _ _ e ∙ pick-false _ _ _ d ∙ pick-true _ _ _ (eq-eqb _ _ (c .before .if3 .taken)))
+
+is-text-requires : tie.Need-is-text-requires
+is-text-requires c κs = search needs
 
 mark-at-requires : tie.Need-mark-at-requires
 mark-at-requires c κs = search needs
 
 returns-4 : tie.Need-returns-4
-unfolding startAt pick
+unfolding startAt
 returns-4 c =
-    rw (
-      ← c .before .before .before .before .before .before .before .is-text .ensures,
-      c .before .before .before .before .before .before .if1 .taken,
-      ← c .before .before .before .before .before .is-letter .ensures,
-      c .before .before .before .before .if2 .left,
-      ← c .before .before .before .is-digit .ensures,
-      c .before .before .if3 .left,
-      ne-eqb _ _ (c .before .if4 .left),
-    ) (c .mark-at .ensures)
+    let e = sym (c .before .before .before .before .before .before .before .is-letter .ensures) ∙ c .before .before .before .before .before .before .if1 .left in
+    let d = sym (c .before .before .before .before .before .is-digit .ensures) ∙ c .before .before .before .before .if2 .left in
+    let t = sym (c .before .before .is-text .ensures) ∙ c .before .if4 .taken in
+    c .mark-at .ensures ∙ sym (pick-true _ _ _ t ∙ pick-false _ _ _ e ∙ pick-false _ _ _ d ∙ pick-false _ _ _ (ne-eqb _ _ (c .before .before .before .if3 .left)))
 
 returns-5 : tie.Need-returns-5
-unfolding startAt pick
+unfolding startAt
 returns-5 c =
-    rw (← c .before .is-text .ensures, c .if1 .left)
+    sym (pick-false _ _ _ (sym (c .before .is-text .ensures) ∙ c .if4 .left))
 
 pub start-at-spec : {M : Type 1} → statement M
 start-at-spec =
     tie.close
     (tie.spec
     shared-slice-read-b
-    is-text-requires
     is-letter-requires
     name-at-requires
     returns
@@ -97,6 +79,7 @@ start-at-spec =
     returns-2
     string-at-requires
     returns-3
+    is-text-requires
     mark-at-requires
     returns-4
     returns-5)

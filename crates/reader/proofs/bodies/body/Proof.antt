@@ -2,45 +2,63 @@
 use borrow.Author.Needs.{needs}
 use Rattle.reader.proofs.bodies.body.Statement.{statement}
 use Rattle.reader.proofs.bodies.body.Tie as tie
+use mathlib.Core.Path.{sym, _∙_}
+use Rattle.reader.specs.Packed.{seen}
 use Rattle.reader.proofs.Exits as parts
+use Rattle.reader.proofs.PackedBodies as packed
 
 returns : tie.Need-returns
 returns c =
-    let c2 = c .before .before in
+    let c1 = c .before in
+    let c2 = c1 .before in
     let c3 = c2 .before in
     let c8 = c3 .before .before .before .before .before in
     let z = c8 .args in
-    parts.body-unfit (z .text .now) (z .c) (z .table .now) (z .notes .now) _ (c3 .nodes .ensures) _ (c2 .token .ensures) _ _ _ _
-    (c .enum-told .given .1)
+    parts.body-unfit (z .text .now) (seen (z .text .now) (z .c)) (z .table .now) (z .notes .now) _ (c3 .nodes .ensures) _ (c2 .token .ensures) _ _ _
+    _ (packed.halts (z .text .now) _ _ (c1 .stops .ensures) (c .if1 .taken))
+
+body-items-requires : tie.Need-body-items-requires
+body-items-requires c κs =
+    let c14 = c .before .before .before .before .before .before .before .before .before .before .before .before .before .before in
+    let c15 = c14 .before in
+    let c22 = c15 .before .before .before .before .before .before .before in
+    (c22 .pre .0, sym (c15 .stops .ensures) ∙ c14 .if1 .left)
 
 returns-2 : tie.Need-returns-2
 returns-2 c =
-    let c6 = c .before .before .before .before .before .before in
+    let c1 = c .before in
+    let c6 = c1 .before .before .before .before .before in
     let c11 = c6 .before .before .before .before .before in
     let c15 = c11 .before .before .before .before in
     let c19 = c15 .before .before .before .before in
-    let c22 = c19 .before .before .before in
-    let c24 = c22 .before .before in
-    let c25 = c24 .before in
-    let c30 = c25 .before .before .before .before .before in
-    let z = c30 .args in
-    parts.body-refused (z .text .now) (z .c) (z .table .now) (z .notes .now) _ (c25 .nodes .ensures) _ (c24 .token .ensures) _ (c22 .a .given .1) _ _
-    _ (c19 .store .ensures) (c15 .store2 .ensures) (c11 .store3 .ensures) _ _ _ (c6 .body-items .ensures) _ _ _ _ (c .enum-told2 .given .1)
+    let c21 = c19 .before .before in
+    let c22 = c21 .before in
+    let c23 = c22 .before in
+    let c24 = c23 .before in
+    let c29 = c24 .before .before .before .before .before in
+    let z = c29 .args in
+    parts.body-refused (z .text .now) (seen (z .text .now) (z .c)) (z .table .now) (z .notes .now) _ (c24 .nodes .ensures) _ (c23 .token .ensures) _
+    (packed.keeps (z .text .now) _ _ (c22 .stops .ensures) (c21 .if1 .left)) _ _ _ (c19 .store .ensures) (c15 .store2 .ensures)
+    (c11 .store3 .ensures) _ _ _ (c6 .body-items .ensures) _ _ _ _ (packed.halts (z .text .now) _ _ (c1 .stops2 .ensures) (c .if2 .taken))
 
 returns-3 : tie.Need-returns-3
 returns-3 c =
-    let c2 = c .before .before in
-    let c8 = c2 .before .before .before .before .before .before in
-    let c13 = c8 .before .before .before .before .before in
-    let c17 = c13 .before .before .before .before in
-    let c21 = c17 .before .before .before .before in
-    let c24 = c21 .before .before .before in
-    let c26 = c24 .before .before in
-    let c27 = c26 .before in
-    let c32 = c27 .before .before .before .before .before in
-    let z = c32 .args in
-    parts.body-closes (z .text .now) (z .c) (z .table .now) (z .notes .now) _ (c27 .nodes .ensures) _ (c26 .token .ensures) _ (c24 .a .given .1) _ _ _
-    (c21 .store .ensures) (c17 .store2 .ensures) (c13 .store3 .ensures) _ _ _ (c8 .body-items .ensures) _ _ (c2 .r .given .1) (c .token2 .ensures)
+    let c1 = c .before in
+    let c2 = c1 .before in
+    let c7 = c2 .before .before .before .before .before in
+    let c12 = c7 .before .before .before .before .before in
+    let c16 = c12 .before .before .before .before in
+    let c20 = c16 .before .before .before .before in
+    let c22 = c20 .before .before in
+    let c23 = c22 .before in
+    let c24 = c23 .before in
+    let c25 = c24 .before in
+    let c30 = c25 .before .before .before .before .before in
+    let z = c30 .args in
+    parts.body-closes (z .text .now) (seen (z .text .now) (z .c)) (z .table .now) (z .notes .now) _ (c25 .nodes .ensures) _ (c24 .token .ensures) _
+    (packed.keeps (z .text .now) _ _ (c23 .stops .ensures) (c22 .if1 .left)) _ _ _ (c20 .store .ensures) (c16 .store2 .ensures)
+    (c12 .store3 .ensures) _ _ _ (c7 .body-items .ensures) _ _ (packed.keeps (z .text .now) _ _ (c2 .stops2 .ensures) (c1 .if2 .left))
+    (c .token2 .ensures)
 
 pub body-spec : {M : Type 1} → statement M
 body-spec =
@@ -48,16 +66,14 @@ body-spec =
     (tie.spec
     (λ c κs. search needs)
     (λ c κs. search needs)
-    (λ c. search needs)
-    (λ c. search needs)
+    (λ c κs. search needs)
     (λ c. search needs)
     returns
     (λ c κs. search needs)
     (λ c κs. search needs)
     (λ c κs. search needs)
+    body-items-requires
     (λ c κs. search needs)
-    (λ c. search needs)
-    (λ c. search needs)
     (λ c. search needs)
     (λ c. search needs)
     returns-2

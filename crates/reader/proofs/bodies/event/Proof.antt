@@ -2,110 +2,156 @@
 use borrow.Author.Needs.{needs}
 use Rattle.reader.proofs.bodies.event.Statement.{statement}
 use Rattle.reader.proofs.bodies.event.Tie as tie
-use mathlib.Core.Path.{_∙_}
+use mathlib.Core.Path.{sym, _∙_}
+use Rattle.reader.specs.Packed.{seen}
 use Rattle.reader.proofs.Exits as parts
+use Rattle.reader.proofs.PackedBodies as packed
 
 returns : tie.Need-returns
 returns c =
-    let c2 = c .before .before in
+    let c1 = c .before in
+    let c2 = c1 .before in
     let c6 = c2 .before .before .before .before in
     let z = c6 .args in
-    parts.event-unfit (z .text .now) (z .place) (z .before) (z .c) (z .table .now) (z .notes .now) _ (c2 .token .ensures) _ _ _ _
-    (c .enum-told .given .1)
+    parts.event-unfit (z .text .now) (z .place) (z .before) (seen (z .text .now) (z .c)) (z .table .now) (z .notes .now) _ (c2 .token .ensures) _ _ _
+    _ (packed.halts (z .text .now) _ _ (c1 .stops .ensures) (c .if1 .taken))
+
+state-at-requires : tie.Need-state-at-requires
+state-at-requires c κs =
+    let c1 = c .before in
+    let c6 = c1 .before .before .before .before .before in
+    (c6 .pre .0, sym (c1 .stops .ensures) ∙ c .if1 .left)
 
 returns-2 : tie.Need-returns-2
 returns-2 c =
-    let c2 = c .before .before in
-    let c4 = c2 .before .before in
-    let c6 = c4 .before .before in
-    let c10 = c6 .before .before .before .before in
-    let z = c10 .args in
-    parts.event-stops (z .text .now) (z .place) (z .before) (z .c) (z .table .now) (z .notes .now) _ (c6 .token .ensures) _ (c4 .a .given .1) _
-    (c2 .state-at .ensures) _ _ _ _ (c .enum-told2 .given .1)
+    let c1 = c .before in
+    let c2 = c1 .before in
+    let c3 = c2 .before in
+    let c4 = c3 .before in
+    let c5 = c4 .before in
+    let c9 = c5 .before .before .before .before in
+    let z = c9 .args in
+    parts.event-stops (z .text .now) (z .place) (z .before) (seen (z .text .now) (z .c)) (z .table .now) (z .notes .now) _ (c5 .token .ensures) _
+    (packed.keeps (z .text .now) _ _ (c4 .stops .ensures) (c3 .if1 .left)) _ (c2 .state-at .ensures) _ _ _ _ (packed.halts (z .text .now) _ _
+    (c1 .stops2 .ensures) (c .if2 .taken))
+
+mention-state-requires : tie.Need-mention-state-requires
+mention-state-requires c κs =
+    let c10 = c .before .before .before .before .before .before .before .before .before .before in
+    let c11 = c10 .before in
+    let c19 = c11 .before .before .before .before .before .before .before .before in
+    (c19 .pre .0, sym (c11 .stops2 .ensures) ∙ c10 .if2 .left)
+
+lex-requires : tie.Need-lex-requires
+lex-requires c κs =
+    let c31 = c .before .before .before .before .before .before .before .before .before .before .before .before .before .before .before .before .before .before .before .before .before .before .before .before .before .before .before .before .before .before .before in
+    (c31 .pre .0, packed.end-small _ _ (c .end-of .ensures))
+
+braces-requires : tie.Need-braces-requires
+braces-requires c κs =
+    let c32 = c .before .before .before .before .before .before .before .before .before .before .before .before .before .before .before .before .before .before .before .before .before .before .before .before .before .before .before .before .before .before .before .before in
+    (c32 .pre .0, c .lex .ensures .1)
 
 returns-3 : tie.Need-returns-3
 returns-3 c =
-    let c6 = c .before .before .before .before .before .before in
+    let c1 = c .before in
+    let c6 = c1 .before .before .before .before .before in
     let c7 = c6 .before in
-    let c12 = c7 .before .before .before .before .before in
-    let c18 = c12 .before .before .before .before .before .before in
-    let c23 = c18 .before .before .before .before .before in
-    let c25 = c23 .before .before in
-    let c27 = c25 .before .before in
-    let c30 = c27 .before .before .before in
-    let c32 = c30 .before .before in
-    let c34 = c32 .before .before in
-    let c36 = c34 .before .before in
-    let c40 = c36 .before .before .before .before in
-    let z = c40 .args in
-    parts.event-refused (z .text .now) (z .place) (z .before) (z .c) (z .table .now) (z .notes .now) _ (c36 .token .ensures) _ (c34 .a .given .1) _
-    (c32 .state-at .ensures) _ (c30 .b .given .1) _ _ (c27 .word .ensures) (c25 .nodes .ensures) _ (c23 .count .ensures) _ _ _
-    (c18 .mention-state .ensures .0) (c18 .mention-state .ensures .1 .0) (c18 .mention-state .ensures .1 .1) _ (c12 .store .ensures) _
-    (c7 .lex .ensures) _ _ _ (c6 .braces .ensures) _ _ _ _ (c .enum-told3 .given .1)
+    let c8 = c7 .before in
+    let c13 = c8 .before .before .before .before .before in
+    let c19 = c13 .before .before .before .before .before .before in
+    let c24 = c19 .before .before .before .before .before in
+    let c26 = c24 .before .before in
+    let c28 = c26 .before .before in
+    let c30 = c28 .before .before in
+    let c31 = c30 .before in
+    let c32 = c31 .before in
+    let c33 = c32 .before in
+    let c34 = c33 .before in
+    let c35 = c34 .before in
+    let c39 = c35 .before .before .before .before in
+    let z = c39 .args in
+    parts.event-refused (z .text .now) (z .place) (z .before) (seen (z .text .now) (z .c)) (z .table .now) (z .notes .now) _ (c35 .token .ensures) _
+    (packed.keeps (z .text .now) _ _ (c34 .stops .ensures) (c33 .if1 .left)) _ (c32 .state-at .ensures) _ (packed.keeps (z .text .now) _ _
+    (c31 .stops2 .ensures) (c30 .if2 .left)) _ _ (c28 .word .ensures) (c26 .nodes .ensures) _ (c24 .count .ensures) _ _ _
+    (c19 .mention-state .ensures .0) (c19 .mention-state .ensures .1 .0) (c19 .mention-state .ensures .1 .1) _ (c13 .store .ensures) _
+    (packed.next-is (z .text .now) _ _ _ (c8 .end-of .ensures) (c7 .lex .ensures .0)) _ _ _ (c6 .braces .ensures) _ _ _ _ (packed.halts
+    (z .text .now) _ _ (c1 .stops3 .ensures) (c .if3 .taken))
+
+event-end-requires : tie.Need-event-end-requires
+event-end-requires c κs =
+    let c2 = c .before .before in
+    let c3 = c2 .before in
+    let c41 = c3 .before .before .before .before .before .before .before .before .before .before .before .before .before .before .before .before .before .before .before .before .before .before .before .before .before .before .before .before .before .before .before .before .before .before .before .before .before .before in
+    (c41 .pre .0, sym (c3 .stops3 .ensures) ∙ c2 .if3 .left)
 
 same-length-3 : tie.Need-same-length-3
 same-length-3 c =
     let c4 = c .before .before .before .before in
-    let c14 = c4 .before .before .before .before .before .before .before .before .before .before in
-    let c26 = c14 .before .before .before .before .before .before .before .before .before .before .before .before in
-    c4 .event-end .kept .1 .0 ∙ c14 .braces .kept .1 .0 ∙ c26 .mention-state .kept .1 .0
+    let c13 = c4 .before .before .before .before .before .before .before .before .before in
+    let c26 = c13 .before .before .before .before .before .before .before .before .before .before .before .before .before in
+    c4 .event-end .kept .1 .0 ∙ c13 .braces .kept .1 .0 ∙ c26 .mention-state .kept .1 .0
 
 same-length-4 : tie.Need-same-length-4
 same-length-4 c =
     let c4 = c .before .before .before .before in
-    let c14 = c4 .before .before .before .before .before .before .before .before .before .before in
-    let c20 = c14 .before .before .before .before .before .before in
+    let c13 = c4 .before .before .before .before .before .before .before .before .before in
+    let c20 = c13 .before .before .before .before .before .before .before in
     let c26 = c20 .before .before .before .before .before .before in
     let c31 = c26 .before .before .before .before .before in
-    c4 .event-end .kept .1 .1 .0 ∙ c14 .braces .kept .1 .1 .0 ∙ c20 .store .kept .0 ∙ c26 .mention-state .kept .1 .1 .0 ∙ c31 .count .kept .0
+    c4 .event-end .kept .1 .1 .0 ∙ c13 .braces .kept .1 .1 .0 ∙ c20 .store .kept .0 ∙ c26 .mention-state .kept .1 .1 .0 ∙ c31 .count .kept .0
 
 returns-4 : tie.Need-returns-4
 returns-4 c =
     let c4 = c .before .before .before .before in
-    let c8 = c4 .before .before .before .before in
-    let c14 = c8 .before .before .before .before .before .before in
+    let c7 = c4 .before .before .before in
+    let c8 = c7 .before in
+    let c13 = c8 .before .before .before .before .before in
+    let c14 = c13 .before in
     let c15 = c14 .before in
     let c20 = c15 .before .before .before .before .before in
     let c26 = c20 .before .before .before .before .before .before in
     let c31 = c26 .before .before .before .before .before in
     let c33 = c31 .before .before in
     let c35 = c33 .before .before in
-    let c38 = c35 .before .before .before in
-    let c40 = c38 .before .before in
-    let c42 = c40 .before .before in
-    let c44 = c42 .before .before in
-    let c48 = c44 .before .before .before .before in
-    let z = c48 .args in
-    parts.event-ends (z .text .now) (z .place) (z .before) (z .c) (z .table .now) (z .notes .now) _ (c44 .token .ensures) _ (c42 .a .given .1) _
-    (c40 .state-at .ensures) _ (c38 .b .given .1) _ _ (c35 .word .ensures) (c33 .nodes .ensures) _ (c31 .count .ensures) _ _ _
+    let c37 = c35 .before .before in
+    let c38 = c37 .before in
+    let c39 = c38 .before in
+    let c40 = c39 .before in
+    let c41 = c40 .before in
+    let c42 = c41 .before in
+    let c46 = c42 .before .before .before .before in
+    let z = c46 .args in
+    parts.event-ends (z .text .now) (z .place) (z .before) (seen (z .text .now) (z .c)) (z .table .now) (z .notes .now) _ (c42 .token .ensures) _
+    (packed.keeps (z .text .now) _ _ (c41 .stops .ensures) (c40 .if1 .left)) _ (c39 .state-at .ensures) _ (packed.keeps (z .text .now) _ _
+    (c38 .stops2 .ensures) (c37 .if2 .left)) _ _ (c35 .word .ensures) (c33 .nodes .ensures) _ (c31 .count .ensures) _ _ _
     (c26 .mention-state .ensures .0) (c26 .mention-state .ensures .1 .0) (c26 .mention-state .ensures .1 .1) _ (c20 .store .ensures) _
-    (c15 .lex .ensures) _ _ _ (c14 .braces .ensures) _ _ _ _ (c8 .r .given .1) (c4 .event-end .ensures)
+    (packed.next-is (z .text .now) _ _ _ (c15 .end-of .ensures) (c14 .lex .ensures .0)) _ _ _ (c13 .braces .ensures) _ _ _ _ (packed.keeps
+    (z .text .now) _ _ (c8 .stops3 .ensures) (c7 .if3 .left)) (c4 .event-end .ensures)
 
 pub event-spec : {M : Type 1} → statement M
 event-spec =
     tie.close
     (tie.spec
     (λ c κs. search needs)
-    (λ c. search needs)
-    (λ c. search needs)
-    returns
     (λ c κs. search needs)
-    (λ c. search needs)
-    (λ c. search needs)
+    returns
+    state-at-requires
+    (λ c κs. search needs)
     returns-2
     (λ c κs. search needs)
     (λ c κs. search needs)
     (λ c κs. search needs)
+    mention-state-requires
     (λ c κs. search needs)
     (λ c κs. search needs)
+    lex-requires
+    braces-requires
     (λ c κs. search needs)
-    (λ c κs. search needs)
-    (λ c. search needs)
-    (λ c. search needs)
     (λ c. search needs)
     (λ c. search needs)
     returns-3
-    (λ c κs. search needs)
+    event-end-requires
     same-length-3
     same-length-4
     returns-4)

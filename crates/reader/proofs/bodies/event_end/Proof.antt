@@ -2,62 +2,91 @@
 use borrow.Author.Needs.{needs}
 use Rattle.reader.proofs.bodies.event_end.Statement.{statement}
 use Rattle.reader.proofs.bodies.event_end.Tie as tie
+use mathlib.Core.Path.{sym, _∙_}
+use Rattle.reader.specs.Packed.{seen}
 use Rattle.reader.proofs.Exits as parts
+use Rattle.reader.proofs.PackedBodies as packed
 
 returns : tie.Need-returns
 returns c =
-    let c2 = c .before .before in
+    let c1 = c .before in
+    let c2 = c1 .before in
     let c6 = c2 .before .before .before .before in
     let z = c6 .args in
-    parts.event-end-unfit (z .text .now) (z .i) (z .state) (z .before) (z .from) (z .c) (z .table .now) (z .notes .now) _ (c2 .token .ensures) _ _ _ _
-    (c .enum-told .given .1)
+    parts.event-end-unfit (z .text .now) (z .i) (z .state) (z .before) (z .from) (seen (z .text .now) (z .c)) (z .table .now) (z .notes .now) _
+    (c2 .token .ensures) _ _ _ _ (packed.halts (z .text .now) _ _ (c1 .stops .ensures) (c .if1 .taken))
+
+state-at-requires : tie.Need-state-at-requires
+state-at-requires c κs =
+    let c1 = c .before in
+    let c6 = c1 .before .before .before .before .before in
+    (c6 .pre .0, sym (c1 .stops .ensures) ∙ c .if1 .left)
 
 returns-2 : tie.Need-returns-2
 returns-2 c =
-    let c2 = c .before .before in
-    let c4 = c2 .before .before in
-    let c6 = c4 .before .before in
-    let c10 = c6 .before .before .before .before in
-    let z = c10 .args in
-    parts.event-end-stops (z .text .now) (z .i) (z .state) (z .before) (z .from) (z .c) (z .table .now) (z .notes .now) _ (c6 .token .ensures) _
-    (c4 .a .given .1) _ (c2 .state-at .ensures) _ _ _ _ (c .enum-told2 .given .1)
+    let c1 = c .before in
+    let c2 = c1 .before in
+    let c3 = c2 .before in
+    let c4 = c3 .before in
+    let c5 = c4 .before in
+    let c9 = c5 .before .before .before .before in
+    let z = c9 .args in
+    parts.event-end-stops (z .text .now) (z .i) (z .state) (z .before) (z .from) (seen (z .text .now) (z .c)) (z .table .now) (z .notes .now) _
+    (c5 .token .ensures) _ (packed.keeps (z .text .now) _ _ (c4 .stops .ensures) (c3 .if1 .left)) _ (c2 .state-at .ensures) _ _ _ _ (packed.halts
+    (z .text .now) _ _ (c1 .stops2 .ensures) (c .if2 .taken))
+
+mention-state-requires : tie.Need-mention-state-requires
+mention-state-requires c κs =
+    let c4 = c .before .before .before .before in
+    let c5 = c4 .before in
+    let c13 = c5 .before .before .before .before .before .before .before .before in
+    (c13 .pre .0, sym (c5 .stops2 .ensures) ∙ c4 .if2 .left)
+
+lex-requires : tie.Need-lex-requires
+lex-requires c κs =
+    let c32 = c .before .before .before .before .before .before .before .before .before .before .before .before .before .before .before .before .before .before .before .before .before .before .before .before .before .before .before .before .before .before .before .before in
+    (c32 .pre .0, packed.end-small _ _ (c .end-of .ensures))
 
 returns-3 : tie.Need-returns-3
 returns-3 c =
-    let c3 = c .before .before .before in
-    let c9 = c3 .before .before .before .before .before .before in
-    let c12 = c9 .before .before .before in
-    let c18 = c12 .before .before .before .before .before .before in
-    let c21 = c18 .before .before .before in
-    let c24 = c21 .before .before .before in
-    let c26 = c24 .before .before in
-    let c28 = c26 .before .before in
-    let c30 = c28 .before .before in
-    let c34 = c30 .before .before .before .before in
-    let z = c34 .args in
-    parts.event-end-on (z .text .now) (z .i) (z .state) (z .before) (z .from) (z .c) (z .table .now) (z .notes .now) _ (c30 .token .ensures) _
-    (c28 .a .given .1) _ (c26 .state-at .ensures) _ _ _ _ _ _ _ _ _ _ (c24 .b .given .1) (c21 .nodes-since .ensures) (c18 .mention-state .ensures .0)
-    (c18 .mention-state .ensures .1 .0) (c18 .mention-state .ensures .1 .1) (c12 .nodes .ensures) (c9 .put .ensures .0) (c9 .put .ensures .1)
-    (c3 .event-row .ensures) (c .lex .ensures)
+    let c1 = c .before in
+    let c4 = c1 .before .before .before in
+    let c10 = c4 .before .before .before .before .before .before in
+    let c13 = c10 .before .before .before in
+    let c19 = c13 .before .before .before .before .before .before in
+    let c22 = c19 .before .before .before in
+    let c24 = c22 .before .before in
+    let c25 = c24 .before in
+    let c26 = c25 .before in
+    let c27 = c26 .before in
+    let c28 = c27 .before in
+    let c29 = c28 .before in
+    let c33 = c29 .before .before .before .before in
+    let z = c33 .args in
+    packed.as-on (z .text .now) _ _ _ _ (c .lex .ensures .1)
+    (parts.event-end-on (z .text .now) (z .i) (z .state) (z .before) (z .from) (seen (z .text .now) (z .c)) (z .table .now) (z .notes .now) _
+    (c29 .token .ensures) _ (packed.keeps (z .text .now) _ _ (c28 .stops .ensures) (c27 .if1 .left)) _ (c26 .state-at .ensures) _ _ _ _ _ _ _ _ _ _
+    (packed.keeps (z .text .now) _ _ (c25 .stops2 .ensures) (c24 .if2 .left)) (c22 .nodes-since .ensures) (c19 .mention-state .ensures .0)
+    (c19 .mention-state .ensures .1 .0) (c19 .mention-state .ensures .1 .1) (c13 .nodes .ensures) (c10 .put .ensures .0) (c10 .put .ensures .1)
+    (c4 .event-row .ensures) (packed.next-is (z .text .now) _ _ _ (c1 .end-of .ensures) (c .lex .ensures .0)))
 
 pub event-end-spec : {M : Type 1} → statement M
 event-end-spec =
     tie.close
     (tie.spec
     (λ c κs. search needs)
-    (λ c. search needs)
-    (λ c. search needs)
-    returns
     (λ c κs. search needs)
-    (λ c. search needs)
-    (λ c. search needs)
+    returns
+    state-at-requires
+    (λ c κs. search needs)
     returns-2
     (λ c κs. search needs)
+    mention-state-requires
     (λ c κs. search needs)
     (λ c κs. search needs)
     (λ c κs. search needs)
     (λ c κs. search needs)
-    (λ c κs. search needs)
+    lex-requires
     (λ c. search needs)
     (λ c. search needs)
     returns-3)

@@ -2,42 +2,62 @@
 use borrow.Author.Needs.{needs}
 use Rattle.reader.proofs.bodies.parameter_names.Statement.{statement}
 use Rattle.reader.proofs.bodies.parameter_names.Tie as tie
+use Rattle.reader.specs.Packed.{seen}
 use Rattle.reader.proofs.Exits as parts
+use Rattle.reader.proofs.PackedBodies as packed
+
+lex-requires : tie.Need-lex-requires
+lex-requires c κs =
+    let c6 = c .before .before .before .before .before .before in
+    (c6 .pre .0, packed.end-small _ _ (c .end-of .ensures))
 
 returns : tie.Need-returns
 returns c =
-    let c6 = c .before .before .before .before .before .before in
-    let z = c6 .args in
-    parts.names-none (z .text .now) (z .closing) (z .kind) (z .c) (z .table .now) (z .notes .now) _ (c .before .if1 .taken) (c .lex .ensures)
+    let c1 = c .before in
+    let c2 = c1 .before in
+    let c3 = c2 .before in
+    let c7 = c3 .before .before .before .before in
+    let z = c7 .args in
+    packed.as-on (z .text .now) _ _ _ _ (c .lex .ensures .1)
+    (parts.names-none (z .text .now) (z .closing) (z .kind) (seen (z .text .now) (z .c)) (z .table .now) (z .notes .now) _ (packed.kind-is
+    (z .text .now) (z .c) _ _ (c3 .kind-of .ensures) (c2 .if1 .taken)) (packed.next-is (z .text .now) _ _ _ (c1 .end-of .ensures)
+    (c .lex .ensures .0)))
 
 returns-2 : tie.Need-returns-2
 returns-2 c =
-    let c6 = c .before .before .before .before .before .before in
+    let c1 = c .before in
+    let c6 = c1 .before .before .before .before .before in
     let c9 = c6 .before .before .before in
-    let c14 = c9 .before .before .before .before .before in
+    let c10 = c9 .before in
+    let c14 = c10 .before .before .before .before in
     let z = c14 .args in
-    parts.names-stop (z .text .now) (z .closing) (z .kind) (z .c) (z .table .now) (z .notes .now) (c9 .if1 .left) _ _ _ (c6 .names .ensures) _ _ _ _
-    (c .enum-told .given .1)
+    parts.names-stop (z .text .now) (z .closing) (z .kind) (seen (z .text .now) (z .c)) (z .table .now) (z .notes .now) (packed.kind-not
+    (z .text .now) (z .c) _ _ (c10 .kind-of .ensures) (c9 .if1 .left)) _ _ _ (c6 .names .ensures) _ _ _ _ (packed.halts (z .text .now) _ _
+    (c1 .stops .ensures) (c .if2 .taken))
 
 returns-3 : tie.Need-returns-3
 returns-3 c =
-    let c2 = c .before .before in
-    let c8 = c2 .before .before .before .before .before .before in
-    let c11 = c8 .before .before .before in
-    let c16 = c11 .before .before .before .before .before in
-    let z = c16 .args in
-    parts.names-close (z .text .now) (z .closing) (z .kind) (z .c) (z .table .now) (z .notes .now) (c11 .if1 .left) _ _ _ (c8 .names .ensures) _ _
-    (c2 .r .given .1) (c .token .ensures)
+    let c1 = c .before in
+    let c2 = c1 .before in
+    let c7 = c2 .before .before .before .before .before in
+    let c10 = c7 .before .before .before in
+    let c11 = c10 .before in
+    let c15 = c11 .before .before .before .before in
+    let z = c15 .args in
+    parts.names-close (z .text .now) (z .closing) (z .kind) (seen (z .text .now) (z .c)) (z .table .now) (z .notes .now) (packed.kind-not
+    (z .text .now) (z .c) _ _ (c11 .kind-of .ensures) (c10 .if1 .left)) _ _ _ (c7 .names .ensures) _ _ (packed.keeps (z .text .now) _ _
+    (c2 .stops .ensures) (c1 .if2 .left)) (c .token .ensures)
 
 pub parameter-names-spec : {M : Type 1} → statement M
 parameter-names-spec =
     tie.close
     (tie.spec
     (λ c κs. search needs)
+    (λ c κs. search needs)
+    lex-requires
     returns
     (λ c κs. search needs)
-    (λ c. search needs)
-    (λ c. search needs)
+    (λ c κs. search needs)
     (λ c. search needs)
     (λ c. search needs)
     returns-2

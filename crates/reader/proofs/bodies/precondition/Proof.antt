@@ -2,28 +2,43 @@
 use borrow.Author.Needs.{needs}
 use Rattle.reader.proofs.bodies.precondition.Statement.{statement}
 use Rattle.reader.proofs.bodies.precondition.Tie as tie
+use Rattle.reader.specs.Packed.{seen}
 use Rattle.reader.proofs.Exits as parts
+use Rattle.reader.proofs.PackedBodies as packed
+
+lex-requires : tie.Need-lex-requires
+lex-requires c κs =
+    let c8 = c .before .before .before .before .before .before .before .before in
+    (c8 .pre .0, packed.end-small _ _ (c .end-of .ensures))
 
 returns : tie.Need-returns
 returns c =
     let c5 = c .before .before .before .before .before in
     let c6 = c5 .before in
-    let c9 = c6 .before .before .before in
-    let c14 = c9 .before .before .before .before .before in
-    let z = c14 .args in
-    parts.preconditioned (z .text .now) (z .c) _ _ _ _ _ _ (c9 .if1 .taken) (c6 .lex .ensures) (c5 .condition .ensures) (c .close .ensures)
+    let c7 = c6 .before in
+    let c10 = c7 .before .before .before in
+    let c11 = c10 .before in
+    let c15 = c11 .before .before .before .before in
+    let z = c15 .args in
+    parts.preconditioned (z .text .now) (seen (z .text .now) (z .c)) _ _ _ _ _ _ (packed.kind-is (z .text .now) (z .c) _ _ (c11 .kind-of .ensures)
+    (c10 .if1 .taken)) (packed.next-is (z .text .now) _ _ _ (c7 .end-of .ensures) (c6 .lex .ensures .0)) (c5 .condition .ensures) (c .close .ensures)
 
 returns-2 : tie.Need-returns-2
 returns-2 c =
-    let c5 = c .before .before .before .before .before in
+    let c1 = c .before in
+    let c5 = c1 .before .before .before .before in
     let z = c5 .args in
-    parts.unconditioned (z .text .now) (z .c) _ _ (c .if1 .left)
+    packed.as-on (z .text .now) _ _ _ _ (c5 .pre .1)
+    (parts.unconditioned (z .text .now) (seen (z .text .now) (z .c)) _ _ (packed.kind-not (z .text .now) (z .c) _ _ (c1 .kind-of .ensures)
+    (c .if1 .left)))
 
 pub precondition-spec : {M : Type 1} → statement M
 precondition-spec =
     tie.close
     (tie.spec
     (λ c κs. search needs)
+    (λ c κs. search needs)
+    lex-requires
     (λ c κs. search needs)
     (λ c κs. search needs)
     (λ c. search needs)

@@ -6,46 +6,40 @@ use borrow.Author.Tests.{ne-eqb}
 use Rattle.laws.proofs.Choice.{pick-false}
 use Rattle.reader.specs.Walk as walk
 use Rattle.reader.proofs.Leaves.{leaves-same, is-stop}
-use Rattle.reader.proofs.Listed.{clause-begin}
-
-unfit-requires : tie.Need-unfit-requires
-unfit-requires c κs = search needs
+use Rattle.reader.proofs.PackedBlocks.{end-below, kind-not, clause-begin}
 
 returns : tie.Need-returns
 unfolding walk.clause
 returns c =
-    is-stop _ _ _ _ _ _ (pick-false _ _ _ (ne-eqb _ _ (c .before .if1 .taken))) (c .unfit .ensures)
-
-clause-party-requires : tie.Need-clause-party-requires
-clause-party-requires c κs = search needs
+    is-stop _ _ _ _ _ _ (pick-false _ _ _ (ne-eqb _ _ (kind-not (c .before .before .before .before .before .before .args .text .now) (c .before .before .before .before .before .before .args .c) _ _ (c .before .before .kind-of .ensures) (c .before .if1 .taken)))) (c .unfit .ensures .0)
 
 lex-requires : tie.Need-lex-requires
-lex-requires c κs = search needs
+lex-requires c κs =
+    (c .before .before .before .before .before .before .before .before .before .before .before .before .before .before .before .before .before .pre .0, end-below (c .before .before .before .before .before .before .before .before .before .before .before .before .before .before .before .before .before .args .c) _ (c .end-of2 .ensures))
 
 clause-from-requires : tie.Need-clause-from-requires
-clause-from-requires c κs = search needs
-
-same-length : tie.Need-same-length
-same-length c = search needs
-
-same-length-2 : tie.Need-same-length-2
-same-length-2 c = search needs
+clause-from-requires c κs =
+    (c .before .before .before .before .before .before .before .before .before .before .before .before .before .before .before .before .before .before .pre .0, c .lex .ensures .1)
 
 returns-2 : tie.Need-returns-2
 returns-2 c =
     leaves-same _ _ _ _ _
-    (clause-begin _ _ _ _ _ _ _ (c .before .before .before .before .before .before .before .before .before .before .before .before .before .before .before .if1 .left) (c .before .before .before .before .before .lex .ensures) (c .before .before .before .before .before .before .before .before .before .before .before .before .clause-party .ensures .0) (c .before .before .before .before .before .before .before .before .before .before .before .before .clause-party .ensures .1))
+    (clause-begin (c .before .before .before .before .before .before .before .before .before .before .before .before .before .before .before .before .before .before .before .before .before .before .before .args .text .now) (c .before .before .before .before .before .before .before .before .before .before .before .before .before .before .before .before .before .before .before .before .before .before .before .args .c) _ _ _ _ _ _ _ _ _ (c .before .before .before .before .before .before .before .before .before .before .before .before .before .before .before .before .before .before .before .kind-of .ensures) (c .before .before .before .before .before .before .before .before .before .before .before .before .before .before .before .before .before .before .if1 .left) (c .before .before .before .before .before .before .before .before .before .before .before .before .before .before .before .start-of .ensures) (c .before .before .before .before .before .before .before .before .before .before .before .before .before .before .end-of .ensures) (c .before .before .before .before .before .before .end-of2 .ensures) (c .before .before .before .before .before .lex .ensures .0) (c .before .before .before .before .before .before .before .before .before .before .before .before .before .clause-party .ensures .0) (c .before .before .before .before .before .before .before .before .before .before .before .before .before .clause-party .ensures .1))
     (c .before .before .before .before .clause-from .ensures)
 
 pub clause-spec : {M : Type 1} → statement M
 clause-spec =
     tie.close
     (tie.spec
-    unfit-requires
+    (λ c κs. search needs)
+    (λ c κs. search needs)
     returns
-    clause-party-requires
+    (λ c κs. search needs)
+    (λ c κs. search needs)
+    (λ c κs. search needs)
+    (λ c κs. search needs)
     lex-requires
     clause-from-requires
-    same-length
-    same-length-2
+    (λ c. search needs)
+    (λ c. search needs)
     returns-2)

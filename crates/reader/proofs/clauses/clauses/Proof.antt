@@ -3,81 +3,54 @@ use borrow.Author.Needs.{needs}
 use Rattle.reader.proofs.clauses.clauses.Statement.{statement}
 use Rattle.reader.proofs.clauses.clauses.Tie as tie
 use mathlib.Core.Path.{_≡_, refl, sym, _∙_}
+use mathlib.Core.Bool.{false}
 use lib.ListN.{length}
 use Rattle.reader.specs.Walk as walk
+use Rattle.reader.specs.Packed.{isStop, seen}
 use Rattle.reader.proofs.Leaves.{is-on, went, handed}
 use Rattle.reader.proofs.Listed.{clauses-turn, clauses-refused, clauses-stop, clauses-end}
+use Rattle.reader.proofs.Packs.{told-on, told-stop}
+use Rattle.reader.proofs.PackedBlocks.{kind-is, kind-not}
 
 abbrev Inv-loop : tie.InvT-loop
-Inv-loop text table₀ notes₀ here₀ left₀ table notes here left =
-    (walk.clauses text left here (walk.pass table notes) ≡ walk.clauses text left₀ here₀ (walk.pass table₀ notes₀))
-    × ((length table ≡ length table₀) × (length notes ≡ length notes₀))
+Inv-loop text table₀ notes₀ c here₀ left₀ table notes here left =
+    (walk.clauses text left (seen text here) (walk.pass table notes) ≡ walk.clauses text left₀ (seen text here₀) (walk.pass table₀ notes₀))
+    × ((isStop here ≡ false) × ((length table ≡ length table₀) × (length notes ≡ length notes₀)))
 
 abbrev μ-loop : tie.MeasureT-loop
-μ-loop text table₀ notes₀ here₀ left₀ table notes here left =
+μ-loop text table₀ notes₀ c here₀ left₀ table notes here left =
     left
-
-loop-holds : tie.Need-loop-holds Inv-loop μ-loop
-loop-holds c =
-    (refl, (refl, refl))
-
-same-length : tie.Need-same-length Inv-loop μ-loop
-same-length c =
-    c .before .before .before .loop .inv .1 .0
-
-same-length-2 : tie.Need-same-length-2 Inv-loop μ-loop
-same-length-2 c =
-    c .before .before .before .loop .inv .1 .1
 
 returns : tie.Need-returns Inv-loop μ-loop
 returns c =
-    is-on _ _ _ _ _ (sym (c .before .before .before .loop .inv .0) ∙ clauses-stop _ _ _ _ (c .if1 .taken)) refl
+    is-on _ _ _ _ _ (sym (c .before .before .before .loop .inv .0) ∙ clauses-stop _ _ _ _ (kind-not (c .before .before .before .before .before .before .before .args .text .now) _ _ _ (c .before .kind-of .ensures) (c .if1 .taken))) (told-on (c .before .before .before .before .before .before .before .args .text .now) _ (c .before .before .before .loop .inv .1 .0))
 
 clause-requires : tie.Need-clause-requires Inv-loop μ-loop
-clause-requires c κs = search needs
-
-enum-known-r : tie.Need-enum-known-r Inv-loop μ-loop
-enum-known-r c = search needs
-
-enum-told : tie.Need-enum-told Inv-loop μ-loop
-enum-told c = search needs
+clause-requires c κs =
+    (c .before .before .before .before .before .before .before .before .before .pre .0, c .before .before .before .before .before .loop .inv .1 .0)
 
 same-length-3 : tie.Need-same-length-3 Inv-loop μ-loop
 same-length-3 c =
-    c .before .before .before .before .before .before .clause .kept .1 .0 ∙ c .before .before .before .before .before .before .before .before .before .before .before .before .loop .inv .1 .0
+    c .before .before .before .before .before .before .clause .kept .1 .0 ∙ c .before .before .before .before .before .before .before .before .before .before .before .before .loop .inv .1 .1 .0
 
 same-length-4 : tie.Need-same-length-4 Inv-loop μ-loop
 same-length-4 c =
-    c .before .before .before .before .before .before .clause .kept .1 .1 .0 ∙ c .before .before .before .before .before .before .before .before .before .before .before .before .loop .inv .1 .1
+    c .before .before .before .before .before .before .clause .kept .1 .1 .0 ∙ c .before .before .before .before .before .before .before .before .before .before .before .before .loop .inv .1 .1 .1
 
 returns-2 : tie.Need-returns-2 Inv-loop μ-loop
 returns-2 c =
-    handed _ _ _ _ _ _ _ _ _ (c .before .before .before .before .before .before .clause .ensures) (c .enum-told .given .1)
-    (λ e. sym (c .before .before .before .before .before .before .before .before .before .before .before .before .loop .inv .0) ∙ clauses-refused _ _ _ _ _ _ (c .before .before .before .before .before .before .before .before .before .before .before .loop-test .taken) (c .before .before .before .before .before .before .before .before .before .if1 .left) e)
-
-sub-left : tie.Need-sub-left Inv-loop μ-loop
-sub-left c = search needs
-
-loop-less : tie.Need-loop-less Inv-loop μ-loop
-loop-less c = search needs
+    handed _ _ _ _ _ _ _ _ _ (c .before .before .before .before .before .before .clause .ensures) (told-stop (c .before .before .before .before .before .before .before .before .before .before .before .before .before .before .before .before .args .text .now) _ (sym (c .before .stops .ensures) ∙ c .if2 .taken))
+    (λ e. sym (c .before .before .before .before .before .before .before .before .before .before .before .before .loop .inv .0) ∙ clauses-refused _ _ _ _ _ _ (c .before .before .before .before .before .before .before .before .before .before .before .loop-test .taken) (kind-is (c .before .before .before .before .before .before .before .before .before .before .before .before .before .before .before .before .args .text .now) _ _ _ (c .before .before .before .before .before .before .before .before .before .before .kind-of .ensures) (c .before .before .before .before .before .before .before .before .before .if1 .left)) e)
 
 loop-again : tie.Need-loop-again Inv-loop μ-loop
 loop-again c = (
-  clauses-turn _ _ _ _ _ _ (c .before .before .before .before .before .before .before .before .before .before .before .before .loop-test .taken) (c .before .before .before .before .before .before .before .before .before .before .if1 .left) (went _ _ _ _ _ (c .before .before .before .before .before .before .before .clause .ensures) (c .before .r .given .1)) ∙ c .before .before .before .before .before .before .before .before .before .before .before .before .before .loop .inv .0,
-  (c .before .before .before .before .before .before .before .clause .kept .1 .0 ∙ c .before .before .before .before .before .before .before .before .before .before .before .before .before .loop .inv .1 .0, c .before .before .before .before .before .before .before .clause .kept .1 .1 .0 ∙ c .before .before .before .before .before .before .before .before .before .before .before .before .before .loop .inv .1 .1),
+  clauses-turn _ _ _ _ _ _ (c .before .before .before .before .before .before .before .before .before .before .before .loop-test .taken) (kind-is (c .before .before .before .before .before .before .before .before .before .before .before .before .before .before .before .before .args .text .now) _ _ _ (c .before .before .before .before .before .before .before .before .before .before .kind-of .ensures) (c .before .before .before .before .before .before .before .before .before .if1 .left)) (went _ _ _ _ _ (c .before .before .before .before .before .before .clause .ensures) (told-on (c .before .before .before .before .before .before .before .before .before .before .before .before .before .before .before .before .args .text .now) _ (sym (c .before .stops .ensures) ∙ c .if2 .left))) ∙ c .before .before .before .before .before .before .before .before .before .before .before .before .loop .inv .0,
+  ((sym (c .before .stops .ensures) ∙ c .if2 .left), (c .before .before .before .before .before .before .clause .kept .1 .0 ∙ c .before .before .before .before .before .before .before .before .before .before .before .before .loop .inv .1 .1 .0, c .before .before .before .before .before .before .clause .kept .1 .1 .0 ∙ c .before .before .before .before .before .before .before .before .before .before .before .before .loop .inv .1 .1 .1)),
 )
-
-same-length-5 : tie.Need-same-length-5 Inv-loop μ-loop
-same-length-5 c =
-    c .before .loop .inv .1 .0
-
-same-length-6 : tie.Need-same-length-6 Inv-loop μ-loop
-same-length-6 c =
-    c .before .loop .inv .1 .1
 
 returns-3 : tie.Need-returns-3 Inv-loop μ-loop
 returns-3 c =
-    is-on _ _ _ _ _ (sym (c .before .loop .inv .0) ∙ clauses-end _ _ _ _ (c .loop-test .left)) refl
+    is-on _ _ _ _ _ (sym (c .before .loop .inv .0) ∙ clauses-end _ _ _ _ (c .loop-test .left)) (told-on (c .before .before .before .before .before .args .text .now) _ (c .before .loop .inv .1 .0))
 
 pub clauses-spec : {M : Type 1} → statement M
 clauses-spec =
@@ -85,19 +58,19 @@ clauses-spec =
     (tie.spec
     Inv-loop
     μ-loop
-    loop-holds
-    same-length
-    same-length-2
+    (λ c. (refl, (c .before .before .before .pre .1, (refl, refl))))
+    (λ c κs. search needs)
+    (λ c. c .before .before .before .loop .inv .1 .1 .0)
+    (λ c. c .before .before .before .loop .inv .1 .1 .1)
     returns
     clause-requires
-    enum-known-r
-    enum-told
+    (λ c κs. search needs)
     same-length-3
     same-length-4
     returns-2
-    sub-left
-    loop-less
+    (λ c. search needs)
+    (λ c. search needs)
     loop-again
-    same-length-5
-    same-length-6
+    (λ c. c .before .loop .inv .1 .1 .0)
+    (λ c. c .before .loop .inv .1 .1 .1)
     returns-3)

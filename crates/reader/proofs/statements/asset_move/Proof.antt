@@ -2,54 +2,71 @@
 use borrow.Author.Needs.{needs}
 use Rattle.reader.proofs.statements.asset_move.Statement.{statement}
 use Rattle.reader.proofs.statements.asset_move.Tie as tie
-use Rattle.reader.proofs.Blocks.{asset-unfit, asset-moves, asset-all, asset-none}
+use Rattle.reader.proofs.PackedTerms.{asset-unfit, asset-moves, asset-all, asset-none}
 
 returns : tie.Need-returns
 returns c =
-    let c6 = c .before .before .before .before .before .before in
+    let c1 = c .before in
+    let c2 = c1 .before in
+    let c6 = c2 .before .before .before .before in
     let z = c6 .args in
-    asset-unfit (z .text .now) (z .handler) (z .first) (z .from) (z .alone) (z .c) _ _ _ _ (c .before .if1 .taken) (c .unfit .ensures)
+    asset-unfit (z .text .now) (z .handler) (z .first) (z .from) (z .alone) (z .c) _ _ (c2 .kind-of .ensures) _ _ _ (c1 .if1 .taken) (c .unfit .ensures .0)
 
 returns-2 : tie.Need-returns-2
 returns-2 c =
     let c4 = c .before .before .before .before in
     let c5 = c4 .before in
-    let c8 = c5 .before .before .before in
-    let c10 = c8 .before .before in
+    let c6 = c5 .before in
+    let c9 = c6 .before .before .before in
+    let c10 = c9 .before in
     let c11 = c10 .before in
-    let c16 = c11 .before .before .before .before .before in
-    let z = c16 .args in
-    asset-moves (z .text .now) (z .handler) (z .first) (z .from) (z .alone) (z .c) _ _ (c11 .if1 .left) (c10 .lex .ensures) _ _ _ _ (c8 .if2 .taken)
-    (c5 .lex2 .ensures) (c4 .moves .ensures)
+    let c12 = c11 .before in
+    let c13 = c12 .before in
+    let c14 = c13 .before in
+    let c18 = c14 .before .before .before .before in
+    let z = c18 .args in
+    asset-moves (z .text .now) (z .handler) (z .first) (z .from) (z .alone) (z .c) _ _ (c14 .kind-of .ensures) (c13 .if1 .left) _ (c12 .end-of .ensures) _ (c11 .lex .ensures .0) _ (c10 .kind-of2 .ensures)
+    _ _ _ _ _ (c9 .if2 .taken) (c6 .end-of2 .ensures) (c5 .lex2 .ensures .0) (c4 .moves .ensures)
 
 returns-3 : tie.Need-returns-3
 returns-3 c =
     let c4 = c .before .before .before .before in
     let c7 = c4 .before .before .before in
     let c8 = c7 .before in
-    let c10 = c8 .before .before in
+    let c9 = c8 .before in
+    let c10 = c9 .before in
     let c11 = c10 .before in
-    let c16 = c11 .before .before .before .before .before in
-    let z = c16 .args in
-    asset-all (z .text .now) (z .handler) (z .first) (z .from) (z .alone) (z .c) _ _ (c11 .if1 .left) (c10 .lex .ensures) _ _ (c8 .if2 .left)
-    (c7 .if3 .taken) (c4 .moves-all .ensures .0) (c4 .moves-all .ensures .1)
+    let c12 = c11 .before in
+    let c13 = c12 .before in
+    let c17 = c13 .before .before .before .before in
+    let z = c17 .args in
+    asset-all (z .text .now) (z .handler) (z .first) (z .from) (z .alone) (z .c) _ _ (c13 .kind-of .ensures) (c12 .if1 .left) _ (c11 .end-of .ensures) _ (c10 .lex .ensures .0) _ (c9 .kind-of2 .ensures)
+    _ _ (c10 .lex .ensures .1) (c8 .if2 .left) (c7 .if3 .taken) (c4 .moves-all .ensures .0) (c4 .moves-all .ensures .1)
 
 returns-4 : tie.Need-returns-4
 returns-4 c =
-    let c2 = c .before .before in
-    let c4 = c2 .before .before in
+    let c1 = c .before in
+    let c2 = c1 .before in
+    let c3 = c2 .before in
+    let c4 = c3 .before in
     let c5 = c4 .before in
-    let c10 = c5 .before .before .before .before .before in
-    let z = c10 .args in
-    asset-none (z .text .now) (z .handler) (z .first) (z .from) (z .alone) (z .c) _ _ (c5 .if1 .left) (c4 .lex .ensures) _ _ _ (c2 .if2 .left)
-    (c .before .if3 .left) (c .unfit2 .ensures)
+    let c6 = c5 .before in
+    let c7 = c6 .before in
+    let c11 = c7 .before .before .before .before in
+    let z = c11 .args in
+    asset-none (z .text .now) (z .handler) (z .first) (z .from) (z .alone) (z .c) _ _ (c7 .kind-of .ensures) (c6 .if1 .left) _ (c5 .end-of .ensures) _ (c4 .lex .ensures .0) _ (c3 .kind-of2 .ensures)
+    _ _ _ (c2 .if2 .left) (c1 .if3 .left) (c .unfit2 .ensures .0)
 
 pub asset-move-spec : {M : Type 1} → statement M
 asset-move-spec =
     tie.close
     (tie.spec
     (λ c κs. search needs)
+    (λ c κs. search needs)
     returns
+    (λ c κs. search needs)
+    (λ c κs. search needs)
+    (λ c κs. search needs)
     (λ c κs. search needs)
     (λ c κs. search needs)
     (λ c κs. search needs)

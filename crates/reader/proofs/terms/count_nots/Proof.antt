@@ -1,66 +1,83 @@
 -- `reader::terms::count_nots` meets its contract. Assumes nothing.
+use borrow.Author.Needs.{needs}
 use Rattle.reader.proofs.terms.count_nots.Statement.{statement}
 use Rattle.reader.proofs.terms.count_nots.Tie as tie
 use mathlib.Core.Path.{_≡_, refl, _∙_}
-use Rattle.reader.specs.Walk as walk
-use borrow.Author.Needs.{needs}
+use mathlib.Core.Bool.{false}
 use lib.ListN.{length}
 use Prim.Native.Nat.{_-_}
-use Rattle.reader.proofs.Operators.{NotsLeft, nots-begin, nots-turn, nots-stop, nots-end}
+use Rattle.reader.specs.Packed.{isStop, seen}
+use Rattle.reader.proofs.Operators.{NotsLeft, nots-begin, nots-stop, nots-end}
+use Rattle.reader.proofs.PackedTerms.{another, end-small}
 
 abbrev Inv-loop : tie.InvT-loop
-Inv-loop text notes₀ here₀ many₀ notes here many =
-    NotsLeft text notes₀ here₀ notes here many × (length notes ≡ length notes₀)
+Inv-loop text notes₀ c here₀ many₀ notes here many =
+    NotsLeft text notes₀ (seen text here₀) notes (seen text here) many × (isStop here ≡ false) × (length notes ≡ length notes₀)
 
 abbrev μ-loop : tie.MeasureT-loop
-μ-loop text notes₀ here₀ many₀ notes here many =
-    length text - many
+μ-loop text notes₀ c here₀ many₀ notes here many = length text - many
 
 loop-holds : tie.Need-loop-holds Inv-loop μ-loop
 loop-holds c =
-    (nots-begin (c .before .before .args .text .now) (c .before .before .args .notes .now) (c .before .before .args .c), refl)
+    let c2 = c .before .before in
+    let z = c2 .args in
+    (nots-begin (z .text .now) (z .notes .now) (seen (z .text .now) (z .c)), c2 .pre .1, refl)
 
 same-length : tie.Need-same-length Inv-loop μ-loop
 same-length c =
-    c .before .before .before .loop .inv .1
+    let c3 = c .before .before .before in
+    c3 .loop .inv .2
 
 returns : tie.Need-returns Inv-loop μ-loop
-unfolding walk.NotsAre
+unfolding seen
 returns c =
-    let l = c .before .before .before .loop in
-    let g = c .before .before .before .before .before .before .args in
-    nots-stop (g .text .now) (g .notes .now) (g .c) (l .notes) (l .here) (l .many) (l .inv .0) (c .if1 .taken)
-
-count-requires : tie.Need-count-requires Inv-loop μ-loop
-count-requires c κs = search needs
+    let c1 = c .before in
+    let c3 = c1 .before .before in
+    let c6 = c3 .before .before .before in
+    let z = c6 .args in
+    let l = c3 .loop in
+    record {
+      goes = l .inv .1;
+      same = nots-stop (z .text .now) (z .notes .now) (seen (z .text .now) (z .c)) (l .notes) (seen (z .text .now) (l .here)) (l .many) (l .inv .0) (λ e. c .if1 .taken (c1 .kind-of .ensures ∙ e));
+    }
 
 lex-requires : tie.Need-lex-requires Inv-loop μ-loop
-lex-requires c κs = search needs
-
-add-many : tie.Need-add-many Inv-loop μ-loop
-add-many c = search needs
-
-loop-less : tie.Need-loop-less Inv-loop μ-loop
-loop-less c = search needs
+lex-requires c κs =
+    let c12 = c .before .before .before .before .before .before .before .before .before .before .before .before in
+    (c12 .pre .0, end-small _ _ (c .end-of .ensures))
 
 loop-again : tie.Need-loop-again Inv-loop μ-loop
 loop-again c =
-    let l = c .before .before .before .before .before .before .before .before .loop in
-    let g = c .before .before .before .before .before .before .before .before .before .before .before .args in (
-      nots-turn (g .text .now) (g .notes .now) (g .c) (l .notes) (l .here) (l .many) (l .inv .0) (c .before .before .before .before .before .before .before .loop-test .taken) (c .before .before .before .before .before .if1 .left) _ (c .before .before .before .count .ensures) _ (c .lex .ensures),
-      c .before .before .before .count .kept .0 ∙ l .inv .1,
+    let c1 = c .before in
+    let c4 = c1 .before .before .before in
+    let c5 = c4 .before in
+    let c7 = c5 .before .before in
+    let c8 = c7 .before in
+    let c9 = c8 .before in
+    let c10 = c9 .before in
+    let c13 = c10 .before .before .before in
+    let z = c13 .args in
+    let l = c10 .loop in (
+      another (z .text .now) (z .notes .now) (z .c) (l .notes) (l .here) (l .many) (l .inv .0) _ _ _ (c9 .loop-test .taken) (c8 .kind-of .ensures) (c7 .if1 .left) (c5 .start-of .ensures) _ (c4 .count .ensures) (c1 .end-of .ensures) _ (c .lex .ensures .0),
+      c .lex .ensures .1,
+      c4 .count .kept .0 ∙ l .inv .2,
     )
 
 same-length-2 : tie.Need-same-length-2 Inv-loop μ-loop
 same-length-2 c =
-    c .before .loop .inv .1
+    let c1 = c .before in
+    c1 .loop .inv .2
 
 returns-2 : tie.Need-returns-2 Inv-loop μ-loop
-unfolding walk.NotsAre
 returns-2 c =
-    let l = c .before .loop in
-    let g = c .before .before .before .before .args in
-    nots-end (g .text .now) (g .notes .now) (g .c) (l .notes) (l .here) (l .many) (l .inv .0) (c .loop-test .left)
+    let c1 = c .before in
+    let c4 = c1 .before .before .before in
+    let z = c4 .args in
+    let l = c1 .loop in
+    record {
+      goes = l .inv .1;
+      same = nots-end (z .text .now) (z .notes .now) (seen (z .text .now) (z .c)) (l .notes) (seen (z .text .now) (l .here)) (l .many) (l .inv .0) (c .loop-test .left);
+    }
 
 pub count-nots-spec : {M : Type 1} → statement M
 count-nots-spec =
@@ -69,12 +86,15 @@ count-nots-spec =
     Inv-loop
     μ-loop
     loop-holds
+    (λ c κs. search needs)
     same-length
     returns
-    count-requires
+    (λ c κs. search needs)
+    (λ c κs. search needs)
+    (λ c κs. search needs)
     lex-requires
-    add-many
-    loop-less
+    (λ c. search needs)
+    (λ c. search needs)
     loop-again
     same-length-2
     returns-2)

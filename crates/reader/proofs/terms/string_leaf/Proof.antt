@@ -3,51 +3,39 @@ use borrow.Author.Needs.{needs}
 use Rattle.reader.proofs.terms.string_leaf.Statement.{statement}
 use Rattle.reader.proofs.terms.string_leaf.Tie as tie
 use mathlib.Core.Logic.{inl, inr, ⊎-elim}
-use Rattle.reader.proofs.Operators.{inner, stringed}
-
-add-start : tie.Need-add-start
-add-start c = search needs
-
-sub-end : tie.Need-sub-end
-sub-end c = search needs
-
-count-requires : tie.Need-count-requires
-count-requires c κs = search needs
-
-mention-requires : tie.Need-mention-requires
-mention-requires c κs = search needs
-
-nodes-requires : tie.Need-nodes-requires
-nodes-requires c κs = search needs
-
-put-requires : tie.Need-put-requires
-put-requires c κs = search needs
-
-same-length : tie.Need-same-length
-same-length c = search needs
-
-same-length-2 : tie.Need-same-length-2
-same-length-2 c = search needs
+use Rattle.reader.proofs.PackedTerms.{string-written}
 
 returns : tie.Need-returns
 returns c =
-    let g = c .before .before .before .before .before .before .before .before .before .before .before .before .before .before .before .before .before .before .before .before .before .before .before .before .args in
-    let j = c .before .before .before .before .before .before .before .before .before .before .before .before .before .before .before .before .before .before .before .before .if1 in
-    stringed (g .text .now) (g .c) (g .table .now) (g .notes .now) (j .start) (j .end)
-    (inner (g .text .now) (g .c) (j .start) (j .end) (⊎-elim (λ w. inl (w .0 .taken, w .1, w .2)) (λ w. inr (w .0 .left, w .1, w .2)) (j .came)))
-    _ (c .before .before .before .before .before .before .before .before .before .before .before .before .before .before .before .before .before .before .count .ensures) _ _ _ (c .before .before .before .before .before .before .before .before .before .before .before .before .before .mention .ensures .0) (c .before .before .before .before .before .before .before .before .before .before .before .before .before .mention .ensures .1 .0) (c .before .before .before .before .before .before .before .before .before .before .before .before .before .mention .ensures .1 .1) _ (c .before .before .before .before .before .before .before .nodes .ensures)
-    _ _ (c .before .before .before .before .put .ensures .0) (c .before .before .before .before .put .ensures .1)
+    let c4 = c .before .before .before .before in
+    let c7 = c4 .before .before .before in
+    let c13 = c7 .before .before .before .before .before .before in
+    let c18 = c13 .before .before .before .before .before in
+    let c20 = c18 .before .before in
+    let c21 = c20 .before in
+    let c22 = c21 .before in
+    let c23 = c22 .before in
+    let c27 = c23 .before .before .before .before in
+    let z = c27 .args in
+    let j = c21 .if1 in
+    string-written (z .text .now) (z .c) (z .table .now) (z .notes .now) _ _ _ (j .start) (j .end) (c23 .start-of .ensures) (c22 .end-of .ensures) (c20 .start-of2 .ensures)
+    (⊎-elim (λ w. inl (w .0 .taken, w .1, w .2)) (λ w. inr (w .0 .left, w .1, w .2)) (j .came))
+    _ (c18 .count .ensures) _ _ _ (c13 .mention .ensures .0) (c13 .mention .ensures .1 .0) (c13 .mention .ensures .1 .1) _ (c7 .nodes .ensures)
+    _ _ (c4 .put .ensures .0) (c4 .put .ensures .1)
 
 pub string-leaf-spec : {M : Type 1} → statement M
 string-leaf-spec =
     tie.close
     (tie.spec
-    add-start
-    sub-end
-    count-requires
-    mention-requires
-    nodes-requires
-    put-requires
-    same-length
-    same-length-2
+    (λ c κs. search needs)
+    (λ c κs. search needs)
+    (λ c. search needs)
+    (λ c. search needs)
+    (λ c κs. search needs)
+    (λ c κs. search needs)
+    (λ c κs. search needs)
+    (λ c κs. search needs)
+    (λ c κs. search needs)
+    (λ c. search needs)
+    (λ c. search needs)
     returns)
