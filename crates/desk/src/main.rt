@@ -1,50 +1,29 @@
 // The sale desk: reads the contract in `terms.stipula`, then a session from standard input, and prints what comes of each line, of the
 // events that are due after it, and at the end what each asset holds.
-ghost use Prim.Native.Nat.{_≤_};
+ghost use Prim.Native.Nat.{_+_, _≤_, min};
+ghost use mathlib.Core.Path.{_≡_};
 ghost use lib.ListN.{length};
 use contract::Contract;
 use libc::STDIN_FILENO;
 use libc::STDOUT_FILENO;
-use machine::Stepped;
 use reader::Answer;
 use results::Report;
 use results::Written;
-use state::Due;
 use state::State;
-use statements::Label;
 
-// A state, and how many bytes of the output wait in their buffer.
+// The most bytes that are kept of a line: one more than it may have, so that a longer one is refused.
+const KEPT: usize = 513;
+
+// A state, and how many bytes are kept of the line that has not ended.
 struct Desk {
     state: State,
-    used: usize,
-}
-
-// The same while a line is being read, of which so many bytes are kept.
-struct Session {
-    desk: Desk,
     kept: usize,
 }
 
-// The bytes that one result line may need.
-const ROOM: usize = 128;
-
-// ---- output
-
-// Where the next line goes in the output: a buffer with too little room is written out first.
-fn make_room(out: &[u8], used: usize) -> usize
-    ensures { λ r. ⌜ r ≤ length (now (out .entry)) ⌝ }
+// The place after n more, at most the size.
+fn past(at: usize, n: usize, size: usize) -> usize
+    ensures { λ r. ⌜ r ≡ min (at + n) size ⌝ }
 {
-    if used <= out.len() {
-        if ROOM <= out.len() - used {
-            return used;
-        }
-        io::write_all(STDOUT_FILENO, &out[..used]);
-    }
-    0
-}
-
-// The place after n bytes more, within the buffer.
-fn past(at: usize, n: usize, size: usize) -> usize {
     if at <= size {
         if n <= size - at {
             return at + n;
@@ -53,193 +32,186 @@ fn past(at: usize, n: usize, size: usize) -> usize {
     size
 }
 
-// Puts one result line into the output.
-fn print(table: &[u64], report: Report, out: &mut [u8], used: usize) -> usize {
-    let size = out.len();
-    let at = make_room(out, used);
-    let written = results::write(table, report, &mut out[at..]);
-    match written {
-        Written::Wrote(n) => past(at, n, size),
-        Written::Refused(n) => at,
-    }
-}
+// ---- output
 
-// The labels of a step, first to last.
-fn print_labels(
-    table: &[u64],
-    labels: [Label; 64],
-    count: usize,
-    out: &mut [u8],
-    used: usize,
-) -> usize {
-    let mut used = used;
-    let mut i = 0;
-    while i < count {
-        if 64 <= i {
-            return used;
+// Prints result lines that are given as numbers.
+fn print_lines(table: &[u64], numbers: &[u64], integers: &[i64], many: usize, out: &mut [u8]) {
+    let mut i: usize = 0;
+    while i < many {
+        let b = results::write_batch(table, numbers, integers, i, many, out);
+        io::write_all(STDOUT_FILENO, tokens::between(out, 0, b.used));
+        if b.many == 0 {
+            return;
         }
-        let label = labels[i];
-        used = print(table, sessions::label_report(label), out, used);
-        i += 1;
+        i = past(i, b.many, many);
     }
-    used
-}
-
-// What came of a step, then its labels.
-fn print_step(table: &[u64], stepped: Stepped, out: &mut [u8], used: usize) -> usize {
-    let s = stepped.state;
-    let outcome = stepped.outcome;
-    let report = sessions::report_of(outcome, s.state, s.clock);
-    let next = print(table, report, out, used);
-    let labels = stepped.labels;
-    print_labels(table, labels, stepped.count, out, next)
 }
 
 // What each asset holds.
-fn print_assets(table: &[u64], s: State, out: &mut [u8], used: usize) -> usize {
+fn print_assets(table: &[u64], s: State, out: &mut [u8]) {
     let c = contract::head(table);
     let count = c.assets;
     let amounts = s.assets;
-    let mut used = used;
-    let mut i = 0;
+    let mut i: usize = 0;
     while i < count {
         if 16 <= i {
-            return used;
+            return;
         }
-        used = print(table, Report::Held(i, amounts[i]), out, used);
+        let written = results::write(table, Report::Held(i, amounts[i]), out);
+        if let Written::Wrote(n) = written {
+            io::write_all(STDOUT_FILENO, tokens::between(out, 0, n));
+        }
         i += 1;
     }
-    used
 }
 
 // ---- a session
 
-// Fires all due events. A firing leaves one event less, and adds none.
-fn fire_all(table: &[u64], s: State, out: &mut [u8], used: usize) -> Desk {
-    let mut state = s;
-    let mut used = used;
-    let mut i: usize = 0;
-    while i < 64 {
-        let due = state::first_due(table, state);
-        let Due::At(k) = due else {
-            return Desk { state, used };
-        };
-        let stepped = machine::fire(table, state, 64);
-        used = print_step(table, stepped, out, used);
-        state = stepped.state;
-        i += 1;
-    }
-    Desk { state, used }
-}
-
-// What a line does, and all events that are due after it.
-fn take_line(table: &[u64], desk: Desk, line: &[u8], out: &mut [u8]) -> Desk {
-    let s = desk.state;
-    let stepped = sessions::step(table, s, line);
-    let used = print_step(table, stepped, out, desk.used);
-    let next = stepped.state;
-    fire_all(table, next, out, used)
-}
-
-// The place of the first LF from `at` on, or the end.
-fn line_end(text: &[u8], at: usize) -> usize
-    requires { ⌜ at ≤ length (now text) ⌝ }
-    ensures { λ r. ⌜ (at ≤ r) × (r ≤ length (now (text .entry))) ⌝ }
-{
-    let mut i = at;
-    while i < text.len() {
-        if text[i] == b'\n' {
+// The place after the last LF.
+fn lines_end(bytes: &[u8]) -> usize {
+    let mut i = bytes.len();
+    while 0 < i {
+        if bytes[i - 1] == b'\n' {
             return i;
         }
+        i -= 1;
+    }
+    i
+}
+
+// The bytes from a place up to an end come to the front, as many as are kept; answers how many.
+fn bring(bytes: &mut [u8], from: usize, end: usize) -> usize
+    requires { ⌜ end ≤ length (now bytes) ⌝ }
+{
+    let mut k = from;
+    let mut i: usize = 0;
+    while i < KEPT {
+        if end <= k {
+            return i;
+        }
+        bytes[i] = bytes[k];
+        k += 1;
         i += 1;
     }
     i
 }
 
-// Keeps bytes of a line after those kept before, as many as there is room for; answers how many are kept.
-fn keep(line: &mut [u8], kept: usize, bytes: &[u8]) -> usize {
-    let mut k = kept;
-    let mut i = 0;
-    while i < bytes.len() {
-        if line.len() <= k {
-            return k;
-        }
-        line[k] = bytes[i];
-        k += 1;
-        i += 1;
-    }
-    k
-}
-
-// Takes each line that ends in these bytes, and keeps what is left of the last.
-fn take_bytes(
+// Takes each line of these bytes, and fires the events that are due.
+fn take_lines(
     table: &[u64],
-    session: Session,
-    line: &mut [u8],
+    s: State,
     bytes: &[u8],
+    numbers: &mut [u64],
+    integers: &mut [i64],
     out: &mut [u8],
-) -> Session {
-    let mut desk = session.desk;
-    let mut kept = session.kept;
-    let mut start = 0;
-    while start < bytes.len() {
-        let end = line_end(bytes, start);
-        kept = keep(line, kept, &bytes[start..end]);
-        if bytes.len() <= end {
-            return Session { desk, kept };
-        }
-        start = end + 1;
-        desk = take_line(table, desk, tokens::between(line, 0, kept), out);
-        kept = 0;
-    }
-    Session { desk, kept }
-}
-
-// Takes each line of a file, with a buffer for its bytes, for one line and for the output, and keeps what is left of the last. A line is
-// kept up to one byte more than it may have, so that a longer one is refused.
-fn take_file(
-    table: &[u64],
-    file: i32,
-    line: &mut [u8],
-    input: &mut [u8],
-    out: &mut [u8],
-) -> Session {
-    let state = State::fresh(0);
-    let desk = Desk { state, used: 0 };
-    let mut session = Session { desk, kept: 0 };
+) -> State {
+    let mut state = s;
+    let mut at: usize = 0;
     let mut left: u64 = 9223372036854775808;
     while 0 < left {
-        let got = libc::read(file, input);
-        let n = io::count(got, input);
-        if n == 0 {
-            return session;
+        let rest = tokens::between(bytes, at, bytes.len());
+        let p = machine::play(table, state, rest, numbers, integers);
+        state = p.state;
+        if p.many == 0 {
+            return state;
         }
-        session = take_bytes(table, session, line, tokens::between(input, 0, n), out);
+        print_lines(table, numbers, integers, p.many, out);
+        at = past(at, p.used, bytes.len());
         left -= 1;
     }
-    session
+    state
+}
+
+// Takes the whole lines of the first bytes, and keeps what is left.
+fn take_bytes(
+    table: &[u64],
+    s: State,
+    bytes: &mut [u8],
+    size: usize,
+    numbers: &mut [u64],
+    integers: &mut [i64],
+    out: &mut [u8],
+) -> Desk {
+    let end = lines_end(tokens::between(bytes, 0, size));
+    let whole = tokens::between(bytes, 0, end);
+    let state = take_lines(table, s, whole, numbers, integers, out);
+    let all = past(0, size, bytes.len());
+    let kept = bring(bytes, end, all);
+    Desk { state, kept }
 }
 
 // A last line without LF counts if it has a byte.
-fn take_rest(table: &[u64], session: Session, line: &[u8], out: &mut [u8]) -> Desk {
-    let desk = session.desk;
-    let kept = session.kept;
-    if kept == 0 {
-        return desk;
+fn take_last(
+    table: &[u64],
+    s: State,
+    bytes: &mut [u8],
+    size: usize,
+    numbers: &mut [u64],
+    integers: &mut [i64],
+    out: &mut [u8],
+) -> State {
+    if size == 0 {
+        return s;
     }
-    take_line(table, desk, tokens::between(line, 0, kept), out)
+    if bytes.len() <= size {
+        return s;
+    }
+    bytes[size] = b'\n';
+    let line = tokens::between(bytes, 0, size + 1);
+    take_lines(table, s, line, numbers, integers, out)
+}
+
+// Bytes of a file after those that are kept; answers how many there are then. The buffer's last byte stays free.
+fn read_more(file: i32, bytes: &mut [u8], kept: usize) -> usize {
+    if bytes.len() <= kept {
+        return kept;
+    }
+    let last = bytes.len() - 1;
+    let got = libc::read(file, &mut bytes[kept..last]);
+    let n = io::count(got, &bytes[kept..last]);
+    past(kept, n, last)
+}
+
+// Takes each line of a file, with a buffer for its bytes.
+fn take_file(
+    table: &[u64],
+    file: i32,
+    bytes: &mut [u8],
+    numbers: &mut [u64],
+    integers: &mut [i64],
+    out: &mut [u8],
+) -> State {
+    let state = State::fresh(0);
+    let mut desk = Desk { state, kept: 0 };
+    let mut left: u64 = 9223372036854775808;
+    while 0 < left {
+        let s = desk.state;
+        let kept = desk.kept;
+        let size = read_more(file, bytes, kept);
+        if size <= kept {
+            return take_last(table, s, bytes, size, numbers, integers, out);
+        }
+        desk = take_bytes(table, s, bytes, size, numbers, integers, out);
+        left -= 1;
+    }
+    desk.state
 }
 
 // A session on the contract in a table.
 fn run(table: &[u64], file: i32) {
-    let mut line = [0u8; 513];
-    let mut input = [0u8; 65536];
+    let mut bytes = [0u8; 65536];
+    let mut numbers = [0u64; 8192];
+    let mut integers = [0i64; 2048];
     let mut out = [0u8; 65536];
-    let session = take_file(table, file, &mut line, &mut input, &mut out);
-    let desk = take_rest(table, session, &line, &mut out);
-    let s = desk.state;
-    let used = print_assets(table, s, &mut out, desk.used);
-    io::write_all(STDOUT_FILENO, tokens::between(&out, 0, used));
+    let s = take_file(
+        table,
+        file,
+        &mut bytes,
+        &mut numbers,
+        &mut integers,
+        &mut out,
+    );
+    print_assets(table, s, &mut out);
 }
 
 // A refused text.

@@ -17,3 +17,10 @@ pub mod Demand
 pub mod Worked
 pub mod Texts
 pub mod Lent
+pub mod Said
+pub mod AskedOnce
+pub mod Stops
+pub mod Fair
+pub mod Reported
+pub mod Coded
+pub mod Continued

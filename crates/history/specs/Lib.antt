@@ -1,3 +1,4 @@
 pub mod Histories
 pub mod Demand
 pub mod Cases
+pub mod Sessions

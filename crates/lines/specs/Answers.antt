@@ -9,7 +9,7 @@ use Rattle.lines.specs.declared.Request.the-variants as request
 use Rattle.lines.specs.declared.Line.{Line}
 use Rattle.lines.specs.declared.Agreement.{Agreement}
 
--- n numbers: those given, then zeros
+-- the numbers given, then zeros up to n of them
 abbrev pub padded : {A : Type 0} → A → ℕ → List A → List A
 padded none n xs = xs ++ replicate (n - length xs) none
 

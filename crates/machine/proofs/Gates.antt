@@ -34,15 +34,15 @@ module _ (w : List ℕ) (room : ℕ) (s : State) where
   no-no e f h = rw (e, f, le-leb 64 room h)
 
 -- the three tests, and what they lead to
-module _ (s : State) (x : Stepped) where
-  stops : (a b c : Bool) (n : ℕ) → n ≡ pick a (pick b (pick c 0 20) 4) 3 → (n ≡ 0 → ⊥) → refused s n ≡ pick a (pick b (pick c x (refused s 20)) (refused s 4)) (refused s 3)
+module _ {A : Type 0} (no : ℕ → A) (x : A) where
+  pub stops : (a b c : Bool) (n : ℕ) → n ≡ pick a (pick b (pick c 0 20) 4) 3 → (n ≡ 0 → ⊥) → no n ≡ pick a (pick b (pick c x (no 20)) (no 4)) (no 3)
   unfolding pick
-  stops false b c n e z = ap (refused s) e
-  stops true false c n e z = ap (refused s) e
-  stops true true false n e z = ap (refused s) e
+  stops false b c n e z = ap no e
+  stops true false c n e z = ap no e
+  stops true true false n e z = ap no e
   stops true true true n e z = absurd (z e)
 
-  goes : (a b c : Bool) → _≡_ {A = ℕ} (pick a (pick b (pick c 0 20) 4) 3) 0 → (a ≡ true) × (b ≡ true) × (x ≡ pick a (pick b (pick c x (refused s 20)) (refused s 4)) (refused s 3))
+  pub goes : (a b c : Bool) → _≡_ {A = ℕ} (pick a (pick b (pick c 0 20) 4) 3) 0 → (a ≡ true) × (b ≡ true) × (x ≡ pick a (pick b (pick c x (no 20)) (no 4)) (no 3))
   unfolding pick
   goes false b c e = absurd (omega arith)
   goes true false c e = absurd (omega arith)
@@ -52,12 +52,12 @@ module _ (s : State) (x : Stepped) where
 module _ (w : List ℕ) (room : ℕ) (s : State) (n : ℕ) (e : n ≡ firstNo w room s) where
   pub refused-first : (f : Contract → Stepped) → (n ≡ 0 → ⊥) → refused s n ≡ step w room s f
   unfolding firstNo step
-  refused-first f z = stops s (f (contractOf w)) (passes w) (stateOk (contractOf w) s) (leb 64 room) n e z
+  refused-first f z = stops (refused s) (f (contractOf w)) (passes w) (stateOk (contractOf w) s) (leb 64 room) n e z
 
   pub asked : n ≡ 0 → (passes w ≡ true) × (stateOk (contractOf w) s ≡ true)
   unfolding firstNo
-  asked z = let g = goes s (refused s 0) (passes w) (stateOk (contractOf w) s) (leb 64 room) (sym e ∙ z) in (g .0, g .1)
+  asked z = let g = goes (refused s) (refused s 0) (passes w) (stateOk (contractOf w) s) (leb 64 room) (sym e ∙ z) in (g .0, g .1)
 
   pub stepped : (f : Contract → Stepped) → n ≡ 0 → f (contractOf w) ≡ step w room s f
   unfolding firstNo step
-  stepped f z = goes s (f (contractOf w)) (passes w) (stateOk (contractOf w) s) (leb 64 room) (sym e ∙ z) .2
+  stepped f z = goes (refused s) (f (contractOf w)) (passes w) (stateOk (contractOf w) s) (leb 64 room) (sym e ∙ z) .2

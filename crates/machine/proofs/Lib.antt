@@ -7,7 +7,13 @@ pub mod Firings
 pub mod Gates
 pub mod Functions
 pub mod Schedules
+pub mod Concluded
 pub mod Calls
+pub mod Performed
 pub mod Clauses
 pub mod Agreements
 pub mod Lines
+pub mod Columns
+pub mod Taken
+pub mod Pendings
+pub mod Playing

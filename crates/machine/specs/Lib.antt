@@ -1,3 +1,4 @@
 pub mod Steps
 pub mod Agreement
 pub mod Parts
+pub mod Sessions

@@ -1,9 +1,10 @@
 -- What the parts of the code work out.
 use Prim.Native.Nat.{ℕ, _+_, _*_, _<_}
-use mathlib.Core.Bool.{Bool, true, _&&_}
+use mathlib.Core.Bool.{Bool, true, false, _&&_}
 use mathlib.Core.Path.{_≡_}
 use mathlib.Core.List.{List, [], _∷_, _++_}
 use lib.ListN.{length, getD, take, drop}
+use lib.Seq.{sets}
 use lib.Dec.{eqb, leb}
 use lib.IntN.{ℤ}
 use Rattle.laws.specs.Choice.{pick}
@@ -11,23 +12,60 @@ use Rattle.numbers.specs.declared.Truth.{Truth}
 use Rattle.numbers.specs.declared.Truth.the-variants.{Holds, Refused}
 use Rattle.tokens.specs.Tokens.{between}
 use Rattle.contract.specs.Limits.{maxAssets, maxParameters}
-use Rattle.contract.specs.Tree.{Event, Verb, set, ok, Clause}
+use Rattle.contract.specs.Tree.{Event, Verb, set, ok, Clause, Contract}
 use Rattle.contract.specs.Table.{wordAt}
 use Rattle.contract.specs.Decode.{blockBetween, functionAt, contractOf}
 use Rattle.contract.specs.Check.{passes}
 use Rattle.state.specs.declared.State.{State}
 use Rattle.state.specs.States.{repeated, stateOk}
+use Rattle.statements.specs.declared.Label.{Label}
 use Rattle.statements.specs.declared.Work.{Work}
 use Rattle.statements.specs.Running.{maxLabels}
 use Rattle.machine.specs.declared.Found.{Found}
 use Rattle.machine.specs.declared.Found.the-variants.{At, Nothing}
 use Rattle.machine.specs.declared.Handler.{Handler}
-use Rattle.machine.specs.Steps.{amounts, Invocation, Chosen, chosen, unknown, choose}
+use Rattle.machine.specs.declared.Outcome.{Outcome}
+use Rattle.machine.specs.declared.Outcome.the-variants.{Accepted, Failed}
+use Rattle.machine.specs.declared.Outcome.the-variants as outcome
+use Rattle.machine.specs.declared.Stepped.{Stepped}
+use Rattle.machine.specs.declared.Came.{Came}
+use Rattle.machine.specs.declared.Next.{Next}
+use Rattle.machine.specs.Steps.{amounts, Invocation, Chosen, chosen, unknown, choose, called}
 use Rattle.machine.specs.Agreement.{Part, wordsIn, setFields, agreedFields}
+use Rattle.results.specs.Coded.{codedAll, integersOf}
+use Rattle.machine.specs.declared.Played.{Played}
+use Rattle.machine.specs.Sessions.{Turn, makes, wait, Session}
 
 -- the first question that every step asks and that is answered by no, and 0 where none is
 unfoldable pub firstNo : List ℕ → ℕ → State → ℕ
 firstNo w room s = pick (passes w) (pick (stateOk (contractOf w) s) (pick (leb maxLabels room) 0 20) 4) 3
+
+-- a step's answer without its labels
+abbrev pub cameOf : Stepped → Came
+cameOf t = record { outcome = t .outcome; state = t .state; count = t .count }
+
+-- a call by its names and arguments
+abbrev pub calledBy : Contract → State → List ℕ → List ℕ → List ℤ → List ℤ → Stepped
+calledBy c s caller function values assets = called c s (record { caller = caller; function = function; values = values; assets = assets })
+
+abbrev pub isAccepted : Outcome → Bool
+isAccepted (Accepted r) = true
+isAccepted (Failed n) = false
+isAccepted (outcome.Refused n) = false
+
+-- a turn's answer, with its labels beside it
+pub data TurnIs (r : Next) (labels : List Label) : Turn → Type 0 where
+  stepped : {t : Stepped} {at : ℕ} → r .more ≡ true → r .at ≡ at → r .came ≡ cameOf t → labels ≡ t .labels → TurnIs r labels (makes t at)
+  waits : r .more ≡ false → TurnIs r labels wait
+
+-- a session's answer, and its result lines as numbers
+pub record PlayedIs (e : Session) (r : Played) (numbers : List ℕ) (integers : List ℤ) (told : List ℕ) (values : List ℤ) : Type 0 where
+  pub question : r .question ≡ 0
+  pub state : r .state ≡ e .state
+  pub used : r .used ≡ e .at
+  pub many : r .many ≡ length (e .reports)
+  pub numbers-after : told ≡ sets numbers 0 (codedAll (e .reports))
+  pub integers-after : values ≡ sets integers 0 (integersOf (e .reports))
 
 -- the number of the question that refused, and 0 of a truth
 abbrev pub truthRefusal : Truth → ℕ

@@ -1,9 +1,11 @@
 // The four steps of the machine. Each answers with the state, what came of it, and the labels sent.
 ghost use mathlib.Core.Path.{_≡_};
 ghost use mathlib.Core.Bool.{true, _&&_};
+ghost use mathlib.Core.List.{[]};
 ghost use Prim.Native.Nat.{_+_, _-_, _*_, _/_, _≤_, _<_};
 ghost use lib.ListN.{length, getD, take, drop};
-ghost use lib.IntN.{pos};
+ghost use lib.Seq.{sets};
+ghost use lib.IntN.{pos, natAbs};
 ghost use lib.Signed.{leZ};
 ghost use lib.Dec.{eqb};
 ghost use Rattle.laws.specs.Bytes.{sameBytes};
@@ -15,13 +17,16 @@ ghost use Rattle.contract.specs.Rows.{eventRowOf};
 ghost use Rattle.contract.specs.Decode.{preconditionAt, wordOf, eventAt, clauseAt, functionAt, contractOf};
 ghost use Rattle.contract.specs.Check.{passes};
 ghost use Rattle.contract.specs.Fits.{every};
+ghost use Rattle.evaluation.specs.Memory.{memoryOf};
 ghost use Rattle.evaluation.specs.Meaning.{valueOf};
-ghost use Rattle.state.specs.States.{live, eventOf, stateOk};
+ghost use Rattle.state.specs.States.{live, eventOf};
 ghost use Rattle.state.specs.declared.Due.the-variants as due;
-ghost use Rattle.statements.specs.Running.{memoryIn};
-ghost use Rattle.machine.specs.Steps.{noLabels, answered, refused, accepted, begun, amounts, answersTo, preconditionHolds, schedule, withScheduled, finished, invoked, fireByDue, step, called, fired, ticked};
+ghost use Rattle.statements.specs.Running.{ran, labelsFrom, workFrom};
+ghost use Rattle.machine.specs.Steps.{noLabels, answered, refused, amounts, answersTo, preconditionHolds, schedule, withScheduled, finished, invoked, fireByDue, step, called, fired, ticked};
+ghost use Rattle.results.specs.Coded.{codedAll, integersOf};
+ghost use Rattle.machine.specs.Sessions.{played, reportsOf, roomIn};
 ghost use Rattle.machine.specs.Agreement.{partsIn, wordsIn, sameVerb, sameFields, sameClause, sameClauses, withInteger, setFields, agreedFields, agreedOn};
-ghost use Rattle.machine.specs.Parts.{firstNo, truthRefusal, holdingsOf, reached, naming, arguments, FoundIn, HandlerOf, verbOf, partAt, setPart, setBy, agreedPart, agreedBy};
+ghost use Rattle.machine.specs.Parts.{firstNo, cameOf, isAccepted, truthRefusal, holdingsOf, reached, naming, arguments, FoundIn, HandlerOf, verbOf, partAt, setPart, setBy, agreedPart, agreedBy};
 use contract::Contract;
 use contract::Event;
 use numbers::Answer;
@@ -31,7 +36,9 @@ use state::Due;
 use state::Pending;
 use state::State;
 use statements::Label;
-use statements::Work;
+use statements::Ran;
+
+mod turns;
 
 // The published rules, as they are printed: AGREE, FUNCTION, EVENT MATCH, TICK.
 pub enum Rule {
@@ -53,6 +60,29 @@ pub struct Stepped {
     pub state: State,
     pub labels: [Label; 64],
     pub count: usize,
+}
+
+// What came of a session: the question that refused it or 0, the state after it, how many bytes were taken, and how many result lines
+// there are. `many` 0 with question 0 means that nothing is due and no line is whole.
+pub struct Played {
+    pub question: u8,
+    pub state: State,
+    pub used: usize,
+    pub many: usize,
+}
+
+// A step's answer without its labels, which stand in three lent columns: their kinds, their parties and their values.
+struct Came {
+    outcome: Outcome,
+    state: State,
+    count: usize,
+}
+
+// What a turn answers: whether a step was made, where the next line starts, and the step.
+struct Next {
+    more: bool,
+    at: usize,
+    came: Came,
 }
 
 // The number of a function that was looked for.
@@ -112,45 +142,100 @@ fn refuse(s: State, n: u8) -> Stepped
     answer(Outcome::Refused(n), s)
 }
 
-// An accepted step with the labels that its statements sent.
-fn accept(rule: Rule, s: State, work: Work) -> Stepped
-    ensures { λ r. ⌜ r ≡ accepted rule s work ⌝ }
+// ---- Labels in columns.
+
+// No labels.
+fn clear(sorts: &mut [u8; 64], receivers: &mut [usize; 64], sums: &mut [i64; 64])
+    ensures { λ _. ⌜ labelsFrom (now (sorts .exit)) (now (receivers .exit)) (now (sums .exit)) ≡ noLabels ⌝ }
 {
-    let labels = work.labels;
+    *sorts = [0u8; 64];
+    *receivers = [0usize; 64];
+    *sums = [0i64; 64];
+}
+
+// The labels of three columns.
+fn labels_of(sorts: [u8; 64], receivers: [usize; 64], sums: [i64; 64]) -> [Label; 64]
+    ensures { λ r. ⌜ r ≡ labelsFrom sorts receivers sums ⌝ }
+{
+    let mut out = blank_labels();
+    let mut i: usize = 0;
+    while i < 64 {
+        out[i] = Label {
+            kind: sorts[i],
+            party: receivers[i],
+            value: sums[i],
+        };
+        i += 1;
+    }
+    out
+}
+
+// An answer with its labels.
+fn with_labels(r: Came, sorts: &[u8; 64], receivers: &[usize; 64], sums: &[i64; 64]) -> Stepped
+    ensures { λ t. ⌜ t ≡ record { outcome = r .outcome; state = r .state; labels = labelsFrom (now (sorts .entry)) (now (receivers .entry)) (now (sums .entry)); count = r .count } ⌝ }
+{
+    let kinds = *sorts;
+    let parties = *receivers;
+    let values = *sums;
+    let labels = labels_of(kinds, parties, values);
+    let outcome = r.outcome;
+    let state = r.state;
     Stepped {
-        outcome: Outcome::Accepted(rule),
-        state: s,
+        outcome,
+        state,
         labels,
-        count: work.count,
+        count: r.count,
+    }
+}
+
+// An answer that sends nothing.
+fn without_labels(outcome: Outcome, s: State) -> Came
+    ensures { λ r. ⌜ r ≡ cameOf (answered outcome s) ⌝ }
+{
+    Came {
+        outcome,
+        state: s,
+        count: 0,
+    }
+}
+
+// A refused step hands back the state it was given.
+fn turn_down(s: State, n: u8) -> Came
+    ensures { λ r. ⌜ r ≡ cameOf (refused s n) ⌝ }
+{
+    without_labels(Outcome::Refused(n), s)
+}
+
+fn is_accepted(outcome: Outcome) -> bool
+    ensures { λ r. ⌜ r ≡ isAccepted outcome ⌝ }
+{
+    match outcome {
+        Outcome::Accepted(_) => true,
+        Outcome::Failed(_) => false,
+        Outcome::Refused(_) => false,
     }
 }
 
 // ---- Tick.
 
 // A tick on a contract's state.
-fn tick_on(table: &[u64], s: State) -> Stepped
-    ensures { λ r. ⌜ r ≡ ticked (contractOf (now (table .entry))) s ⌝ }
+fn tick_on(table: &[u64], s: State) -> Came
+    ensures { λ r. ⌜ r ≡ cameOf (ticked (contractOf (now (table .entry))) s) ⌝ }
 {
     if !s.agreed {
-        return refuse(s, questions::AGREED);
+        return turn_down(s, questions::AGREED);
     }
     let due = state::first_due(table, s);
     let Due::Nothing = due else {
-        return refuse(s, questions::NOTHING_DUE);
+        return turn_down(s, questions::NOTHING_DUE);
     };
     let clock = s.clock;
     if State::TOP <= clock {
-        return refuse(s, questions::CLOCK_BELOW_TOP);
+        return turn_down(s, questions::CLOCK_BELOW_TOP);
     }
     let mut next = state::lapse(s);
     next.clock = clock + 1;
-    let labels = blank_labels();
-    Stepped {
-        outcome: Outcome::Accepted(Rule::Tick),
-        state: next,
-        labels,
-        count: 0,
-    }
+    without_labels(Outcome::Accepted(Rule::Tick), next)
 }
 
 // ---- Statements on a state.
@@ -186,27 +271,6 @@ fn holdings_of(held: [u64; 16], assets: &[i64]) -> [u64; 20]
     out
 }
 
-// What statements begin with: the state's fields and assets, and the amounts of the asset parameters.
-fn begin(s: State, assets: &[i64]) -> Work
-    ensures { λ r. ⌜ r ≡ begun s (amounts (now (assets .entry))) ⌝ }
-{
-    let kinds = s.kinds;
-    let numbers = s.numbers;
-    let texts = s.texts;
-    let held = s.assets;
-    let holdings = holdings_of(held, assets);
-    let labels = blank_labels();
-    Work {
-        kinds,
-        numbers,
-        texts,
-        holdings,
-        labels,
-        count: 0,
-        refusal: 0,
-    }
-}
-
 // The amounts of the assets among the holdings.
 fn assets_of(holdings: [u64; 20]) -> [u64; 16]
     ensures { λ r. ⌜ r ≡ take maxAssets holdings ⌝ }
@@ -221,19 +285,26 @@ fn assets_of(holdings: [u64; 20]) -> [u64; 16]
 }
 
 // The state in state q, with the memory that statements have reached.
-fn reach(s: State, work: Work, q: usize) -> State
-    ensures { λ r. ⌜ r ≡ reached s work q ⌝ }
+fn reach(
+    s: State,
+    kinds: &[u8; 32],
+    numbers: &[i64; 32],
+    texts: &[u8; 32],
+    holdings: &[u64; 20],
+    q: usize,
+) -> State
+    ensures { λ r. ⌜ r ≡ reached s (workFrom (now (kinds .entry)) (now (numbers .entry)) (now (texts .entry)) (now (holdings .entry)) [] 0 0) q ⌝ }
 {
-    let kinds = work.kinds;
-    let numbers = work.numbers;
-    let texts = work.texts;
-    let holdings = work.holdings;
-    let assets = assets_of(holdings);
+    let held = *holdings;
+    let assets = assets_of(held);
+    let fields = *kinds;
+    let integers = *numbers;
+    let strings = *texts;
     let mut next = s;
     next.state = q;
-    next.kinds = kinds;
-    next.numbers = numbers;
-    next.texts = texts;
+    next.kinds = fields;
+    next.numbers = integers;
+    next.texts = strings;
     next.assets = assets;
     next
 }
@@ -294,34 +365,76 @@ fn handler_of(table: &[u64], p: Pending) -> Handler
 }
 
 // The event at place k is fired, with no value parameters and no asset parameters.
-fn handle(table: &[u64], s: State, k: usize) -> Stepped
+fn handle(
+    table: &[u64],
+    s: State,
+    k: usize,
+    sorts: &mut [u8; 64],
+    receivers: &mut [usize; 64],
+    sums: &mut [i64; 64],
+) -> Came
     requires { ⌜ k < length (live s) ⌝ }
-    ensures { λ r. ⌜ r ≡ fireByDue (contractOf (now (table .entry))) s (due.At k) ⌝ }
+    requires { ⌜ labelsFrom (now sorts) (now receivers) (now sums) ≡ noLabels ⌝ }
+    ensures { λ r. ⌜ r ≡ cameOf (fireByDue (contractOf (now (table .entry))) s (due.At k)) ⌝ }
+    ensures { λ _. ⌜ labelsFrom (now (sorts .exit)) (now (receivers .exit)) (now (sums .exit)) ≡ fireByDue (contractOf (now (table .entry))) s (due.At k) .labels ⌝ }
 {
     let none = [0i64; 0];
     let events = s.events;
     let p = events[k];
     let h = handler_of(table, p);
-    let work = statements::run(table, begin(s, &none), &none, s.clock, h.from, h.end);
+    let mut kinds = s.kinds;
+    let mut numbers = s.numbers;
+    let mut texts = s.texts;
+    let held = s.assets;
+    let mut holdings = holdings_of(held, &none);
+    let ran = statements::run(
+        table,
+        &mut kinds,
+        &mut numbers,
+        &mut texts,
+        &mut holdings,
+        sorts,
+        receivers,
+        sums,
+        0,
+        &none,
+        s.clock,
+        h.from,
+        h.end,
+    );
     let left = state::remove(s, k);
-    if work.refusal != 0 {
-        return answer(Outcome::Failed(work.refusal), left);
+    if ran.refusal != 0 {
+        clear(sorts, receivers, sums);
+        return without_labels(Outcome::Failed(ran.refusal), left);
     }
-    accept(Rule::EventMatch, reach(left, work, h.last), work)
+    let next = reach(left, &kinds, &numbers, &texts, &holdings, h.last);
+    Came {
+        outcome: Outcome::Accepted(Rule::EventMatch),
+        state: next,
+        count: ran.count,
+    }
 }
 
 // A firing on a contract's state.
-fn fire_on(table: &[u64], s: State) -> Stepped
-    ensures { λ r. ⌜ r ≡ fired (contractOf (now (table .entry))) s ⌝ }
+fn fire_on(
+    table: &[u64],
+    s: State,
+    sorts: &mut [u8; 64],
+    receivers: &mut [usize; 64],
+    sums: &mut [i64; 64],
+) -> Came
+    requires { ⌜ labelsFrom (now sorts) (now receivers) (now sums) ≡ noLabels ⌝ }
+    ensures { λ r. ⌜ r ≡ cameOf (fired (contractOf (now (table .entry))) s) ⌝ }
+    ensures { λ _. ⌜ labelsFrom (now (sorts .exit)) (now (receivers .exit)) (now (sums .exit)) ≡ fired (contractOf (now (table .entry))) s .labels ⌝ }
 {
     if !s.agreed {
-        return refuse(s, questions::AGREED);
+        return turn_down(s, questions::AGREED);
     }
     let due = state::first_due(table, s);
     let Due::At(k) = due else {
-        return refuse(s, questions::SOMETHING_DUE);
+        return turn_down(s, questions::SOMETHING_DUE);
     };
-    handle(table, s, k)
+    handle(table, s, k, sorts, receivers, sums)
 }
 
 // ---- Call: the function that is called.
@@ -458,127 +571,243 @@ fn truth_refusal(t: Truth) -> u8
 // The precondition in the n nodes from `first` on; an omitted one is true.
 fn precondition(
     table: &[u64],
-    work: Work,
+    kinds: &[u8; 32],
+    numbers: &[i64; 32],
+    texts: &[u8; 32],
+    holdings: &[u64; 20],
     values: &[i64],
     clock: u64,
     first: usize,
     n: usize,
 ) -> Truth
     requires { ⌜ first + n < 4097 ⌝ }
-    ensures { λ r. ⌜ r ≡ preconditionHolds (memoryIn (now (values .entry)) clock work) (preconditionAt (now (table .entry)) first n) ⌝ }
+    ensures { λ r. ⌜ r ≡ preconditionHolds (memoryOf (now (kinds .entry)) (now (numbers .entry)) (now (texts .entry)) (now (holdings .entry)) (now (values .entry)) clock) (preconditionAt (now (table .entry)) first n) ⌝ }
 {
     if n == 0 {
         return Truth::Holds(true);
     }
-    let kinds = work.kinds;
-    let numbers = work.numbers;
-    let texts = work.texts;
-    let holdings = work.holdings;
-    evaluation::truth(
+    let k = first + n - 1;
+    evaluation::truth(table, kinds, numbers, texts, holdings, values, clock, k)
+}
+
+// The time guard of event j of those from `first` on.
+fn guard(
+    table: &[u64],
+    kinds: &[u8; 32],
+    numbers: &[i64; 32],
+    texts: &[u8; 32],
+    holdings: &[u64; 20],
+    values: &[i64],
+    clock: u64,
+    first: usize,
+    j: usize,
+) -> Answer
+    ensures { λ r. ⌜ r ≡ valueOf (memoryOf (now (kinds .entry)) (now (numbers .entry)) (now (texts .entry)) (now (holdings .entry)) (now (values .entry)) clock) (eventAt (now (table .entry)) (first + j) .guard) ⌝ }
+{
+    let e = event_row(table, first, j);
+    let node = contract::node_at(table, e.node);
+    let k = minus(minus(e.node, node.argument as usize), 1);
+    evaluation::value(table, kinds, numbers, texts, holdings, values, clock, k)
+}
+
+// Event j of function n at a time.
+fn pending(n: usize, j: usize, z: i64) -> Pending
+    requires { ⌜ (n < 256) × (j < 256) ⌝ }
+    ensures { λ r. ⌜ r ≡ record { function = n; event = j; time = natAbs z } ⌝ }
+{
+    Pending {
+        function: n as u8,
+        event: j as u8,
+        time: numbers::magnitude(z),
+    }
+}
+
+// The events of function n are scheduled, and the call ends.
+fn conclude(
+    table: &[u64],
+    s: State,
+    kinds: &[u8; 32],
+    numbers: &[i64; 32],
+    texts: &[u8; 32],
+    holdings: &[u64; 20],
+    count: usize,
+    values: &[i64],
+    n: usize,
+) -> Came
+    requires { ⌜ (passes (now table) ≡ true) × (s .pending ≤ 64) × (n < wordAt (now table) 6) ⌝ }
+    ensures { λ r. ⌜ r ≡ cameOf (withScheduled s (workFrom (now (kinds .entry)) (now (numbers .entry)) (now (texts .entry)) (now (holdings .entry)) [] count 0) (functionAt (now (table .entry)) n .last) (schedule (memoryOf (now (kinds .entry)) (now (numbers .entry)) (now (texts .entry)) (now (holdings .entry)) (now (values .entry)) (s .clock)) (s .clock) n 0 (functionAt (now (table .entry)) n .events))) ⌝ }
+{
+    let row = contract::function_at(table, n);
+    let clock = s.clock;
+    // Nothing leaves the pending events, and the slots after them become blank.
+    let mut next = state::remove(s, s.pending);
+    let mut joined: usize = 0;
+    let mut j: usize = 0;
+    while j < row.events {
+        let answer = guard(
+            table,
+            kinds,
+            numbers,
+            texts,
+            holdings,
+            values,
+            clock,
+            row.event,
+            j,
+        );
+        let Answer::Is(value) = answer else {
+            return turn_down(s, evaluation::refusal(answer));
+        };
+        let Value::Integer(z) = value else {
+            return turn_down(s, questions::OPERAND_KIND);
+        };
+        if not_before(clock, z) {
+            next = state::join(next, pending(n, j, z));
+            joined += 1;
+        }
+        j += 1;
+    }
+    if State::PENDING - s.pending < joined {
+        return turn_down(s, questions::PENDING_ROOM);
+    }
+    let after = reach(next, kinds, numbers, texts, holdings, row.last);
+    Came {
+        outcome: Outcome::Accepted(Rule::Call),
+        state: after,
+        count,
+    }
+}
+
+// The body has run.
+fn finish(
+    table: &[u64],
+    s: State,
+    kinds: &[u8; 32],
+    numbers: &[i64; 32],
+    texts: &[u8; 32],
+    holdings: &[u64; 20],
+    ran: Ran,
+    values: &[i64],
+    n: usize,
+) -> Came
+    requires { ⌜ (passes (now table) ≡ true) × (s .pending ≤ 64) × (n < wordAt (now table) 6) ⌝ }
+    ensures { λ r. ⌜ r ≡ cameOf (finished s n (functionAt (now (table .entry)) n) (now (values .entry)) (workFrom (now (kinds .entry)) (now (numbers .entry)) (now (texts .entry)) (now (holdings .entry)) [] (ran .count) (ran .refusal))) ⌝ }
+{
+    if ran.refusal != 0 {
+        return turn_down(s, ran.refusal);
+    }
+    let held = *holdings;
+    if parameters_empty(held) {
+        return conclude(
+            table,
+            s,
+            kinds,
+            numbers,
+            texts,
+            holdings,
+            ran.count,
+            values,
+            n,
+        );
+    }
+    turn_down(s, questions::PARAMETERS_EMPTY)
+}
+
+// The body of function n runs, and the call ends.
+fn perform(
+    table: &[u64],
+    s: State,
+    holdings: [u64; 20],
+    values: &[i64],
+    n: usize,
+    sorts: &mut [u8; 64],
+    receivers: &mut [usize; 64],
+    sums: &mut [i64; 64],
+) -> Came
+    requires { ⌜ (passes (now table) ≡ true) × (s .pending ≤ 64) × (n < wordAt (now table) 6) ⌝ }
+    requires { ⌜ labelsFrom (now sorts) (now receivers) (now sums) ≡ noLabels ⌝ }
+    ensures { λ r. ⌜ r ≡ cameOf (finished s n (functionAt (now (table .entry)) n) (now (values .entry)) (ran (now (values .entry)) (s .clock) (workFrom (s .kinds) (s .numbers) (s .texts) holdings noLabels 0 0) (functionAt (now (table .entry)) n .body))) ⌝ }
+    ensures { λ _. ⌜ labelsFrom (now (sorts .exit)) (now (receivers .exit)) (now (sums .exit)) ≡ finished s n (functionAt (now (table .entry)) n) (now (values .entry)) (ran (now (values .entry)) (s .clock) (workFrom (s .kinds) (s .numbers) (s .texts) holdings noLabels 0 0) (functionAt (now (table .entry)) n .body)) .labels ⌝ }
+{
+    let row = contract::function_at(table, n);
+    let mut kinds = s.kinds;
+    let mut numbers = s.numbers;
+    let mut texts = s.texts;
+    let mut held = holdings;
+    let from = row.first + row.precondition;
+    let ran = statements::run(
+        table,
+        &mut kinds,
+        &mut numbers,
+        &mut texts,
+        &mut held,
+        sorts,
+        receivers,
+        sums,
+        0,
+        values,
+        s.clock,
+        from,
+        from + row.body,
+    );
+    let r = finish(table, s, &kinds, &numbers, &texts, &held, ran, values, n);
+    let outcome = r.outcome;
+    if is_accepted(outcome) {
+        return r;
+    }
+    clear(sorts, receivers, sums);
+    r
+}
+
+// Function n is called.
+fn invoke(
+    table: &[u64],
+    s: State,
+    values: &[i64],
+    assets: &[i64],
+    n: usize,
+    sorts: &mut [u8; 64],
+    receivers: &mut [usize; 64],
+    sums: &mut [i64; 64],
+) -> Came
+    requires { ⌜ (passes (now table) ≡ true) × (s .pending ≤ 64) × (n < wordAt (now table) 6) ⌝ }
+    requires { ⌜ labelsFrom (now sorts) (now receivers) (now sums) ≡ noLabels ⌝ }
+    ensures { λ r. ⌜ r ≡ cameOf (invoked s (arguments (now (values .entry)) (now (assets .entry))) n (functionAt (now (table .entry)) n)) ⌝ }
+    ensures { λ _. ⌜ labelsFrom (now (sorts .exit)) (now (receivers .exit)) (now (sums .exit)) ≡ invoked s (arguments (now (values .entry)) (now (assets .entry))) n (functionAt (now (table .entry)) n) .labels ⌝ }
+{
+    let row = contract::function_at(table, n);
+    if values.len() != row.values {
+        return turn_down(s, questions::ARGUMENT_COUNT);
+    }
+    if assets.len() != row.parameters {
+        return turn_down(s, questions::ARGUMENT_COUNT);
+    }
+    if !none_negative(assets) {
+        return turn_down(s, questions::ASSET_ARGUMENTS);
+    }
+    let kinds = s.kinds;
+    let numbers = s.numbers;
+    let texts = s.texts;
+    let held = s.assets;
+    let holdings = holdings_of(held, assets);
+    let truth = precondition(
         table,
         &kinds,
         &numbers,
         &texts,
         &holdings,
         values,
-        clock,
-        first + n - 1,
-    )
-}
-
-// The time guard of event j of those from `first` on.
-fn guard(table: &[u64], work: Work, values: &[i64], clock: u64, first: usize, j: usize) -> Answer
-    ensures { λ r. ⌜ r ≡ valueOf (memoryIn (now (values .entry)) clock work) (eventAt (now (table .entry)) (first + j) .guard) ⌝ }
-{
-    let e = event_row(table, first, j);
-    let node = contract::node_at(table, e.node);
-    let k = minus(minus(e.node, node.argument as usize), 1);
-    let kinds = work.kinds;
-    let numbers = work.numbers;
-    let texts = work.texts;
-    let holdings = work.holdings;
-    evaluation::value(table, &kinds, &numbers, &texts, &holdings, values, clock, k)
-}
-
-// The events of function n are scheduled, and the call ends.
-fn conclude(table: &[u64], s: State, work: Work, values: &[i64], n: usize) -> Stepped
-    requires { ⌜ (passes (now table) ≡ true) × (stateOk (contractOf (now table)) s ≡ true) × (n < wordAt (now table) 6) ⌝ }
-    ensures { λ r. ⌜ r ≡ withScheduled s work (functionAt (now (table .entry)) n .last) (schedule (memoryIn (now (values .entry)) (s .clock) work) (s .clock) n 0 (functionAt (now (table .entry)) n .events)) ⌝ }
-{
-    let row = contract::function_at(table, n);
-    let clock = s.clock;
-    let mut next = s;
-    let mut joined: usize = 0;
-    let mut j: usize = 0;
-    while j < row.events {
-        let answer = guard(table, work, values, clock, row.event, j);
-        let Answer::Is(value) = answer else {
-            return refuse(s, evaluation::refusal(answer));
-        };
-        let Value::Integer(z) = value else {
-            return refuse(s, questions::OPERAND_KIND);
-        };
-        if not_before(clock, z) {
-            next = state::join(
-                next,
-                Pending {
-                    function: n as u8,
-                    event: j as u8,
-                    time: numbers::magnitude(z),
-                },
-            );
-            joined += 1;
-        }
-        j += 1;
-    }
-    if State::PENDING - s.pending < joined {
-        return refuse(s, questions::PENDING_ROOM);
-    }
-    accept(Rule::Call, reach(next, work, row.last), work)
-}
-
-// The body has run.
-fn finish(table: &[u64], s: State, work: Work, values: &[i64], n: usize) -> Stepped
-    requires { ⌜ (passes (now table) ≡ true) × (stateOk (contractOf (now table)) s ≡ true) × (n < wordAt (now table) 6) ⌝ }
-    ensures { λ r. ⌜ r ≡ finished s n (functionAt (now (table .entry)) n) (now (values .entry)) work ⌝ }
-{
-    if work.refusal != 0 {
-        return refuse(s, work.refusal);
-    }
-    let holdings = work.holdings;
-    if parameters_empty(holdings) {
-        return conclude(table, s, work, values, n);
-    }
-    refuse(s, questions::PARAMETERS_EMPTY)
-}
-
-// Function n is called.
-fn invoke(table: &[u64], s: State, values: &[i64], assets: &[i64], n: usize) -> Stepped
-    requires { ⌜ (passes (now table) ≡ true) × (stateOk (contractOf (now table)) s ≡ true) × (n < wordAt (now table) 6) ⌝ }
-    ensures { λ r. ⌜ r ≡ invoked s (arguments (now (values .entry)) (now (assets .entry))) n (functionAt (now (table .entry)) n) ⌝ }
-{
-    let row = contract::function_at(table, n);
-    if values.len() != row.values {
-        return refuse(s, questions::ARGUMENT_COUNT);
-    }
-    if assets.len() != row.parameters {
-        return refuse(s, questions::ARGUMENT_COUNT);
-    }
-    if !none_negative(assets) {
-        return refuse(s, questions::ASSET_ARGUMENTS);
-    }
-    let clock = s.clock;
-    let work = begin(s, assets);
-    let truth = precondition(table, work, values, clock, row.first, row.precondition);
+        s.clock,
+        row.first,
+        row.precondition,
+    );
     let Truth::Holds(holds) = truth else {
-        return refuse(s, truth_refusal(truth));
+        return turn_down(s, truth_refusal(truth));
     };
     if !holds {
-        return refuse(s, questions::PRECONDITION);
+        return turn_down(s, questions::PRECONDITION);
     }
-    let from = row.first + row.precondition;
-    let after = statements::run(table, work, values, clock, from, from + row.body);
-    finish(table, s, after, values, n)
+    perform(table, s, holdings, values, n, sorts, receivers, sums)
 }
 
 // A call on a contract's state.
@@ -589,22 +818,27 @@ fn call_on(
     function: &[u8],
     values: &[i64],
     assets: &[i64],
-) -> Stepped
-    requires { ⌜ (passes (now table) ≡ true) × (stateOk (contractOf (now table)) s ≡ true) ⌝ }
-    ensures { λ r. ⌜ r ≡ called (contractOf (now (table .entry))) s (record { caller = now (caller .entry); function = now (function .entry); values = now (values .entry); assets = now (assets .entry) }) ⌝ }
+    sorts: &mut [u8; 64],
+    receivers: &mut [usize; 64],
+    sums: &mut [i64; 64],
+) -> Came
+    requires { ⌜ (passes (now table) ≡ true) × (s .pending ≤ 64) ⌝ }
+    requires { ⌜ labelsFrom (now sorts) (now receivers) (now sums) ≡ noLabels ⌝ }
+    ensures { λ r. ⌜ r ≡ cameOf (called (contractOf (now (table .entry))) s (record { caller = now (caller .entry); function = now (function .entry); values = now (values .entry); assets = now (assets .entry) })) ⌝ }
+    ensures { λ _. ⌜ labelsFrom (now (sorts .exit)) (now (receivers .exit)) (now (sums .exit)) ≡ called (contractOf (now (table .entry))) s (record { caller = now (caller .entry); function = now (function .entry); values = now (values .entry); assets = now (assets .entry) }) .labels ⌝ }
 {
     if !s.agreed {
-        return refuse(s, questions::AGREED);
+        return turn_down(s, questions::AGREED);
     }
     let due = state::first_due(table, s);
     let Due::Nothing = due else {
-        return refuse(s, questions::NOTHING_DUE);
+        return turn_down(s, questions::NOTHING_DUE);
     };
     let found = find_function(table, s.state, caller, function);
     let Found::At(n) = found else {
-        return refuse(s, questions::FUNCTION_KNOWN);
+        return turn_down(s, questions::FUNCTION_KNOWN);
     };
-    invoke(table, s, values, assets, n)
+    invoke(table, s, values, assets, n, sorts, receivers, sums)
 }
 
 // ---- Agreement: parts of a session line, as specs/Agreement.antt tells them.
@@ -963,7 +1197,21 @@ pub fn call(
     if no != 0 {
         return refuse(s, no);
     }
-    call_on(table, s, caller, function, values, assets)
+    let mut sorts = [0u8; 64];
+    let mut receivers = [0usize; 64];
+    let mut sums = [0i64; 64];
+    let r = call_on(
+        table,
+        s,
+        caller,
+        function,
+        values,
+        assets,
+        &mut sorts,
+        &mut receivers,
+        &mut sums,
+    );
+    with_labels(r, &sorts, &receivers, &sums)
 }
 
 // The first due event is fired.
@@ -974,7 +1222,11 @@ pub fn fire(table: &[u64], s: State, room: usize) -> Stepped
     if no != 0 {
         return refuse(s, no);
     }
-    fire_on(table, s)
+    let mut sorts = [0u8; 64];
+    let mut receivers = [0usize; 64];
+    let mut sums = [0i64; 64];
+    let r = fire_on(table, s, &mut sorts, &mut receivers, &mut sums);
+    with_labels(r, &sorts, &receivers, &sums)
 }
 
 // The clock rises by 1.
@@ -985,5 +1237,35 @@ pub fn tick(table: &[u64], s: State, room: usize) -> Stepped
     if no != 0 {
         return refuse(s, no);
     }
-    tick_on(table, s)
+    let r = tick_on(table, s);
+    let outcome = r.outcome;
+    let state = r.state;
+    answer(outcome, state)
+}
+
+// Whenever an event is due it is fired, else the next whole line of these bytes is taken, while there is room for the result lines of any
+// step; they are handed on as four numbers and an integer each. Called again with the rest of the bytes and the state that it gave, it goes
+// on; it is done when `many` is 0.
+pub fn play(
+    table: &[u64],
+    s: State,
+    input: &[u8],
+    numbers: &mut [u64],
+    integers: &mut [i64],
+) -> Played
+    ensures { λ r. ⌜ r ≡ played (now (table .entry)) s (now (input .entry)) (roomIn (length (now (numbers .entry))) (length (now (integers .entry)))) ⌝ }
+    ensures { λ _. ⌜ now (numbers .exit) ≡ sets (now (numbers .entry)) 0 (codedAll (reportsOf (now (table .entry)) s (now (input .entry)) (roomIn (length (now (numbers .entry))) (length (now (integers .entry)))))) ⌝ }
+    ensures { λ _. ⌜ now (integers .exit) ≡ sets (now (integers .entry)) 0 (integersOf (reportsOf (now (table .entry)) s (now (input .entry)) (roomIn (length (now (numbers .entry))) (length (now (integers .entry)))))) ⌝ }
+{
+    let room = turns::label_room(numbers, integers);
+    let no = first_no(table, s, room);
+    if no != 0 {
+        return Played {
+            question: no,
+            state: s,
+            used: 0,
+            many: 0,
+        };
+    }
+    turns::play_on(table, s, input, numbers, integers)
 }

@@ -5,6 +5,8 @@ pub mod Rows
 pub mod Ranges
 pub mod Texts
 pub mod Assembled
+pub mod Turns
 -- What holds of the definitions.
 pub mod Worked
 pub mod ReadBack
+pub mod Batches

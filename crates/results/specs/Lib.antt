@@ -1,5 +1,6 @@
 pub mod Decimal
 pub mod Lines
+pub mod Coded
 pub mod Results
 pub mod Cases
 pub mod Stores

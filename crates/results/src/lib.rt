@@ -1,10 +1,14 @@
-// The lines that the desk prints, written one at a time into a lent buffer.
+// The lines that the desk prints, written into a lent buffer.
 ghost use mathlib.Core.Path.{_≡_};
+ghost use Prim.Native.Nat.{_-_};
 ghost use lib.ListN.{length};
-ghost use Rattle.results.specs.Results.{written, textWritten, bufferAfter, textBufferAfter};
+ghost use Rattle.contract.specs.Decode.{contractOf};
+ghost use Rattle.results.specs.Coded.{reportsFrom};
+ghost use Rattle.results.specs.Results.{written, textWritten, bufferAfter, textBufferAfter, batch, batchAfter};
 
-mod lines;
+mod many;
 mod pieces;
+mod reports;
 
 // A line that the desk prints.
 pub enum Report {
@@ -26,6 +30,14 @@ pub enum Written {
     Refused(u8),
 }
 
+// What came of many lines: the question that stopped them or 0, how many were written, and how many bytes they have.
+// Question 53 comes with the lines written before it: the refused report is number from + many.
+pub struct Batch {
+    pub question: u8,
+    pub many: usize,
+    pub used: usize,
+}
+
 // The bytes that a buffer must have.
 const ROOM: usize = 128;
 
@@ -38,8 +50,8 @@ pub fn write(table: &[u64], report: Report, buffer: &mut [u8]) -> Written
         return Written::Refused(questions::RESULT_ROOM);
     }
     if contract::table_passes(table) {
-        if lines::report_ok(table, report) {
-            return Written::Wrote(lines::write_line(table, report, buffer));
+        if reports::report_ok(table, report) {
+            return Written::Wrote(reports::write_line(table, report, buffer));
         }
         return Written::Refused(questions::RESULT_KINDS);
     }
@@ -54,11 +66,41 @@ pub fn write_text_refusal(number: u8, place: usize, buffer: &mut [u8]) -> Writte
     if buffer.len() < ROOM {
         return Written::Refused(questions::RESULT_ROOM);
     }
-    if lines::is_text_refusal(number) {
+    if reports::is_text_refusal(number) {
         let space = pieces::put_refused(buffer, 0, number);
         let second = pieces::put_byte(buffer, space, b' ');
         let end = pieces::put_number(buffer, second, place as u64);
         return Written::Wrote(pieces::put_byte(buffer, end, b'\n'));
     }
     Written::Refused(questions::RESULT_KINDS)
+}
+
+// The lines of the reports numbered from `from` up to, not including, `to`, while the buffer has room for any line (128 bytes).
+// It stops at the first report that question 53 refuses.
+pub fn write_batch(
+    table: &[u64],
+    numbers: &[u64],
+    integers: &[i64],
+    from: usize,
+    to: usize,
+    buffer: &mut [u8],
+) -> Batch
+    ensures { λ r. ⌜ r ≡ batch (now (table .entry)) (reportsFrom (now (numbers .entry)) (now (integers .entry)) from (to - from)) (length (now (buffer .entry))) ⌝ }
+    ensures { λ r. ⌜ now (buffer .exit) ≡ batchAfter (contractOf (now (table .entry))) (reportsFrom (now (numbers .entry)) (now (integers .entry)) from (to - from)) r (now (buffer .entry)) ⌝ }
+{
+    if buffer.len() < ROOM {
+        return Batch {
+            question: questions::RESULT_ROOM,
+            many: 0,
+            used: 0,
+        };
+    }
+    if contract::table_passes(table) {
+        return many::write_lines(table, numbers, integers, from, to, buffer);
+    }
+    Batch {
+        question: questions::TABLE_CHECK,
+        many: 0,
+        used: 0,
+    }
 }

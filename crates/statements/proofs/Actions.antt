@@ -2,15 +2,13 @@
 use mathlib.Core.Path.{_≡_, refl, sym, ap, _∙_}
 use mathlib.Core.Bool.{Bool, true, false}
 use mathlib.Core.List.{List}
-use Prim.Native.Nat.{ℕ, _-_, _<_, _≤_, min}
+use Prim.Native.Nat.{ℕ, _-_}
 use native.Mathlib.Omega.{arith}
-use lib.ListN.{length, getD, List·getD-eq-default}
-use lib.Dec.{eqb, ltb}
+use lib.ListN.{getD}
+use lib.Dec.{eqb}
 use lib.IntN.{ℤ, pos, negsuc, natAbs}
 use lib.Signed.{ltZ}
-use mir.Syntax.{w64}
-use mir.Val.{SFits}
-use borrow.Author.Tests.{eq-eqb, ne-eqb, ltb-true, ltb-false}
+use borrow.Author.Tests.{eq-eqb, ne-eqb}
 use Rattle.laws.specs.Choice.{pick}
 use Rattle.laws.proofs.Choice.{pick-true, pick-false, true-false}
 use Rattle.numbers.specs.declared.Value.{Value}
@@ -19,37 +17,28 @@ use Rattle.numbers.specs.declared.Answer.{Answer}
 use Rattle.numbers.specs.declared.Answer.the-variants.{Is, Refused}
 use Rattle.numbers.specs.Numbers.{inRange}
 use Rattle.numbers.proofs.Whole.{lt-true}
-use Rattle.contract.specs.Limits.{top}
 use Rattle.contract.specs.Table.{kindAt, argumentAt, sizeAt}
 use Rattle.contract.specs.Rows.{nodeOf}
 use Rattle.contract.specs.declared.Node.{Node}
 use Rattle.contract.specs.Tree.{assign, send, move, pay, moveAll, payAll, held}
 use Rattle.contract.specs.Decode.{holderOf, holderAt, expressionAt, valueMoveAt, assetMoveAt, wholeMoveAt}
-use Rattle.evaluation.specs.Memory.{placeOf}
+use Rattle.evaluation.specs.Memory.{Memory, placeOf}
 use Rattle.evaluation.specs.Meaning.{valueOf, refusalOf}
 use Rattle.statements.specs.declared.Work.{Work}
 use Rattle.statements.specs.declared.Effect.{Effect}
 use Rattle.statements.specs.declared.Effect.the-variants.{Stop, Fill, Send, Move, Pay}
 use Rattle.statements.specs.Running.{memoryIn, stopped, stored, sent, place, moved, paid, withValue, withAmount, performed}
-use Rattle.statements.specs.Parts.{endBefore, actionAt, applied, valueEffect, amountEffect, effectAt}
+use Rattle.statements.specs.Parts.{endBefore, actionAt, applied, valueEffect, amountEffect, amountAnswer, effectAt}
 
 -- ---- the amount
 
 -- an integer that is not below 0
-natural-of : (z : ℤ) (n : ℕ) → ltZ z (pos 0) ≡ false → n ≡ natAbs z → z ≡ pos n
+pub natural-of : (z : ℤ) (n : ℕ) → ltZ z (pos 0) ≡ false → n ≡ natAbs z → z ≡ pos n
 natural-of (pos m) n e q = ap pos (sym q)
 natural-of (negsuc m) n e q = true-false e
 
 pub is-natural : (v : Value) (z y : ℤ) (n : ℕ) → v ≡ Integer z → y ≡ z → ltZ y (pos 0) ≡ false → n ≡ natAbs y → v ≡ Integer (pos n)
 is-natural v z y n e q l h = e ∙ ap Integer (sym q ∙ natural-of y n l h)
-
--- and fits
-pub natural-top : (z y : ℤ) (n : ℕ) → SFits w64 z → y ≡ z → ltZ y (pos 0) ≡ false → n ≡ natAbs y → n ≤ top
-natural-top z y n f q l h = go z f (sym q ∙ natural-of y n l h)
-  where
-    go : (x : ℤ) → SFits w64 x → x ≡ pos n → n ≤ top
-    go (pos m) g e = omega (arith, g .sfits, ap natAbs e)
-    go (negsuc m) g e = let b : _≡_ {A = ℕ} 0 1 = cc in absurd (omega arith)
 
 below-zero : (z : ℤ) (w : Work) (f : ℕ → Work) → ltZ z (pos 0) ≡ true → stopped w 34 ≡ withAmount w (Is (Integer z)) f
 below-zero (pos n) w f e = absurd (omega (arith, lt-true (pos n) (pos 0) e))
@@ -184,40 +173,33 @@ module _ (v : List ℤ) (c : ℕ) (w : Work) (t : List ℕ) (k : ℕ) where
       go false = refl
 
   -- what a statement does is its effect
-  pub effect-applied : applied w (effectAt v c w t k) ≡ performed v c w (actionAt t k)
-  unfolding effectAt actionAt pick
+  pub effect-applied : applied w (effectAt (memoryIn v c w) t k) ≡ performed v c w (actionAt t k)
+  unfolding effectAt amountAnswer actionAt pick
   effect-applied = go (eqb (kindAt t k) 24) (eqb (kindAt t k) 25)
     where
       go : (a b : Bool)
           → applied w
           (pick a (valueEffect t k (valueOf (memoryIn v c w) (expressionAt t (k - 2))))
-          (pick b (amountEffect t k (valueOf (memoryIn v c w) (expressionAt t (k - 3))))
-          (amountEffect t k (valueOf (memoryIn v c w) (held (holderAt t (k - 2)))))))
+          (amountEffect t k (pick b (valueOf (memoryIn v c w) (expressionAt t (k - 3))) (valueOf (memoryIn v c w) (held (holderAt t (k - 2)))))))
           ≡ performed v c w (pick a (valueMoveAt t k) (pick b (assetMoveAt t k) (wholeMoveAt t k)))
       go true b = value-applied (valueOf (memoryIn v c w) (expressionAt t (k - 2))) ∙ sym value-moved
       go false true = amount-applied (valueOf (memoryIn v c w) (expressionAt t (k - 3))) ∙ sym asset-moved
       go false false = amount-applied (valueOf (memoryIn v c w) (held (holderAt t (k - 2)))) ∙ sym whole-moved
 
--- all that a holder holds: past the last place there is nothing
-min-place : (l : List ℕ) (p : ℕ) → length l ≡ 20 → getD l (min p 20) 0 ≡ getD l p 0
-min-place l p e = go (ltb p 20) refl
-  where
-    go : (b : Bool) → ltb p 20 ≡ b → getD l (min p 20) 0 ≡ getD l p 0
-    go true h = let q : p < 20 = ltb-true p 20 h in ap (λ (i : ℕ). getD l i 0) (omega arith)
-    go false h =
-        let q : 20 ≤ p = ltb-false p 20 h in
-        List·getD-eq-default l 0 (omega arith) ∙ sym (List·getD-eq-default l 0 (omega arith))
+-- the amount of a move: by its expression, or all that a holder holds
+module _ (m : Memory) (t : List ℕ) (k kind : ℕ) (a : Answer) where
+  pub asset-answer : (p : ℕ) → p ≡ k - 3 → a ≡ valueOf m (expressionAt t p) → kind ≡ 25 → a ≡ amountAnswer m t k kind
+  unfolding amountAnswer
+  asset-answer p ep ea e = ea ∙ ap (λ (j : ℕ). valueOf m (expressionAt t j)) ep ∙ sym (pick-true _ _ _ (eq-eqb kind 25 e))
 
-module _ (v : List ℤ) (c : ℕ) (w : Work) (t : List ℕ) (k : ℕ) (l : length (w .holdings) ≡ 20) where
-  pub whole-amount : (source : Node) (i n : ℕ) (a : Answer) → source ≡ nodeOf t (k - 2) → i ≡ place (holderOf (source .kind) (source .argument))
-      → n ≡ getD (w .holdings) i 0 → a ≡ inRange (pos n) → a ≡ valueOf (memoryIn v c w) (held (holderAt t (k - 2)))
-  unfolding valueOf
-  whole-amount source i n a es ei en ea =
+  pub whole-answer : (source : Node) (n : ℕ) → source ≡ nodeOf t (k - 2)
+      → n ≡ getD (m .holdings) (placeOf (holderOf (source .kind) (source .argument))) 0 → a ≡ inRange (pos n) → (kind ≡ 25 → ⊥)
+      → a ≡ amountAnswer m t k kind
+  unfolding amountAnswer valueOf
+  whole-answer source n es en ea d =
       ea
-      ∙ ap (λ (m : ℕ). inRange (pos m))
-      (en
-      ∙ ap (λ (j : ℕ). getD (w .holdings) j 0) (ei ∙ (λ x. place (holderOf (es x .kind) (es x .argument))))
-      ∙ min-place (w .holdings) (placeOf (holderAt t (k - 2))) l)
+      ∙ ap (λ (x : ℕ). inRange (pos x)) (en ∙ (λ x. getD (m .holdings) (placeOf (holderOf (es x .kind) (es x .argument))) 0))
+      ∙ sym (pick-false _ _ _ (ne-eqb kind 25 d))
 
 -- ---- the statement at node k by its kind
 
@@ -228,31 +210,20 @@ module _ (t : List ℕ) (k : ℕ) (node : Node) (en : node ≡ nodeOf t k) where
   other-kind : (n : ℕ) → (node .kind ≡ n → ⊥) → kindAt t k ≡ n → ⊥
   other-kind n q p = q ((λ x. en x .kind) ∙ p)
 
-  module _ (v : List ℤ) (c : ℕ) (w : Work) (a : Answer) (r : Effect) where
-    pub effect-value : (m : ℕ) → m ≡ k - 2 → a ≡ valueOf (memoryIn v c w) (expressionAt t m) → node .kind ≡ 24 → r ≡ valueEffect t k a
-        → r ≡ effectAt v c w t k
+  module _ (m : Memory) (a : Answer) (r : Effect) where
+    pub effect-value : (p : ℕ) → p ≡ k - 2 → a ≡ valueOf m (expressionAt t p) → node .kind ≡ 24 → r ≡ valueEffect t k a
+        → r ≡ effectAt m t k
     unfolding effectAt
-    effect-value m em ea e h =
+    effect-value p ep ea e h =
         h
-        ∙ ap (valueEffect t k) (ea ∙ ap (λ (j : ℕ). valueOf (memoryIn v c w) (expressionAt t j)) em)
+        ∙ ap (valueEffect t k) (ea ∙ ap (λ (j : ℕ). valueOf m (expressionAt t j)) ep)
         ∙ sym (pick-true _ _ _ (eq-eqb (kindAt t k) 24 (same-kind 24 e)))
 
-    pub effect-asset : (m : ℕ) → m ≡ k - 3 → a ≡ valueOf (memoryIn v c w) (expressionAt t m) → (node .kind ≡ 24 → ⊥) → node .kind ≡ 25
-        → r ≡ amountEffect t k a → r ≡ effectAt v c w t k
+    pub effect-amount : a ≡ amountAnswer m t k (node .kind) → (node .kind ≡ 24 → ⊥) → r ≡ amountEffect t k a → r ≡ effectAt m t k
     unfolding effectAt
-    effect-asset m em ea n e h =
+    effect-amount ea n h =
         h
-        ∙ ap (amountEffect t k) (ea ∙ ap (λ (j : ℕ). valueOf (memoryIn v c w) (expressionAt t j)) em)
-        ∙ sym (pick-true _ _ _ (eq-eqb (kindAt t k) 25 (same-kind 25 e)))
-        ∙ sym (pick-false _ _ _ (ne-eqb (kindAt t k) 24 (other-kind 24 n)))
-
-    pub effect-whole : a ≡ valueOf (memoryIn v c w) (held (holderAt t (k - 2))) → (node .kind ≡ 24 → ⊥) → (node .kind ≡ 25 → ⊥)
-        → r ≡ amountEffect t k a → r ≡ effectAt v c w t k
-    unfolding effectAt
-    effect-whole ea n m h =
-        h
-        ∙ ap (amountEffect t k) ea
-        ∙ sym (pick-false _ _ _ (ne-eqb (kindAt t k) 25 (other-kind 25 m)))
+        ∙ ap (amountEffect t k) (ea ∙ (λ i. amountAnswer m t k (en i .kind)))
         ∙ sym (pick-false _ _ _ (ne-eqb (kindAt t k) 24 (other-kind 24 n)))
 
   -- where the block before it ends

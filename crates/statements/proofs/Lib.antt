@@ -1,5 +1,5 @@
-pub mod Lengths
 pub mod Writes
 pub mod Moves
+pub mod Parted
 pub mod Actions
 pub mod Blocks

@@ -1,12 +1,11 @@
--- The place of a holder, and the cases of a move and of a payment, each by the tests that lead to it. Assumes nothing.
-use mathlib.Core.Path.{_≡_, sym, ap, _∙_}
+-- The place of a holder, and the cases of a move and of taking an amount, each by the tests that lead to it. Assumes nothing.
+use mathlib.Core.Path.{_≡_, refl, sym, ap, _∙_}
 use mathlib.Core.Bool.{Bool, true, false}
 use mathlib.Core.List.{List}
 use Prim.Native.Nat.{ℕ, _+_, _-_, _<_, _≤_}
 use native.Mathlib.Omega.{arith}
-use lib.ListN.{getD, set}
+use lib.ListN.{length, getD, set, List·getD-eq-default}
 use lib.Dec.{eqb}
-use lib.IntN.{ℤ, pos}
 use borrow.Author.Tests.{lt-ltb, le-ltb, le-leb, lt-leb, eq-eqb, ne-eqb}
 use Rattle.laws.specs.Choice.{pick}
 use Rattle.laws.proofs.Choice.{pick-true, pick-false}
@@ -14,7 +13,9 @@ use Rattle.contract.specs.Limits.{top}
 use Rattle.contract.specs.Tree.{asset, assetParameter}
 use Rattle.contract.specs.Decode.{holderOf}
 use Rattle.statements.specs.declared.Work.{Work}
-use Rattle.statements.specs.Running.{place, stopped, withHoldings, labelled, moved, paid}
+use Rattle.evaluation.specs.Memory.{placeOf}
+use Rattle.statements.specs.Running.{place, stopped, withHoldings, moved}
+use Rattle.statements.specs.Parts.{takenFrom, takenRefusal}
 
 module _ (kind n : ℕ) where
   pub place-far : 20 ≤ n → 20 ≡ place (holderOf kind n)
@@ -35,20 +36,43 @@ module _ (kind n : ℕ) where
     pub place-past : 4 ≤ n → 20 ≡ place (holderOf kind n)
     place-past h = rw (pick-false _ (asset n) (assetParameter n) (ne-eqb kind 5 f)) (omega arith)
 
+-- what a holder holds
+module _ (l : List ℕ) (kind n : ℕ) where
+  pub held-asset : kind ≡ 5 → getD l n 0 ≡ getD l (placeOf (holderOf kind n)) 0
+  held-asset e = rw (pick-true _ (asset n) (assetParameter n) (eq-eqb kind 5 e)) refl
+
+  module _ (f : kind ≡ 5 → ⊥) where
+    pub held-parameter : getD l (16 + n) 0 ≡ getD l (placeOf (holderOf kind n)) 0
+    held-parameter = rw (pick-false _ (asset n) (assetParameter n) (ne-eqb kind 5 f)) refl
+
+    pub held-past : length l ≤ n → 0 ≡ getD l (placeOf (holderOf kind n)) 0
+    held-past h = sym (List·getD-eq-default l 0 (omega arith)) ∙ held-parameter
+
+-- taking n from place i
+module _ (l : List ℕ) (i n held : ℕ) (e : held ≡ getD l i 0) where
+  module _ (h : held < n) where
+    pub not-taken : l ≡ takenFrom l i n
+    unfolding takenFrom
+    not-taken = sym (pick-true _ _ _ (lt-ltb (getD l i 0) n (omega arith)))
+
+    pub not-taken-refusal : 35 ≡ takenRefusal l i n
+    unfolding takenRefusal
+    not-taken-refusal = sym (pick-true _ _ _ (lt-ltb (getD l i 0) n (omega arith)))
+
+  module _ (h : n ≤ held) where
+    pub taken : (after : List ℕ) → after ≡ set l i (held - n) → after ≡ takenFrom l i n
+    unfolding takenFrom
+    taken after ea =
+        ea
+        ∙ ap (λ (m : ℕ). set l i (m - n)) e
+        ∙ sym (pick-false _ _ _ (le-ltb (getD l i 0) n (omega arith)))
+
+    pub taken-refusal : 0 ≡ takenRefusal l i n
+    unfolding takenRefusal
+    taken-refusal = sym (pick-false _ _ _ (le-ltb (getD l i 0) n (omega arith)))
+
 -- n at most what place i holds, or more
 module _ (w : Work) (i n held : ℕ) (e : held ≡ getD (w .holdings) i 0) where
-  pub not-paid : (a : ℕ) → held < n → stopped w 35 ≡ paid w i a n
-  unfolding paid
-  not-paid a h = sym (pick-true _ _ _ (lt-ltb (getD (w .holdings) i 0) n (omega arith)))
-
-  pub pays : (a : ℕ) (after : List ℕ) (y : ℤ) (r : Work) → n ≤ held → after ≡ set (w .holdings) i (held - n) → y ≡ pos n
-      → r ≡ labelled (withHoldings w after) 3 a y → r ≡ paid w i a n
-  unfolding paid
-  pays a after y r h ea ey er =
-      er
-      ∙ (λ t. labelled (withHoldings w ((ea ∙ ap (λ (m : ℕ). set (w .holdings) i (m - n)) e) t)) 3 a (ey t))
-      ∙ sym (pick-false _ _ _ (le-ltb (getD (w .holdings) i 0) n (omega arith)))
-
   module _ (j : ℕ) where
     pub not-held : held < n → stopped w 35 ≡ moved w i j n
     unfolding moved

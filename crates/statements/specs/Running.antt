@@ -1,7 +1,7 @@
 -- Statements at work: memory, the labels sent so far, and the refusal met, if any.
 use Prim.Native.Nat.{ℕ, zero, suc, _+_, _-_, min}
 use mathlib.Core.Bool.{Bool, true, false}
-use mathlib.Core.List.{List}
+use mathlib.Core.List.{List, [], _∷_}
 use lib.ListN.{getD, set}
 use lib.Dec.{eqb, leb, ltb}
 use lib.IntN.{ℤ, pos, negsuc}
@@ -148,3 +148,16 @@ ran v t w (perform b a) = onward (ran v t w b) (λ x. performed v t x a)
 ran v t w (conditional b c s) = onward (ran v t w b) (λ x. byTruth x (truthOf (memoryIn v t x) c) (ran v t x s))
 -- of no contract that was read
 ran v t w brokenBlock = stopped w 3
+
+-- ---- a work whose parts stand apart
+
+-- labels by their kinds, parties and values
+unfoldable pub labelsFrom : List ℕ → List ℕ → List ℤ → List Label
+labelsFrom [] ps vs = []
+labelsFrom (k ∷ ks) [] vs = []
+labelsFrom (k ∷ ks) (p ∷ ps) [] = []
+labelsFrom (k ∷ ks) (p ∷ ps) (v ∷ vs) = record { kind = k; party = p; value = v } ∷ labelsFrom ks ps vs
+
+abbrev pub workFrom : List ℕ → List ℤ → List ℕ → List ℕ → List Label → ℕ → ℕ → Work
+workFrom kinds numbers texts holdings labels count refusal =
+    record { kinds = kinds; numbers = numbers; texts = texts; holdings = holdings; labels = labels; count = count; refusal = refusal }

@@ -1,13 +1,13 @@
 // Runs the statements of a block, which stand in a table with their parts before them.
 ghost use mathlib.Core.Path.{_≡_};
-ghost use Prim.Native.Nat.{_-_, _≤_};
+ghost use mathlib.Core.List.{[]};
+ghost use Prim.Native.Nat.{_-_};
 ghost use lib.ListN.{getD, set};
-ghost use Rattle.contract.specs.Limits.{top};
 ghost use Rattle.contract.specs.Table.{sizeAt};
-ghost use Rattle.contract.specs.Decode.{holderOf, expressionAt, conditionAt, valueMoveAt, assetMoveAt, wholeMoveAt, blockBetween};
-ghost use Rattle.evaluation.specs.Meaning.{valueOf, truthOf};
-ghost use Rattle.statements.specs.Running.{memoryIn, stopped, filled, stored, labelled, sent, place, moved, paid, withAmount, performed, ran};
-ghost use Rattle.statements.specs.Parts.{truthRefusal, endBefore, actionAt, applied, valueEffect, amountEffect, effectAt};
+ghost use Rattle.contract.specs.Decode.{holderOf, blockBetween};
+ghost use Rattle.evaluation.specs.Memory.{memoryOf, placeOf};
+ghost use Rattle.statements.specs.Running.{place, moved, paid, withAmount, performed, ran, labelsFrom, workFrom};
+ghost use Rattle.statements.specs.Parts.{truthRefusal, endBefore, actionAt, sortOf, numberOf, textOf, amountOf, labelsWith, countWith, takenFrom, takenRefusal, onlyHoldings, applied, valueEffect, amountEffect, amountAnswer, effectAt, statementAt, branched, performedAt};
 use contract::Node;
 use numbers::Answer;
 use numbers::Truth;
@@ -28,7 +28,8 @@ impl Label {
     pub const ASSET: u8 = 3;
 }
 
-// A memory that statements work on, with the labels that they have sent and the question that refused, 0 where none did.
+// A memory that statements work on, with the labels that they have sent and the question that refused, 0 where none did. Definitions speak
+// of it whole; the code has its parts in lent arrays.
 pub struct Work {
     pub kinds: [u8; 32],
     pub numbers: [i64; 32],
@@ -36,6 +37,12 @@ pub struct Work {
     // The amounts of the assets, then of the asset parameters.
     pub holdings: [u64; 20],
     pub labels: [Label; 64],
+    pub count: usize,
+    pub refusal: u8,
+}
+
+// How statements ended: how many labels are sent, and the question that refused, 0 where none did.
+pub struct Ran {
     pub count: usize,
     pub refusal: u8,
 }
@@ -70,88 +77,126 @@ fn truth_refusal(t: Truth) -> u8
     }
 }
 
-// The work ends with a refusal.
-fn stop(work: Work, question: u8) -> Work
-    ensures { λ r. ⌜ r ≡ stopped work question ⌝ }
+// Byte i of a list becomes another; past the end nothing changes.
+fn set_byte(list: &mut [u8], i: usize, n: u8)
+    ensures { λ _. ⌜ now (list .exit) ≡ set (now (list .entry)) i n ⌝ }
 {
-    let mut next = work;
-    next.refusal = question;
-    next
+    if list.len() <= i {
+        return;
+    }
+    list[i] = n;
+}
+
+// Number i of a list becomes another; past the end nothing changes.
+fn set_integer(list: &mut [i64], i: usize, z: i64)
+    ensures { λ _. ⌜ now (list .exit) ≡ set (now (list .entry)) i z ⌝ }
+{
+    if list.len() <= i {
+        return;
+    }
+    list[i] = z;
 }
 
 // Field x holds what its kind says: an integer, or a string by its number.
-fn fill(work: Work, x: usize, kind: u8, number: i64, text: u8) -> Work
-    ensures { λ r. ⌜ r ≡ filled work x kind number text ⌝ }
+fn fill(
+    kinds: &mut [u8; 32],
+    numbers: &mut [i64; 32],
+    texts: &mut [u8; 32],
+    x: usize,
+    kind: u8,
+    number: i64,
+    text: u8,
+)
+    ensures { λ _. ⌜ now (kinds .exit) ≡ set (now (kinds .entry)) x kind ⌝ }
+    ensures { λ _. ⌜ now (numbers .exit) ≡ set (now (numbers .entry)) x number ⌝ }
+    ensures { λ _. ⌜ now (texts .exit) ≡ set (now (texts .entry)) x text ⌝ }
 {
-    if 32 <= x {
-        return work;
-    }
-    let mut kinds = work.kinds;
-    kinds[x] = kind;
-    let mut numbers = work.numbers;
-    numbers[x] = number;
-    let mut texts = work.texts;
-    texts[x] = text;
-    let mut next = work;
-    next.kinds = kinds;
-    next.numbers = numbers;
-    next.texts = texts;
-    next
+    set_byte(kinds, x, kind);
+    set_integer(numbers, x, number);
+    set_byte(texts, x, text);
 }
 
 // Field x gets a value.
-fn store(work: Work, x: usize, value: Value) -> Work
-    ensures { λ r. ⌜ r ≡ stored work x value ⌝ }
+fn store(
+    kinds: &mut [u8; 32],
+    numbers: &mut [i64; 32],
+    texts: &mut [u8; 32],
+    x: usize,
+    value: Value,
+)
+    ensures { λ _. ⌜ now (kinds .exit) ≡ set (now (kinds .entry)) x (sortOf value) ⌝ }
+    ensures { λ _. ⌜ now (numbers .exit) ≡ set (now (numbers .entry)) x (numberOf value) ⌝ }
+    ensures { λ _. ⌜ now (texts .exit) ≡ set (now (texts .entry)) x (textOf value) ⌝ }
 {
     match value {
-        Value::Integer(z) => fill(work, x, 1, z, 0),
-        Value::Text(n) => fill(work, x, 2, 0, n),
+        Value::Integer(z) => fill(kinds, numbers, texts, x, 1, z, 0),
+        Value::Text(n) => fill(kinds, numbers, texts, x, 2, 0, n),
     }
 }
 
-// A label after those sent so far.
-fn add_label(work: Work, kind: u8, party: usize, value: i64) -> Work
-    ensures { λ r. ⌜ r ≡ labelled work kind party value ⌝ }
+// A label after those sent so far; how many there are then.
+fn add_label(
+    sorts: &mut [u8; 64],
+    receivers: &mut [usize; 64],
+    amounts: &mut [i64; 64],
+    count: usize,
+    kind: u8,
+    party: usize,
+    value: i64,
+) -> usize
+    ensures { λ r. ⌜ labelsFrom (now (sorts .exit)) (now (receivers .exit)) (now (amounts .exit)) ≡ labelsWith (labelsFrom (now (sorts .entry)) (now (receivers .entry)) (now (amounts .entry))) count kind party value ⌝ }
+    ensures { λ r. ⌜ r ≡ countWith count ⌝ }
 {
-    let count = work.count;
     if 64 <= count {
-        return work;
+        return count;
     }
-    let mut labels = work.labels;
-    labels[count] = Label { kind, party, value };
-    let mut next = work;
-    next.labels = labels;
-    next.count = count + 1;
-    next
+    sorts[count] = kind;
+    receivers[count] = party;
+    amounts[count] = value;
+    count + 1
 }
 
-// A value is sent to a party.
-fn send(work: Work, party: usize, value: Value) -> Work
-    ensures { λ r. ⌜ r ≡ sent work party value ⌝ }
+// A value is sent to a party; how many labels there are then.
+fn send(
+    sorts: &mut [u8; 64],
+    receivers: &mut [usize; 64],
+    amounts: &mut [i64; 64],
+    count: usize,
+    party: usize,
+    value: Value,
+) -> usize
+    ensures { λ r. ⌜ labelsFrom (now (sorts .exit)) (now (receivers .exit)) (now (amounts .exit)) ≡ labelsWith (labelsFrom (now (sorts .entry)) (now (receivers .entry)) (now (amounts .entry))) count (sortOf value) party (amountOf value) ⌝ }
+    ensures { λ r. ⌜ r ≡ countWith count ⌝ }
 {
     match value {
-        Value::Integer(z) => add_label(work, Label::INTEGER, party, z),
-        Value::Text(n) => add_label(work, Label::STRING, party, n as i64),
+        Value::Integer(z) => add_label(sorts, receivers, amounts, count, Label::INTEGER, party, z),
+        Value::Text(n) => add_label(
+            sorts,
+            receivers,
+            amounts,
+            count,
+            Label::STRING,
+            party,
+            n as i64,
+        ),
     }
 }
 
 // The amount at place i, and 0 where there is none.
-fn amount(holdings: [u64; 20], i: usize) -> u64
-    ensures { λ r. ⌜ r ≡ getD holdings i 0 ⌝ }
+fn amount(holdings: &[u64], i: usize) -> u64
+    ensures { λ r. ⌜ r ≡ getD (now (holdings .entry)) i 0 ⌝ }
 {
-    if i < 20 { holdings[i] } else { 0 }
+    if i < holdings.len() { holdings[i] } else { 0 }
 }
 
-// The holdings with another amount at place i.
-fn with_amount(holdings: [u64; 20], i: usize, n: u64) -> [u64; 20]
-    ensures { λ r. ⌜ r ≡ set holdings i n ⌝ }
+// Another amount at place i; past the end nothing changes.
+fn set_amount(holdings: &mut [u64], i: usize, n: u64)
+    ensures { λ _. ⌜ now (holdings .exit) ≡ set (now (holdings .entry)) i n ⌝ }
 {
-    if 20 <= i {
-        return holdings;
+    if holdings.len() <= i {
+        return;
     }
-    let mut next = holdings;
-    next[i] = n;
-    next
+    holdings[i] = n;
 }
 
 // The place of the holder that a node names: the assets, then the asset parameters.
@@ -168,110 +213,144 @@ fn place_of(kind: u64, argument: u64) -> usize
     if i < 4 { 16 + i } else { 20 }
 }
 
-// n goes from place i to place j.
-fn move_amount(work: Work, i: usize, j: usize, n: u64) -> Work
-    ensures { λ r. ⌜ r ≡ moved work i j n ⌝ }
+// All that the holder that a node names holds.
+fn held_amount(holdings: &[u64], kind: u64, argument: u64) -> u64
+    ensures { λ r. ⌜ r ≡ getD (now (holdings .entry)) (placeOf (holderOf kind argument)) 0 ⌝ }
 {
-    let holdings = work.holdings;
+    let i = argument as usize;
+    if kind == Node::ASSET {
+        return amount(holdings, i);
+    }
+    if holdings.len() <= i {
+        return 0;
+    }
+    amount(holdings, 16 + i)
+}
+
+// n goes from place i to place j: the question that refuses it, 0 where none does.
+fn move_amount(holdings: &mut [u64; 20], i: usize, j: usize, n: u64) -> u8
+    ensures { λ r. ⌜ onlyHoldings (now (holdings .exit)) r ≡ moved (onlyHoldings (now (holdings .entry)) 0) i j n ⌝ }
+{
     let source = amount(holdings, i);
     if source < n {
-        return stop(work, questions::AMOUNT_HELD);
+        return questions::AMOUNT_HELD;
     }
     if 20 <= j {
-        return stop(work, questions::TABLE_CHECK);
+        return questions::TABLE_CHECK;
     }
     if i == j {
-        return work;
+        return 0;
     }
     let target = amount(holdings, j);
     if TOP < target {
-        return stop(work, questions::SUM_FITS);
+        return questions::SUM_FITS;
     }
     if TOP - target < n {
-        return stop(work, questions::SUM_FITS);
+        return questions::SUM_FITS;
     }
-    let taken = with_amount(holdings, i, source - n);
-    let after = with_amount(taken, j, target + n);
-    let mut next = work;
-    next.holdings = after;
-    next
+    set_amount(holdings, i, source - n);
+    set_amount(holdings, j, target + n);
+    0
 }
 
-// n is paid from place i to a party.
-fn pay_amount(work: Work, i: usize, party: usize, n: u64) -> Work
-    requires { ⌜ n ≤ top ⌝ }
-    ensures { λ r. ⌜ r ≡ paid work i party n ⌝ }
+// n is taken from place i: the question that refuses it, 0 where none does.
+fn take_amount(holdings: &mut [u64; 20], i: usize, n: u64) -> u8
+    ensures { λ r. ⌜ now (holdings .exit) ≡ takenFrom (now (holdings .entry)) i n ⌝ }
+    ensures { λ r. ⌜ r ≡ takenRefusal (now (holdings .entry)) i n ⌝ }
 {
-    let holdings = work.holdings;
     let held = amount(holdings, i);
     if held < n {
-        return stop(work, questions::AMOUNT_HELD);
+        return questions::AMOUNT_HELD;
     }
-    let after = with_amount(holdings, i, held - n);
-    let mut next = work;
-    next.holdings = after;
-    add_label(next, Label::ASSET, party, n as i64)
+    set_amount(holdings, i, held - n);
+    0
 }
 
-// n goes from place i to place j, n being a value.
-fn move_value(work: Work, i: usize, j: usize, value: Value) -> Work
-    ensures { λ r. ⌜ r ≡ withAmount work (Answer.Is value) (moved work i j) ⌝ }
+// n goes from place i to place j, n being a value: the question that refuses it, 0 where none does.
+fn move_value(holdings: &mut [u64; 20], i: usize, j: usize, value: Value) -> u8
+    ensures { λ r. ⌜ onlyHoldings (now (holdings .exit)) r ≡ withAmount (onlyHoldings (now (holdings .entry)) 0) (Answer.Is value) (moved (onlyHoldings (now (holdings .entry)) 0) i j) ⌝ }
 {
     let Value::Integer(z) = value else {
-        return stop(work, questions::OPERAND_KIND);
+        return questions::OPERAND_KIND;
     };
     if z < 0 {
-        return stop(work, questions::AMOUNT_SIGN);
+        return questions::AMOUNT_SIGN;
     }
-    move_amount(work, i, j, numbers::magnitude(z))
+    move_amount(holdings, i, j, numbers::magnitude(z))
 }
 
 // n is paid from place i to a party, n being a value.
-fn pay_value(work: Work, i: usize, party: usize, value: Value) -> Work
-    ensures { λ r. ⌜ r ≡ withAmount work (Answer.Is value) (paid work i party) ⌝ }
+fn pay_value(
+    holdings: &mut [u64; 20],
+    sorts: &mut [u8; 64],
+    receivers: &mut [usize; 64],
+    amounts: &mut [i64; 64],
+    count: usize,
+    i: usize,
+    party: usize,
+    value: Value,
+) -> Ran
+    ensures { λ r. ⌜ workFrom [] [] [] (now (holdings .exit)) (labelsFrom (now (sorts .exit)) (now (receivers .exit)) (now (amounts .exit))) (r .count) (r .refusal) ≡ withAmount (workFrom [] [] [] (now (holdings .entry)) (labelsFrom (now (sorts .entry)) (now (receivers .entry)) (now (amounts .entry))) count 0) (Answer.Is value) (paid (workFrom [] [] [] (now (holdings .entry)) (labelsFrom (now (sorts .entry)) (now (receivers .entry)) (now (amounts .entry))) count 0) i party) ⌝ }
 {
     let Value::Integer(z) = value else {
-        return stop(work, questions::OPERAND_KIND);
+        return Ran {
+            count,
+            refusal: questions::OPERAND_KIND,
+        };
     };
     if z < 0 {
-        return stop(work, questions::AMOUNT_SIGN);
+        return Ran {
+            count,
+            refusal: questions::AMOUNT_SIGN,
+        };
     }
-    pay_amount(work, i, party, numbers::magnitude(z))
+    let refusal = take_amount(holdings, i, numbers::magnitude(z));
+    if refusal != 0 {
+        return Ran { count, refusal };
+    }
+    let count = add_label(sorts, receivers, amounts, count, Label::ASSET, party, z);
+    Ran { count, refusal: 0 }
 }
 
-// The work after an effect.
-fn apply(work: Work, effect: Effect) -> Work
-    ensures { λ r. ⌜ r ≡ applied work effect ⌝ }
+// An effect.
+fn apply(
+    kinds: &mut [u8; 32],
+    numbers: &mut [i64; 32],
+    texts: &mut [u8; 32],
+    holdings: &mut [u64; 20],
+    sorts: &mut [u8; 64],
+    receivers: &mut [usize; 64],
+    amounts: &mut [i64; 64],
+    count: usize,
+    effect: Effect,
+) -> Ran
+    ensures { λ r. ⌜ workFrom (now (kinds .exit)) (now (numbers .exit)) (now (texts .exit)) (now (holdings .exit)) (labelsFrom (now (sorts .exit)) (now (receivers .exit)) (now (amounts .exit))) (r .count) (r .refusal) ≡ applied (workFrom (now (kinds .entry)) (now (numbers .entry)) (now (texts .entry)) (now (holdings .entry)) (labelsFrom (now (sorts .entry)) (now (receivers .entry)) (now (amounts .entry))) count 0) effect ⌝ }
 {
     match effect {
-        Effect::Stop(question) => stop(work, question),
-        Effect::Fill(x, value) => store(work, x, value),
-        Effect::Send(party, value) => send(work, party, value),
-        Effect::Move(i, j, value) => move_value(work, i, j, value),
-        Effect::Pay(i, party, value) => pay_value(work, i, party, value),
+        Effect::Stop(refusal) => Ran { count, refusal },
+        Effect::Fill(x, value) => {
+            store(kinds, numbers, texts, x, value);
+            Ran { count, refusal: 0 }
+        }
+        Effect::Send(party, value) => {
+            let count = send(sorts, receivers, amounts, count, party, value);
+            Ran { count, refusal: 0 }
+        }
+        Effect::Move(i, j, value) => {
+            let refusal = move_value(holdings, i, j, value);
+            Ran { count, refusal }
+        }
+        Effect::Pay(i, party, value) => pay_value(
+            holdings,
+            sorts,
+            receivers,
+            amounts,
+            count,
+            i,
+            party,
+            value,
+        ),
     }
-}
-
-// The expression at node k.
-fn expression(table: &[u64], work: Work, values: &[i64], clock: u64, k: usize) -> Answer
-    ensures { λ r. ⌜ r ≡ valueOf (memoryIn (now (values .entry)) clock work) (expressionAt (now (table .entry)) k) ⌝ }
-{
-    let kinds = work.kinds;
-    let numbers = work.numbers;
-    let texts = work.texts;
-    let holdings = work.holdings;
-    evaluation::value(table, &kinds, &numbers, &texts, &holdings, values, clock, k)
-}
-
-// The condition at node k.
-fn condition(table: &[u64], work: Work, values: &[i64], clock: u64, k: usize) -> Truth
-    ensures { λ r. ⌜ r ≡ truthOf (memoryIn (now (values .entry)) clock work) (conditionAt (now (table .entry)) k) ⌝ }
-{
-    let kinds = work.kinds;
-    let numbers = work.numbers;
-    let texts = work.texts;
-    let holdings = work.holdings;
-    evaluation::truth(table, &kinds, &numbers, &texts, &holdings, values, clock, k)
 }
 
 // E -> t at node k, with the answer of E.
@@ -306,32 +385,106 @@ fn amount_effect(table: &[u64], k: usize, answer: Answer) -> Effect
     Effect::Move(i, j, value)
 }
 
+// The amount of the move at node k, whose kind is given: what its expression gives, or all that its source holds.
+fn moved_amount(
+    table: &[u64],
+    kinds: &[u8; 32],
+    numbers: &[i64; 32],
+    texts: &[u8; 32],
+    holdings: &[u64; 20],
+    values: &[i64],
+    clock: u64,
+    k: usize,
+    kind: u64,
+) -> Answer
+    ensures { λ r. ⌜ r ≡ amountAnswer (memoryOf (now (kinds .entry)) (now (numbers .entry)) (now (texts .entry)) (now (holdings .entry)) (now (values .entry)) clock) (now (table .entry)) k kind ⌝ }
+{
+    if kind == Node::ASSET_MOVE {
+        return evaluation::value(
+            table,
+            kinds,
+            numbers,
+            texts,
+            holdings,
+            values,
+            clock,
+            minus(k, 3),
+        );
+    }
+    let source = contract::node_at(table, minus(k, 2));
+    numbers::natural(held_amount(holdings, source.kind, source.argument))
+}
+
 // The effect of the statement at node k, not a conditional.
-fn effect_of(table: &[u64], work: Work, values: &[i64], clock: u64, k: usize) -> Effect
-    ensures { λ r. ⌜ r ≡ effectAt (now (values .entry)) clock work (now (table .entry)) k ⌝ }
+fn effect_of(
+    table: &[u64],
+    kinds: &[u8; 32],
+    numbers: &[i64; 32],
+    texts: &[u8; 32],
+    holdings: &[u64; 20],
+    values: &[i64],
+    clock: u64,
+    k: usize,
+) -> Effect
+    ensures { λ r. ⌜ r ≡ effectAt (memoryOf (now (kinds .entry)) (now (numbers .entry)) (now (texts .entry)) (now (holdings .entry)) (now (values .entry)) clock) (now (table .entry)) k ⌝ }
 {
     let node = contract::node_at(table, k);
     if node.kind == Node::VALUE_MOVE {
-        let answer = expression(table, work, values, clock, minus(k, 2));
+        let answer = evaluation::value(
+            table,
+            kinds,
+            numbers,
+            texts,
+            holdings,
+            values,
+            clock,
+            minus(k, 2),
+        );
         return value_effect(table, k, answer);
     }
-    if node.kind == Node::ASSET_MOVE {
-        let answer = expression(table, work, values, clock, minus(k, 3));
-        return amount_effect(table, k, answer);
-    }
-    let source = contract::node_at(table, minus(k, 2));
-    let i = place_of(source.kind, source.argument);
-    let holdings = work.holdings;
-    let answer = numbers::natural(amount(holdings, i));
+    let answer = moved_amount(
+        table,
+        kinds,
+        numbers,
+        texts,
+        holdings,
+        values,
+        clock,
+        k,
+        node.kind,
+    );
     amount_effect(table, k, answer)
 }
 
 // The statement at node k, not a conditional.
-fn act(table: &[u64], work: Work, values: &[i64], clock: u64, k: usize) -> Work
-    ensures { λ r. ⌜ r ≡ performed (now (values .entry)) clock work (actionAt (now (table .entry)) k) ⌝ }
+fn act(
+    table: &[u64],
+    kinds: &mut [u8; 32],
+    numbers: &mut [i64; 32],
+    texts: &mut [u8; 32],
+    holdings: &mut [u64; 20],
+    sorts: &mut [u8; 64],
+    receivers: &mut [usize; 64],
+    amounts: &mut [i64; 64],
+    count: usize,
+    values: &[i64],
+    clock: u64,
+    k: usize,
+) -> Ran
+    ensures { λ r. ⌜ workFrom (now (kinds .exit)) (now (numbers .exit)) (now (texts .exit)) (now (holdings .exit)) (labelsFrom (now (sorts .exit)) (now (receivers .exit)) (now (amounts .exit))) (r .count) (r .refusal) ≡ performed (now (values .entry)) clock (workFrom (now (kinds .entry)) (now (numbers .entry)) (now (texts .entry)) (now (holdings .entry)) (labelsFrom (now (sorts .entry)) (now (receivers .entry)) (now (amounts .entry))) count 0) (actionAt (now (table .entry)) k) ⌝ }
 {
-    let effect = effect_of(table, work, values, clock, k);
-    apply(work, effect)
+    let effect = effect_of(table, kinds, numbers, texts, holdings, values, clock, k);
+    apply(
+        kinds,
+        numbers,
+        texts,
+        holdings,
+        sorts,
+        receivers,
+        amounts,
+        count,
+        effect,
+    )
 }
 
 // The size of node k.
@@ -360,36 +513,191 @@ fn end_before(table: &[u64], k: usize) -> usize
     minus(first, size_at(table, minus(first, 1)))
 }
 
+// Whether a statement ends at node k.
+fn is_statement(table: &[u64], k: usize) -> bool
+    ensures { λ r. ⌜ r ≡ statementAt (now (table .entry)) k ⌝ }
+{
+    let node = contract::node_at(table, k);
+    if node.kind < Node::VALUE_MOVE {
+        return false;
+    }
+    node.kind <= Node::CONDITIONAL
+}
+
+// The end at a node that is no statement's last, of no contract that was read.
+fn broken(count: usize) -> Ran
+    ensures { λ r. ⌜ r .count ≡ count ⌝ }
+    ensures { λ r. ⌜ r .refusal ≡ 3 ⌝ }
+{
+    Ran {
+        count,
+        refusal: questions::TABLE_CHECK,
+    }
+}
+
+// The conditional at node k whose block starts at node `first`: the block is run where the condition before it holds.
+fn branch(
+    table: &[u64],
+    kinds: &mut [u8; 32],
+    numbers: &mut [i64; 32],
+    texts: &mut [u8; 32],
+    holdings: &mut [u64; 20],
+    sorts: &mut [u8; 64],
+    receivers: &mut [usize; 64],
+    amounts: &mut [i64; 64],
+    count: usize,
+    values: &[i64],
+    clock: u64,
+    first: usize,
+    k: usize,
+) -> Ran
+    ensures { λ r. ⌜ workFrom (now (kinds .exit)) (now (numbers .exit)) (now (texts .exit)) (now (holdings .exit)) (labelsFrom (now (sorts .exit)) (now (receivers .exit)) (now (amounts .exit))) (r .count) (r .refusal) ≡ branched (now (values .entry)) clock (workFrom (now (kinds .entry)) (now (numbers .entry)) (now (texts .entry)) (now (holdings .entry)) (labelsFrom (now (sorts .entry)) (now (receivers .entry)) (now (amounts .entry))) count 0) (now (table .entry)) first k ⌝ }
+{
+    let answer = evaluation::truth(
+        table,
+        kinds,
+        numbers,
+        texts,
+        holdings,
+        values,
+        clock,
+        minus(first, 1),
+    );
+    let Truth::Holds(holds) = answer else {
+        return Ran {
+            count,
+            refusal: truth_refusal(answer),
+        };
+    };
+    if holds {
+        return run(
+            table,
+            kinds,
+            numbers,
+            texts,
+            holdings,
+            sorts,
+            receivers,
+            amounts,
+            count,
+            values,
+            clock,
+            first,
+            k,
+        );
+    }
+    Ran { count, refusal: 0 }
+}
+
+// The statement at node k.
+fn perform_one(
+    table: &[u64],
+    kinds: &mut [u8; 32],
+    numbers: &mut [i64; 32],
+    texts: &mut [u8; 32],
+    holdings: &mut [u64; 20],
+    sorts: &mut [u8; 64],
+    receivers: &mut [usize; 64],
+    amounts: &mut [i64; 64],
+    count: usize,
+    values: &[i64],
+    clock: u64,
+    k: usize,
+) -> Ran
+    ensures { λ r. ⌜ workFrom (now (kinds .exit)) (now (numbers .exit)) (now (texts .exit)) (now (holdings .exit)) (labelsFrom (now (sorts .exit)) (now (receivers .exit)) (now (amounts .exit))) (r .count) (r .refusal) ≡ performedAt (now (values .entry)) clock (workFrom (now (kinds .entry)) (now (numbers .entry)) (now (texts .entry)) (now (holdings .entry)) (labelsFrom (now (sorts .entry)) (now (receivers .entry)) (now (amounts .entry))) count 0) (now (table .entry)) k ⌝ }
+{
+    let node = contract::node_at(table, k);
+    if node.kind != Node::CONDITIONAL {
+        return act(
+            table,
+            kinds,
+            numbers,
+            texts,
+            holdings,
+            sorts,
+            receivers,
+            amounts,
+            count,
+            values,
+            clock,
+            k,
+        );
+    }
+    let first = minus(k, node.argument as usize);
+    branch(
+        table,
+        kinds,
+        numbers,
+        texts,
+        holdings,
+        sorts,
+        receivers,
+        amounts,
+        count,
+        values,
+        clock,
+        first,
+        k,
+    )
+}
+
 // Runs the block in the nodes from `from` up to, not including, `end`: the statement at its last node after the block before it.
-pub fn run(table: &[u64], work: Work, values: &[i64], clock: u64, from: usize, end: usize) -> Work
-    ensures { λ r. ⌜ r ≡ ran (now (values .entry)) clock work (blockBetween (now (table .entry)) from end) ⌝ }
+// Where a question refuses, the arrays hold what was reached by then: the caller drops them.
+pub fn run(
+    table: &[u64],
+    kinds: &mut [u8; 32],
+    numbers: &mut [i64; 32],
+    texts: &mut [u8; 32],
+    holdings: &mut [u64; 20],
+    sorts: &mut [u8; 64],
+    receivers: &mut [usize; 64],
+    amounts: &mut [i64; 64],
+    count: usize,
+    values: &[i64],
+    clock: u64,
+    from: usize,
+    end: usize,
+) -> Ran
+    ensures { λ r. ⌜ workFrom (now (kinds .exit)) (now (numbers .exit)) (now (texts .exit)) (now (holdings .exit)) (labelsFrom (now (sorts .exit)) (now (receivers .exit)) (now (amounts .exit))) (r .count) (r .refusal) ≡ ran (now (values .entry)) clock (workFrom (now (kinds .entry)) (now (numbers .entry)) (now (texts .entry)) (now (holdings .entry)) (labelsFrom (now (sorts .entry)) (now (receivers .entry)) (now (amounts .entry))) count 0) (blockBetween (now (table .entry)) from end) ⌝ }
 {
     if end <= from {
-        return work;
+        return Ran { count, refusal: 0 };
     }
     let k = end - 1;
-    let node = contract::node_at(table, k);
-    let kind = node.kind;
-    if kind < Node::VALUE_MOVE {
-        return stop(work, questions::TABLE_CHECK);
+    if !is_statement(table, k) {
+        return broken(count);
     }
-    if Node::CONDITIONAL < kind {
-        return stop(work, questions::TABLE_CHECK);
-    }
-    let before = run(table, work, values, clock, from, end_before(table, k));
+    let before = run(
+        table,
+        kinds,
+        numbers,
+        texts,
+        holdings,
+        sorts,
+        receivers,
+        amounts,
+        count,
+        values,
+        clock,
+        from,
+        end_before(table, k),
+    );
     if before.refusal != 0 {
         return before;
     }
-    if kind != Node::CONDITIONAL {
-        return act(table, before, values, clock, k);
-    }
-    let first = minus(k, node.argument as usize);
-    let answer = condition(table, before, values, clock, minus(first, 1));
-    let Truth::Holds(holds) = answer else {
-        return stop(before, truth_refusal(answer));
-    };
-    if holds {
-        return run(table, before, values, clock, first, k);
-    }
-    before
+    let sent = before.count;
+    perform_one(
+        table,
+        kinds,
+        numbers,
+        texts,
+        holdings,
+        sorts,
+        receivers,
+        amounts,
+        sent,
+        values,
+        clock,
+        k,
+    )
 }

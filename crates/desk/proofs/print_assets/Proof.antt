@@ -7,10 +7,10 @@ use Rattle.desk.proofs.print_assets.Statement.{statement}
 use Rattle.desk.proofs.print_assets.Tie as tie
 
 abbrev Inv-loop : tie.InvT-loop
-Inv-loop table out₀ used count amounts used₀ i₀ out used' i = (length out ≡ length out₀) × (i ≤ 16)
+Inv-loop table out₀ count amounts i₀ out i = (length out ≡ length out₀) × (i ≤ 16)
 
 abbrev μ-loop : tie.MeasureT-loop
-μ-loop table out₀ used count amounts used₀ i₀ out used' i = 16 - i
+μ-loop table out₀ count amounts i₀ out i = 16 - i
 
 head-requires : tie.Need-head-requires Inv-loop μ-loop
 head-requires c κs = search needs
@@ -30,8 +30,20 @@ mul-t11 c = search needs
 array-read-t14 : tie.Need-array-read-t14 Inv-loop μ-loop
 array-read-t14 c = search needs
 
-print-requires : tie.Need-print-requires Inv-loop μ-loop
-print-requires c κs = search needs
+write-requires : tie.Need-write-requires Inv-loop μ-loop
+write-requires c κs = search needs
+
+enum-known-written : tie.Need-enum-known-written Inv-loop μ-loop
+enum-known-written c = search needs
+
+between-requires : tie.Need-between-requires Inv-loop μ-loop
+between-requires c κs = search needs
+
+write-all-requires : tie.Need-write-all-requires Inv-loop μ-loop
+write-all-requires c κs = search needs
+
+enum-told : tie.Need-enum-told Inv-loop μ-loop
+enum-told c = search needs
 
 add-i : tie.Need-add-i Inv-loop μ-loop
 add-i c = search needs
@@ -60,7 +72,11 @@ print-assets-spec =
     returns
     mul-t11
     array-read-t14
-    print-requires
+    write-requires
+    enum-known-written
+    between-requires
+    write-all-requires
+    enum-told
     add-i
     loop-less
     loop-again

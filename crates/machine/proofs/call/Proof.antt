@@ -2,8 +2,11 @@
 use borrow.Author.Needs.{needs}
 use mathlib.Core.Path.{_∙_}
 use Rattle.contract.specs.Tree.{Contract}
+use Rattle.contract.specs.Decode.{contractOf}
+use Rattle.state.specs.States.{repeated}
 use Rattle.machine.specs.Steps.{called}
 use Rattle.machine.proofs.Gates.{refused-first, asked, stepped}
+use Rattle.machine.proofs.Performed.{with-its-labels, no-labels, few-pending}
 use Rattle.machine.proofs.call.Statement.{statement}
 use Rattle.machine.proofs.call.Tie as tie
 
@@ -15,19 +18,33 @@ refuse-requires c κs = search needs
 
 returns : tie.Need-returns
 returns c =
-    let s = c .before .before .before .before .before .before in
-    c .refuse .ensures ∙ refused-first (s .args .table .now) (s .args .room) (s .args .s) _ (c .before .before .first-no .ensures) (λ (x : Contract). called x (s .args .s) (record { caller = s .args .caller .now; function = s .args .function .now; values = (s .args .values .now); assets = (s .args .assets .now) })) (c .before .if1 .taken)
+    let a = c .before .before .before .before .before .before .args in
+    c .refuse .ensures ∙ refused-first (a .table .now) (a .room) (a .s) _ (c .before .before .first-no .ensures) (λ (x : Contract). called x (a .s) (record { caller = a .caller .now; function = a .function .now; values = (a .values .now); assets = (a .assets .now) })) (c .before .if1 .taken)
 
 call-on-requires : tie.Need-call-on-requires
+unfolding repeated
 call-on-requires c κs =
-    let s = c .before .before .before .before .before in
-    asked (s .args .table .now) (s .args .room) (s .args .s) _ (c .before .first-no .ensures) (c .if1 .left)
+    let a = c .before .before .before .before .before .before .before .before .args in
+    let e = asked (a .table .now) (a .room) (a .s) _ (c .before .before .before .before .first-no .ensures) (c .before .before .before .if1 .left) in
+    ((e .0, few-pending (contractOf (a .table .now)) (a .s) (e .1)), no-labels)
+
+with-labels-requires : tie.Need-with-labels-requires
+with-labels-requires c κs = search needs
 
 returns-2 : tie.Need-returns-2
 returns-2 c =
-    let s = c .before .before .before .before .before .before in
-    c .call-on .ensures ∙ stepped (s .args .table .now) (s .args .room) (s .args .s) _ (c .before .before .first-no .ensures) (λ (x : Contract). called x (s .args .s) (record { caller = s .args .caller .now; function = s .args .function .now; values = (s .args .values .now); assets = (s .args .assets .now) })) (c .before .if1 .left)
+    let a = c .before .before .before .before .before .before .before .before .before .before .before .before .before .args in
+    c .with-labels .ensures
+    ∙ with-its-labels (called (contractOf (a .table .now)) (a .s) (record { caller = a .caller .now; function = a .function .now; values = (a .values .now); assets = (a .assets .now) })) _ (c .before .before .before .before .call-on .ensures .0) _ (c .before .before .before .before .call-on .ensures .1)
+    ∙ stepped (a .table .now) (a .room) (a .s) _ (c .before .before .before .before .before .before .before .before .before .first-no .ensures) (λ (x : Contract). called x (a .s) (record { caller = a .caller .now; function = a .function .now; values = (a .values .now); assets = (a .assets .now) })) (c .before .before .before .before .before .before .before .before .if1 .left)
 
 pub call-spec : {M : Type 1} → statement M
 call-spec =
-    tie.close (tie.spec first-no-requires refuse-requires returns call-on-requires returns-2)
+    tie.close
+    (tie.spec
+    first-no-requires
+    refuse-requires
+    returns
+    call-on-requires
+    with-labels-requires
+    returns-2)

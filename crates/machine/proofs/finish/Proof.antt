@@ -1,18 +1,25 @@
 -- `machine::finish` meets its contract. Assumes nothing.
 use borrow.Author.Needs.{needs}
-use mathlib.Core.Path.{sym, _∙_}
+use mathlib.Core.Path.{sym, ap, _∙_}
+use mathlib.Core.List.{[]}
+use Prim.Native.Nat.{ℕ}
 use Rattle.contract.specs.Decode.{functionAt}
+use Rattle.statements.specs.Running.{memoryIn, workFrom}
+use Rattle.machine.specs.Steps.{schedule, withScheduled}
+use Rattle.machine.specs.Parts.{cameOf}
 use Rattle.machine.proofs.Calls.{body-refused, parameters-left, parameters-none}
 use Rattle.machine.proofs.finish.Statement.{statement}
 use Rattle.machine.proofs.finish.Tie as tie
 
-refuse-requires : tie.Need-refuse-requires
-refuse-requires c κs = search needs
+turn-down-requires : tie.Need-turn-down-requires
+turn-down-requires c κs = search needs
 
 returns : tie.Need-returns
 returns c =
     let s = c .before .before .before .before in
-    c .refuse .ensures ∙ body-refused (s .args .s) (s .args .n) (functionAt (s .args .table .now) (s .args .n)) (s .args .values .now) (s .args .work) (c .before .if1 .taken)
+    let w = workFrom (s .args .kinds .now) (s .args .numbers .now) (s .args .texts .now) (s .args .holdings .now) [] (s .args .ran .count) (s .args .ran .refusal) in
+    let f = functionAt (s .args .table .now) (s .args .n) in
+    c .turn-down .ensures ∙ ap cameOf (body-refused (s .args .s) (s .args .n) f (s .args .values .now) w (c .before .if1 .taken))
 
 parameters-empty-requires : tie.Need-parameters-empty-requires
 parameters-empty-requires c κs = search needs
@@ -23,24 +30,30 @@ conclude-requires c κs = search needs
 returns-2 : tie.Need-returns-2
 returns-2 c =
     let s = c .before .before .before .before .before .before .before in
-    c .conclude .ensures ∙ parameters-none (s .args .s) (s .args .n) (functionAt (s .args .table .now) (s .args .n)) (s .args .values .now) (s .args .work) (c .before .before .before .before .if1 .left) (sym (c .before .before .parameters-empty .ensures) ∙ c .before .if2 .taken)
+    let w = workFrom (s .args .kinds .now) (s .args .numbers .now) (s .args .texts .now) (s .args .holdings .now) [] (s .args .ran .count) (s .args .ran .refusal) in
+    let f = functionAt (s .args .table .now) (s .args .n) in
+    c .conclude .ensures
+    ∙ ap (λ (k : ℕ). cameOf (withScheduled (s .args .s) (workFrom (s .args .kinds .now) (s .args .numbers .now) (s .args .texts .now) (s .args .holdings .now) [] (s .args .ran .count) k) (f .last) (schedule (memoryIn (s .args .values .now) (s .args .s .clock) w) (s .args .s .clock) (s .args .n) 0 (f .events)))) (sym (c .before .before .before .before .if1 .left))
+    ∙ ap cameOf (parameters-none (s .args .s) (s .args .n) f (s .args .values .now) w (c .before .before .before .before .if1 .left) (sym (c .before .before .parameters-empty .ensures) ∙ c .before .if2 .taken))
 
-refuse-requires-2 : tie.Need-refuse-requires-2
-refuse-requires-2 c κs = search needs
+turn-down-requires-2 : tie.Need-turn-down-requires-2
+turn-down-requires-2 c κs = search needs
 
 returns-3 : tie.Need-returns-3
 returns-3 c =
     let s = c .before .before .before .before .before .before .before in
-    c .refuse2 .ensures ∙ parameters-left (s .args .s) (s .args .n) (functionAt (s .args .table .now) (s .args .n)) (s .args .values .now) (s .args .work) (c .before .before .before .before .if1 .left) (sym (c .before .before .parameters-empty .ensures) ∙ c .before .if2 .left)
+    let w = workFrom (s .args .kinds .now) (s .args .numbers .now) (s .args .texts .now) (s .args .holdings .now) [] (s .args .ran .count) (s .args .ran .refusal) in
+    let f = functionAt (s .args .table .now) (s .args .n) in
+    c .turn-down2 .ensures ∙ ap cameOf (parameters-left (s .args .s) (s .args .n) f (s .args .values .now) w (c .before .before .before .before .if1 .left) (sym (c .before .before .parameters-empty .ensures) ∙ c .before .if2 .left))
 
 pub finish-spec : {M : Type 1} → statement M
 finish-spec =
     tie.close
     (tie.spec
-    refuse-requires
+    turn-down-requires
     returns
     parameters-empty-requires
     conclude-requires
     returns-2
-    refuse-requires-2
+    turn-down-requires-2
     returns-3)

@@ -2,7 +2,7 @@
 use borrow.Author.Needs.{needs}
 use mathlib.Core.Path.{_∙_}
 use Prim.Native.Nat.{_+_}
-use Rattle.statements.specs.Running.{memoryIn}
+use Rattle.evaluation.specs.Memory.{memoryOf}
 use Rattle.machine.proofs.Events.{guard-at}
 use Rattle.machine.proofs.guard.Statement.{statement}
 use Rattle.machine.proofs.guard.Tie as tie
@@ -24,8 +24,8 @@ value-requires c κs = search needs
 
 returns : tie.Need-returns
 returns c =
-    let s = c .before .before .before .before .before .before .before .before .before .before .before .before .before .before in
-    c .value .ensures ∙ guard-at (s .args .table .now) (memoryIn (s .args .values .now) (s .args .clock) (s .args .work)) (s .args .first + s .args .j) _ (c .before .before .before .before .before .before .before .before .before .before .before .before .event-row .ensures) _ (c .before .before .before .before .before .before .before .before .before .before .before .node-at .ensures) _ _ (c .before .before .before .before .before .before .before .before .before .before .minus .ensures) (c .before .before .before .before .before .before .before .before .before .minus2 .ensures)
+    let s = c .before .before .before .before .before .before in
+    c .value .ensures ∙ guard-at (s .args .table .now) (memoryOf (s .args .kinds .now) (s .args .numbers .now) (s .args .texts .now) (s .args .holdings .now) (s .args .values .now) (s .args .clock)) (s .args .first + s .args .j) _ (c .before .before .before .before .event-row .ensures) _ (c .before .before .before .node-at .ensures) _ _ (c .before .before .minus .ensures) (c .before .minus2 .ensures)
 
 pub guard-spec : {M : Type 1} → statement M
 guard-spec =

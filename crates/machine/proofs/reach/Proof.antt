@@ -8,7 +8,7 @@ assets-of-requires c κs = search needs
 
 returns : tie.Need-returns
 returns c =
-    simp (c .assets-of .ensures)
+    simp (c .before .before .before .assets-of .ensures)
 
 pub reach-spec : {M : Type 1} → statement M
 reach-spec = tie.close (tie.spec assets-of-requires returns)

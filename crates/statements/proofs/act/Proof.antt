@@ -1,6 +1,7 @@
 -- `statements::act` meets its contract. Assumes nothing.
 use borrow.Author.Needs.{needs}
 use mathlib.Core.Path.{ap, _∙_}
+use Rattle.statements.specs.Running.{labelsFrom, workFrom}
 use Rattle.statements.specs.Parts.{applied}
 use Rattle.statements.proofs.act.Statement.{statement}
 use Rattle.statements.proofs.act.Tie as tie
@@ -14,8 +15,11 @@ apply-requires c κs = search needs
 
 returns : tie.Need-returns
 returns c =
-    let s = c .before .before .before in
-    c .apply .ensures ∙ ap (applied (s .args .work)) (c .before .effect-of .ensures) ∙ effect-applied (s .args .values .now) (s .args .clock) (s .args .work) (s .args .table .now) (s .args .k)
+    let s = c .before .before .before .before .before .before .before .before .before .before .before .before .before .before .args in
+    let w = workFrom (s .kinds .now) (s .numbers .now) (s .texts .now) (s .holdings .now)
+    (labelsFrom (s .sorts .now) (s .receivers .now) (s .amounts .now)) (s .count) 0 in
+    c .apply .ensures ∙ ap (applied w) (c .before .before .before .before .before .before .before .before .effect-of .ensures) ∙ effect-applied
+    (s .values .now) (s .clock) w (s .table .now) (s .k)
 
 pub act-spec : {M : Type 1} → statement M
 act-spec = tie.close (tie.spec effect-of-requires apply-requires returns)

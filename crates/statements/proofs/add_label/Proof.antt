@@ -3,25 +3,47 @@ use borrow.Author.Needs.{needs}
 use mir.Facts.{toZ-ofZ}
 use Rattle.statements.proofs.add_label.Statement.{statement}
 use Rattle.statements.proofs.add_label.Tie as tie
-use Rattle.statements.proofs.Writes.{label-full, label-added}
+use Rattle.statements.proofs.Writes.{label-full, count-full, label-added, count-added}
 
 returns : tie.Need-returns
 returns c =
-    label-full (c .before .args .work) _ _ _ (c .if1 .taken)
+    (label-full _ _ _ _ _ (c .if1 .taken), count-full _ (c .if1 .taken))
 
-mul-labels : tie.Need-mul-labels
-mul-labels c = search needs
+element-write-sorts : tie.Need-element-write-sorts
+element-write-sorts c = search needs
 
-array-set-from-labels : tie.Need-array-set-from-labels
-array-set-from-labels c = search needs
+mul-receivers : tie.Need-mul-receivers
+mul-receivers c = search needs
 
-add-next : tie.Need-add-next
-add-next c = search needs
+element-write-receivers : tie.Need-element-write-receivers
+element-write-receivers c = search needs
+
+mul-value : tie.Need-mul-value
+mul-value c = search needs
+
+element-set-from-value : tie.Need-element-set-from-value
+element-set-from-value c = search needs
+
+add-result : tie.Need-add-result
+add-result c = search needs
 
 returns-2 : tie.Need-returns-2
 returns-2 c =
-    let s = c .before .before in
-    label-added (s .args .work) _ _ _ _ (toZ-ofZ (s .fits .value)) (c .before .if1 .left)
+    let s = c .before .args in (
+      label-added (s .count) (s .sorts .now) (s .receivers .now) (s .amounts .now) (s .kind) (s .party) (s .value) _ (toZ-ofZ (c .before .fits .value))
+          (c .if1 .left),
+      count-added _ (c .if1 .left),
+    )
 
 pub add-label-spec : {M : Type 1} → statement M
-add-label-spec = tie.close (tie.spec returns mul-labels array-set-from-labels add-next returns-2)
+add-label-spec =
+    tie.close
+    (tie.spec
+    returns
+    element-write-sorts
+    mul-receivers
+    element-write-receivers
+    mul-value
+    element-set-from-value
+    add-result
+    returns-2)

@@ -38,9 +38,12 @@ place-of-requires c κs = search needs
 returns-2 : tie.Need-returns-2
 returns-2 c =
     let s = c .before .before .before .before .before .before .before .before .before .before .before in
-    let es = c .before .before .before .before .before .node-at .ensures ∙ ap (nodeOf (s .args .table .now)) (c .before .before .before .before .before .before .minus .ensures) in
+    let es = c .before .before .before .before .before .node-at .ensures ∙ ap (nodeOf (s .args .table .now))
+    (c .before .before .before .before .before .before .minus .ensures) in
     let et = c .before .before .before .node-at2 .ensures ∙ ap (nodeOf (s .args .table .now)) (c .before .before .before .before .minus2 .ensures) in
-    amount-paid (s .args .table .now) (s .args .k) (s .args .answer) _ (c .before .before .before .before .before .before .before .before .answer .given .1) _ et _ es _ (c .before .before .place-of .ensures) (c .if1 .taken)
+    amount-paid (s .args .table .now) (s .args .k) (s .args .answer) _
+    (c .before .before .before .before .before .before .before .before .answer .given .1) _ et _ es _ (c .before .before .place-of .ensures)
+    (c .if1 .taken)
 
 place-of-requires-2 : tie.Need-place-of-requires-2
 place-of-requires-2 c κs = search needs
@@ -48,9 +51,13 @@ place-of-requires-2 c κs = search needs
 returns-3 : tie.Need-returns-3
 returns-3 c =
     let s = c .before .before .before .before .before .before .before .before .before .before .before .before in
-    let es = c .before .before .before .before .before .before .node-at .ensures ∙ ap (nodeOf (s .args .table .now)) (c .before .before .before .before .before .before .before .minus .ensures) in
-    let et = c .before .before .before .before .node-at2 .ensures ∙ ap (nodeOf (s .args .table .now)) (c .before .before .before .before .before .minus2 .ensures) in
-    amount-moved (s .args .table .now) (s .args .k) (s .args .answer) _ (c .before .before .before .before .before .before .before .before .before .answer .given .1) _ et _ es _ (c .before .before .before .place-of .ensures) _ (c .before .if1 .left) (c .place-of2 .ensures)
+    let es = c .before .before .before .before .before .before .node-at .ensures ∙ ap (nodeOf (s .args .table .now))
+    (c .before .before .before .before .before .before .before .minus .ensures) in
+    let et = c .before .before .before .before .node-at2 .ensures ∙ ap (nodeOf (s .args .table .now))
+    (c .before .before .before .before .before .minus2 .ensures) in
+    amount-moved (s .args .table .now) (s .args .k) (s .args .answer) _
+    (c .before .before .before .before .before .before .before .before .before .answer .given .1) _ et _ es _
+    (c .before .before .before .place-of .ensures) _ (c .before .if1 .left) (c .place-of2 .ensures)
 
 pub amount-effect-spec : {M : Type 1} → statement M
 amount-effect-spec =

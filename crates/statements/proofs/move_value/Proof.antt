@@ -1,10 +1,10 @@
 -- `statements::move_value` meets its contract. Assumes nothing.
 use borrow.Author.Needs.{needs}
-use mathlib.Core.Path.{_∙_}
 use mir.Syntax.{w64}
 use mir.Val.{SFits}
 use mir.Facts.{toZ-ofZ}
 use Rattle.statements.specs.Running.{moved}
+use Rattle.statements.specs.Parts.{onlyHoldings}
 use Rattle.statements.proofs.move_value.Statement.{statement}
 use Rattle.statements.proofs.move_value.Tie as tie
 use Rattle.statements.proofs.Actions.{text-stops, negative-stops, is-natural, natural-goes}
@@ -15,22 +15,18 @@ enum-known-value c = search needs
 enum-told : tie.Need-enum-told
 enum-told c = search needs
 
-stop-requires : tie.Need-stop-requires
-stop-requires c κs = search needs
-
 returns : tie.Need-returns
 returns c =
-    let s = c .before .before .before in
-    c .stop .ensures ∙ text-stops (s .args .work) (moved (s .args .work) (s .args .i) (s .args .j)) (s .args .value) _ (c .before .enum-told .given .1)
-
-stop-requires-2 : tie.Need-stop-requires-2
-stop-requires-2 c κs = search needs
+    let s = c .before .before .args in
+    let w = onlyHoldings (s .holdings .now) 0 in
+    text-stops w (moved w (s .i) (s .j)) (s .value) _ (c .enum-told .given .1)
 
 returns-2 : tie.Need-returns-2
 returns-2 c =
-    let s = c .before .before .before .before .before in
-    let fz : SFits w64 (c .before .before .before .value .given .0 .0) = record { sfits = c .before .before .known-told .given .0 .1 } in
-    c .stop2 .ensures ∙ negative-stops (s .args .work) (moved (s .args .work) (s .args .i) (s .args .j)) (s .args .value) _ _ (c .before .before .before .value .given .1) (toZ-ofZ fz) (c .before .if1 .taken)
+    let s = c .before .before .before .before .args in
+    let w = onlyHoldings (s .holdings .now) 0 in
+    let fz : SFits w64 (c .before .before .value .given .0 .0) = record { sfits = c .before .known-told .given .0 .1 } in
+    negative-stops w (moved w (s .i) (s .j)) (s .value) _ _ (c .before .before .value .given .1) (toZ-ofZ fz) (c .if1 .taken)
 
 magnitude-requires : tie.Need-magnitude-requires
 magnitude-requires c κs = search needs
@@ -40,10 +36,13 @@ move-amount-requires c κs = search needs
 
 returns-3 : tie.Need-returns-3
 returns-3 c =
-    let s = c .before .before .before .before .before .before in
-    let fz : SFits w64 (c .before .before .before .before .value .given .0 .0) = record { sfits = c .before .before .before .known-told .given .0 .1 } in
-    let e = is-natural (s .args .value) _ _ _ (c .before .before .before .before .value .given .1) (toZ-ofZ fz) (c .before .before .if1 .left) (c .before .magnitude .ensures) in
-    natural-goes (s .args .work) (moved (s .args .work) (s .args .i) (s .args .j)) (s .args .value) _ _ e (c .move-amount .ensures)
+    let s = c .before .before .before .before .before .before .before .args in
+    let w = onlyHoldings (s .holdings .now) 0 in
+    let fz : SFits w64 (c .before .before .before .before .before .value .given .0 .0) = record
+    { sfits = c .before .before .before .before .known-told .given .0 .1 } in
+    let e = is-natural (s .value) _ _ _ (c .before .before .before .before .before .value .given .1) (toZ-ofZ fz)
+    (c .before .before .before .if1 .left) (c .before .magnitude .ensures) in
+    natural-goes w (moved w (s .i) (s .j)) (s .value) _ _ e (c .move-amount .ensures)
 
 pub move-value-spec : {M : Type 1} → statement M
 move-value-spec =
@@ -51,9 +50,7 @@ move-value-spec =
     (tie.spec
     enum-known-value
     enum-told
-    stop-requires
     returns
-    stop-requires-2
     returns-2
     magnitude-requires
     move-amount-requires

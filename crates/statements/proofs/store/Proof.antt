@@ -1,11 +1,13 @@
 -- `statements::store` meets its contract. Assumes nothing.
 use borrow.Author.Needs.{needs}
+use mathlib.Core.Path.{sym, ap, _∙_}
+use lib.ListN.{set}
 use mir.Syntax.{w64}
 use mir.Val.{SFits}
 use mir.Facts.{toZ-ofZ}
+use Rattle.statements.specs.Parts.{sortOf, numberOf, textOf}
 use Rattle.statements.proofs.store.Statement.{statement}
 use Rattle.statements.proofs.store.Tie as tie
-use Rattle.statements.proofs.Writes.{store-integer, store-text}
 
 enum-known-value : tie.Need-enum-known-value
 enum-known-value c = search needs
@@ -21,14 +23,21 @@ fill-requires-2 c κs = search needs
 
 returns : tie.Need-returns
 returns c =
-    let s = c .before .before .before .before in
-    let fz : SFits w64 (c .before .before .value .given .0 .0) = record { sfits = c .before .known-told .given .0 .1 } in
-    store-integer (s .args .work) (s .args .x) (s .args .value) _ _ _ (c .before .before .value .given .1) (toZ-ofZ fz) (c .fill .ensures)
+    let fz : SFits w64 (c .before .before .before .before .before .value .given .0 .0) = record
+    { sfits = c .before .before .before .before .known-told .given .0 .1 } in
+    let s = c .before .before .before .before .before .before .before .args in
+    let e = c .before .before .before .before .before .value .given .1 in (
+      c .fill .ensures .0 ∙ sym (ap (λ v. set (s .kinds .now) (s .x) (sortOf v)) e),
+      (c .fill .ensures .1 .0 ∙ ap (set (s .numbers .now) (s .x)) (toZ-ofZ fz) ∙ sym (ap (λ v. set (s .numbers .now) (s .x) (numberOf v)) e), c .fill .ensures .1 .1 ∙ sym (ap (λ v. set (s .texts .now) (s .x) (textOf v)) e)),
+    )
 
 returns-2 : tie.Need-returns-2
 returns-2 c =
-    let s = c .before .before .before .before in
-    store-text (s .args .work) (s .args .x) (s .args .value) _ _ (c .before .before .value2 .given .1) (c .fill2 .ensures)
+    let s = c .before .before .before .before .before .before .before .args in
+    let e = c .before .before .before .before .before .value2 .given .1 in (
+      c .fill2 .ensures .0 ∙ sym (ap (λ v. set (s .kinds .now) (s .x) (sortOf v)) e),
+      (c .fill2 .ensures .1 .0 ∙ sym (ap (λ v. set (s .numbers .now) (s .x) (numberOf v)) e), c .fill2 .ensures .1 .1 ∙ sym (ap (λ v. set (s .texts .now) (s .x) (textOf v)) e)),
+    )
 
 pub store-spec : {M : Type 1} → statement M
 store-spec =

@@ -30,13 +30,15 @@ returns-2 : tie.Need-returns-2
 returns-2 c =
     let s = c .before .before .before .before .before .before .before .before in
     let et = c .before .before .node-at .ensures ∙ ap (nodeOf (s .args .table .now)) (c .before .before .before .minus .ensures) in
-    value-sent (s .args .table .now) (s .args .k) (s .args .answer) _ (c .before .before .before .before .before .answer .given .1) _ et (c .if1 .taken)
+    value-sent (s .args .table .now) (s .args .k) (s .args .answer) _ (c .before .before .before .before .before .answer .given .1) _ et
+    (c .if1 .taken)
 
 returns-3 : tie.Need-returns-3
 returns-3 c =
     let s = c .before .before .before .before .before .before .before .before in
     let et = c .before .before .node-at .ensures ∙ ap (nodeOf (s .args .table .now)) (c .before .before .before .minus .ensures) in
-    value-stored (s .args .table .now) (s .args .k) (s .args .answer) _ (c .before .before .before .before .before .answer .given .1) _ et (c .if1 .left)
+    value-stored (s .args .table .now) (s .args .k) (s .args .answer) _ (c .before .before .before .before .before .answer .given .1) _ et
+    (c .if1 .left)
 
 pub value-effect-spec : {M : Type 1} → statement M
 value-effect-spec =

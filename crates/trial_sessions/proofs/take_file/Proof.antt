@@ -1,5 +1,4 @@
 -- `trial_sessions::take_file` meets its contract. Assumes nothing.
-use Prim.Native.Nat.{_-_, _≤_}
 use mathlib.Core.Path.{_≡_}
 use lib.ListN.{length}
 use borrow.Author.Needs.{needs}
@@ -7,10 +6,10 @@ use Rattle.trial_sessions.proofs.take_file.Statement.{statement}
 use Rattle.trial_sessions.proofs.take_file.Tie as tie
 
 abbrev Inv-loop : tie.InvT-loop
-Inv-loop table file line₀ input₀ out₀ session₀ left₀ line input out session left = (length line ≡ length line₀) × (length input ≡ length input₀) × (length out ≡ length out₀)
+Inv-loop table file bytes₀ numbers₀ integers₀ out₀ desk₀ left₀ bytes numbers integers out desk left = (length bytes ≡ length bytes₀) × (length numbers ≡ length numbers₀) × (length integers ≡ length integers₀) × (length out ≡ length out₀)
 
 abbrev μ-loop : tie.MeasureT-loop
-μ-loop table file line₀ input₀ out₀ session₀ left₀ line input out session left = left
+μ-loop table file bytes₀ numbers₀ integers₀ out₀ desk₀ left₀ bytes numbers integers out desk left = left
 
 fresh-requires : tie.Need-fresh-requires Inv-loop μ-loop
 fresh-requires c κs = search needs
@@ -18,11 +17,11 @@ fresh-requires c κs = search needs
 loop-holds : tie.Need-loop-holds Inv-loop μ-loop
 loop-holds c = search needs
 
-read-requires : tie.Need-read-requires Inv-loop μ-loop
-read-requires c κs = search needs
+read-more-requires : tie.Need-read-more-requires Inv-loop μ-loop
+read-more-requires c κs = search needs
 
-count-requires : tie.Need-count-requires Inv-loop μ-loop
-count-requires c κs = search needs
+take-last-requires : tie.Need-take-last-requires Inv-loop μ-loop
+take-last-requires c κs = search needs
 
 same-length : tie.Need-same-length Inv-loop μ-loop
 same-length c = search needs
@@ -33,11 +32,11 @@ same-length-2 c = search needs
 same-length-3 : tie.Need-same-length-3 Inv-loop μ-loop
 same-length-3 c = search needs
 
+same-length-4 : tie.Need-same-length-4 Inv-loop μ-loop
+same-length-4 c = search needs
+
 returns : tie.Need-returns Inv-loop μ-loop
 returns c = search needs
-
-between-requires : tie.Need-between-requires Inv-loop μ-loop
-between-requires c κs = search needs
 
 take-bytes-requires : tie.Need-take-bytes-requires Inv-loop μ-loop
 take-bytes-requires c κs = search needs
@@ -51,14 +50,17 @@ loop-less c = search needs
 loop-again : tie.Need-loop-again Inv-loop μ-loop
 loop-again c = search needs
 
-same-length-4 : tie.Need-same-length-4 Inv-loop μ-loop
-same-length-4 c = search needs
-
 same-length-5 : tie.Need-same-length-5 Inv-loop μ-loop
 same-length-5 c = search needs
 
 same-length-6 : tie.Need-same-length-6 Inv-loop μ-loop
 same-length-6 c = search needs
+
+same-length-7 : tie.Need-same-length-7 Inv-loop μ-loop
+same-length-7 c = search needs
+
+same-length-8 : tie.Need-same-length-8 Inv-loop μ-loop
+same-length-8 c = search needs
 
 returns-2 : tie.Need-returns-2 Inv-loop μ-loop
 returns-2 c = search needs
@@ -71,18 +73,19 @@ take-file-spec =
     μ-loop
     fresh-requires
     loop-holds
-    read-requires
-    count-requires
+    read-more-requires
+    take-last-requires
     same-length
     same-length-2
     same-length-3
+    same-length-4
     returns
-    between-requires
     take-bytes-requires
     sub-left
     loop-less
     loop-again
-    same-length-4
     same-length-5
     same-length-6
+    same-length-7
+    same-length-8
     returns-2)

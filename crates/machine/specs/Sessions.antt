@@ -1,0 +1,189 @@
+-- A session: whenever an event is due it is fired, else the next whole line is taken; and the result lines of these steps.
+use Prim.Native.Nat.{ℕ, zero, suc, _+_, _-_, _/_, min}
+use mathlib.Core.Bool.{not}
+use mathlib.Core.List.{List, [], _∷_, _++_}
+use lib.ListN.{length, take, drop}
+use lib.Dec.{eqb, leb, ltb}
+use Rattle.laws.specs.Choice.{pick}
+use Rattle.contract.specs.Tree.{Word, Verb, Contract}
+use Rattle.contract.specs.Tree as tree
+use Rattle.contract.specs.Decode.{contractOf}
+use Rattle.contract.specs.Check.{passes}
+use Rattle.tokens.specs.Classes.{run}
+use Rattle.tokens.specs.Tokens.{between}
+use Rattle.state.specs.declared.State.{State}
+use Rattle.state.specs.declared.Due.{Due}
+use Rattle.state.specs.declared.Due.the-variants as due
+use Rattle.state.specs.States.{stateOk, dueIn}
+use Rattle.statements.specs.declared.Label.{Label}
+use Rattle.statements.specs.Running.{maxLabels}
+use Rattle.lines.specs.Lines.{Span, Field, Asked, asked}
+use Rattle.lines.specs.Lines as lines
+use Rattle.lines.specs.Answers.{valuesOf}
+use Rattle.results.specs.declared.Report.{Report}
+use Rattle.results.specs.declared.Report.the-variants as report
+use Rattle.machine.specs.declared.Rule.{Rule}
+use Rattle.machine.specs.declared.Rule.the-variants.{Agree, Call, EventMatch, Tick}
+use Rattle.machine.specs.declared.Outcome.{Outcome}
+use Rattle.machine.specs.declared.Outcome.the-variants as outcome
+use Rattle.machine.specs.declared.Stepped.{Stepped}
+use Rattle.machine.specs.declared.Played.{Played}
+use Rattle.machine.specs.Steps.{refused, Invocation, called, fired, ticked}
+use Rattle.machine.specs.Agreement.{Part, agreedOn}
+
+-- ---- what a line says, in the machine's terms
+
+-- a name of the line
+abbrev pub nameIn : List ℕ → Span → Word
+nameIn line n = between line (n .start) (n .end)
+
+abbrev pub verbIn : lines.Verb → Verb
+verbIn lines.set = tree.set
+verbIn lines.ok = tree.ok
+
+unfoldable pub namesIn : List ℕ → List Field → List Word
+namesIn line [] = []
+namesIn line (f ∷ fs) = nameIn line (f .name) ∷ namesIn line fs
+
+-- the parts of an agreement
+unfoldable pub partsSaid : List ℕ → List lines.Part → List Part
+partsSaid line [] = []
+partsSaid line (p ∷ ps) =
+    record {
+      party = nameIn line (p .party);
+      verb = verbIn (p .verb);
+      fields = namesIn line (p .fields);
+      values = valuesOf (p .fields);
+    }
+    ∷ partsSaid line ps
+
+-- a call
+abbrev pub invocationIn : List ℕ → lines.Call → Invocation
+invocationIn line k =
+    record {
+      caller = nameIn line (k .names .party);
+      function = nameIn line (k .names .function);
+      values = k .lists .values;
+      assets = k .lists .assets;
+    }
+
+-- ---- what a line does; a refused line changes nothing
+
+unfoldable pub takenBy : Contract → State → List ℕ → Asked → Stepped
+takenBy c s line (lines.refused q) = refused s q
+takenBy c s line lines.tick = ticked c s
+takenBy c s line (lines.call k) = called c s (invocationIn line k)
+takenBy c s line (lines.agreement ps) = agreedOn c s (partsSaid line ps)
+
+abbrev pub taken : Contract → State → List ℕ → Stepped
+taken c s line = takenBy c s line (asked line)
+
+-- ---- the result lines of a step
+
+-- a rule's number in a result line
+abbrev pub ruleNumber : Rule → ℕ
+ruleNumber Agree = 0
+ruleNumber Call = 1
+ruleNumber EventMatch = 2
+ruleNumber Tick = 3
+
+-- what came of a step, with the state's number and the clock after it
+unfoldable pub reportOf : Outcome → ℕ → ℕ → Report
+reportOf (outcome.Accepted r) state clock = report.Ruled (ruleNumber r) state clock
+reportOf (outcome.Failed q) state clock = report.Failed q
+reportOf (outcome.Refused q) state clock = report.Refused q
+
+abbrev pub labelReport : Label → Report
+labelReport l = report.Sent (l .kind) (l .party) (l .value)
+
+unfoldable pub labelReports : List Label → List Report
+labelReports [] = []
+labelReports (l ∷ ls) = labelReport l ∷ labelReports ls
+
+-- what came of it, then its labels
+unfoldable pub told : Stepped → List Report
+told t = reportOf (t .outcome) (t .state .state) (t .state .clock) ∷ labelReports (take (t .count) (t .labels))
+
+-- a step has at most so many result lines: what came of it, and 64 labels
+abbrev pub maxTold : ℕ
+maxTold = suc maxLabels
+
+-- ---- turns
+
+-- the LF of the line that starts at a place, or the end of the bytes (a place past the end is its own end)
+unfoldable pub endOfLine : List ℕ → ℕ → ℕ
+endOfLine bytes at = at + run (λ b. not (eqb b 10)) (drop at bytes)
+
+-- a step, and where the next line starts; or nothing is due and no line is whole
+pub data Turn : Type 0 where
+  makes : Stepped → ℕ → Turn
+  wait : Turn
+
+abbrev pub turnByDue : Contract → List ℕ → State → ℕ → Due → Turn
+turnByDue c bytes s at (due.At k) = makes (fired c s) at
+turnByDue c bytes s at due.Nothing =
+    pick (ltb (endOfLine bytes at) (length bytes))
+    (makes (taken c s (between bytes at (endOfLine bytes at))) (suc (endOfLine bytes at)))
+    wait
+
+-- a due event is fired; else the next line is taken
+unfoldable pub turnAt : Contract → List ℕ → State → ℕ → Turn
+turnAt c bytes s at = turnByDue c bytes s at (dueIn c s)
+
+-- ---- a session
+
+-- the state, where the next line starts, and the result lines
+pub record Session : Type 0 where
+  pub state : State
+  pub at : ℕ
+  pub reports : List Report
+
+-- nothing more is done
+abbrev pub here : State → ℕ → Session
+here s at = record { state = s; at = at; reports = [] }
+
+-- result lines before the others
+abbrev pub before : List Report → Session → Session
+before rs e = record { state = e .state; at = e .at; reports = rs ++ e .reports }
+
+-- a turn, and what is done after it
+abbrev pub onTurn : Session → (Stepped → ℕ → Session) → Turn → Session
+onTurn waiting next wait = waiting
+onTurn waiting next (makes t at) = before (told t) (next t at)
+
+-- so many turns at most, while there is room for the result lines of any step
+unfoldable pub sessionFor : ℕ → Contract → List ℕ → ℕ → State → ℕ → Session
+sessionFor zero c bytes room s at = here s at
+sessionFor (suc turns) c bytes room s at =
+    pick (leb maxTold room)
+    (onTurn (here s at) (λ t next. sessionFor turns c bytes (room - length (told t)) (t .state) next) (turnAt c bytes s at))
+    (here s at)
+
+-- how many result lines go into so many numbers, four each, and integers, one each
+abbrev pub roomIn : ℕ → ℕ → ℕ
+roomIn numbers integers = min (numbers / 4) integers
+
+-- each turn has a result line, so there are no more turns than result lines
+abbrev pub session : Contract → List ℕ → ℕ → State → Session
+session c bytes room s = sessionFor room c bytes room s 0
+
+-- a question refused it: nothing is done
+abbrev pub notPlayed : State → ℕ → Played
+notPlayed s q = record { question = q; state = s; used = 0; many = 0 }
+
+-- questions 3, 4 and 20 are asked once, before the first turn: there is room for the result lines of any step
+unfoldable pub played : List ℕ → State → List ℕ → ℕ → Played
+played w s bytes room =
+    pick (passes w)
+    (pick (stateOk (contractOf w) s)
+    (pick (leb maxTold room)
+    (let e = session (contractOf w) bytes room s in
+    record { question = 0; state = e .state; used = e .at; many = length (e .reports) })
+    (notPlayed s 20))
+    (notPlayed s 4))
+    (notPlayed s 3)
+
+-- the result lines of it
+unfoldable pub reportsOf : List ℕ → State → List ℕ → ℕ → List Report
+reportsOf w s bytes room =
+    pick (passes w) (pick (stateOk (contractOf w) s) (pick (leb maxTold room) (session (contractOf w) bytes room s .reports) []) []) []

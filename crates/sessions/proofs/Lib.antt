@@ -1,4 +1,0 @@
--- Laws that the proofs share.
-pub mod Lengths
-pub mod Agreed
-pub mod Told
