@@ -1,10 +1,9 @@
 -- What `fits` says of each part of a contract, by name. Assumes nothing.
-use mathlib.Core.Path.{_≡_, refl, sym}
-use mathlib.Core.Bool.{Bool, true, false, _&&_}
+use mathlib.Core.Path.{_≡_, sym}
+use mathlib.Core.Bool.{Bool, true}
 use mathlib.Core.List.{List, [], _∷_}
-use Prim.Native.Nat.{ℕ, zero, suc, _<_, _≤_}
-use native.Mathlib.Omega.{arith}
-use lib.ListN.{length, getD}
+use Prim.Native.Nat.{ℕ, _<_, _≤_}
+use lib.ListN.{length}
 use lib.Dec.{ltb, leb}
 use borrow.Author.Tests.{ltb-true, leb-true}
 use Rattle.laws.proofs.Choice.{true-false}
@@ -12,58 +11,9 @@ use Rattle.tokens.specs.Classes.{isLetter, isNameByte, isStringByte}
 use Rattle.contract.specs.Limits.{maxParties, maxAssets, maxFields, maxStates, maxStrings, maxClauses, maxFunctions, maxEvents, maxNodes, maxValues, maxParameters, maxStatements, maxName, maxString}
 use Rattle.contract.specs.Tree.{Word, Event, Function, Clause, Contract}
 use Rattle.contract.specs.Sizes.{statements, functionSize}
-use Rattle.contract.specs.Fits.{every, total, isName, isString, expressionIn, blockIn, preconditionIn, scopeOf, eventIn, functionIn, clauseIn, wordsIn, fits}
-
--- ---- tests joined by &&
-
-pub both-left : (a b : Bool) → a && b ≡ true → a ≡ true
-both-left true b e = refl
-both-left false b e = e
-
-pub both-right : (a b : Bool) → a && b ≡ true → b ≡ true
-both-right true b e = e
-both-right false b e = true-false (sym e)
-
-pub both-true : (a b : Bool) → a ≡ true → b ≡ true → a && b ≡ true
-both-true true b e f = f
-both-true false b e f = e
-
--- a chain of tests, x && (y && .. z)
-abbrev pub chain : List Bool → Bool
-chain [] = true
-chain (x ∷ []) = x
-chain (x ∷ y ∷ l) = x && chain (y ∷ l)
-
--- each test of a chain
-pub link : (l : List Bool) → chain l ≡ true → (i : ℕ) → getD l i true ≡ true
-link [] h i = refl
-link (x ∷ []) h zero = h
-link (x ∷ []) h (suc i) = refl
-link (x ∷ y ∷ l) h zero = both-left x (chain (y ∷ l)) h
-link (x ∷ y ∷ l) h (suc i) = link (y ∷ l) (both-right x (chain (y ∷ l)) h) i
-
--- ---- every member of a list
-
-pub every-at : {A : Type 0} (p : A → Bool) (l : List A) → every p l ≡ true → (i : ℕ) → i < length l → (d : A) → p (getD l i d) ≡ true
-unfolding every
-every-at p [] e i h d = absurd (omega arith)
-every-at p (x ∷ l) e zero h d = both-left (p x) (every p l) e
-every-at p (x ∷ l) e (suc i) h d = every-at p l (both-right (p x) (every p l) e) i (omega arith) d
-
-pub every-head : {A : Type 0} (p : A → Bool) (x : A) (l : List A) → every p (x ∷ l) ≡ true → p x ≡ true
-unfolding every
-every-head p x l e = both-left (p x) (every p l) e
-
-pub every-tail : {A : Type 0} (p : A → Bool) (x : A) (l : List A) → every p (x ∷ l) ≡ true → every p l ≡ true
-unfolding every
-every-tail p x l e = both-right (p x) (every p l) e
-
--- what follows from a test holds of every member that passes it
-pub every-so : {A : Type 0} (p q : A → Bool) → ((x : A) → p x ≡ true → q x ≡ true) → (l : List A) → every p l ≡ true → every q l ≡ true
-unfolding every
-every-so p q f [] e = refl
-every-so p q f (x ∷ l) e =
-    both-true (q x) (every q l) (f x (both-left (p x) (every p l) e)) (every-so p q f l (both-right (p x) (every p l) e))
+use Rattle.contract.specs.Fits.{total, isName, isString, expressionIn, blockIn, preconditionIn, scopeOf, eventIn, functionIn, clauseIn, wordsIn, fits}
+use Rattle.laws.specs.Lists.{every}
+use Rattle.laws.proofs.Truths.{both-left, both-right, link}
 
 -- ---- words
 
@@ -72,11 +22,6 @@ pub name-length : (n : Word) → isName n ≡ true → length n ≤ maxName
 unfolding isName
 name-length [] e = true-false (sym e)
 name-length (x ∷ xs) e = ltb-true (length xs) maxName (link (isLetter x ∷ every isNameByte xs ∷ ltb (length xs) maxName ∷ []) e 2)
-
-pub name-some : (n : Word) → isName n ≡ true → 1 ≤ length n
-unfolding isName
-name-some [] e = true-false (sym e)
-name-some (x ∷ xs) e = omega arith
 
 pub string-length : (s : Word) → isString s ≡ true → length s ≤ maxString
 unfolding isString

@@ -6,7 +6,7 @@ use native.Mathlib.Omega.{arith}
 use native.Mathlib.Nat.{lt-div-mul-add, le-div-iff-mul-le, mul-le-mul-right, add-zero, le-of-lt}
 use lib.ListN.{length, List·getD-eq-default}
 use Rattle.contract.specs.Table.{wordAt}
-use Rattle.contract.specs.Places.{RowAt}
+use Rattle.contract.specs.Private.{RowAt}
 
 -- past the end every word is 0
 pub past-end : (w : List ℕ) (i : ℕ) → length w ≤ i → wordAt w i ≡ 0

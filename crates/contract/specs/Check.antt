@@ -1,7 +1,7 @@
 -- Question 3: which tables pass, over their numbers alone. docs/TABLE.md writes it out in words. What the counts leave unused is not
 -- looked at, nor the argument of a node whose kind has none.
 use Prim.Native.Nat.{ℕ, zero, suc, _+_, _-_, _*_}
-use mathlib.Core.Bool.{Bool, true, false, _&&_, _||_}
+use mathlib.Core.Bool.{Bool, false, _&&_, _||_}
 use mathlib.Core.List.{List, [], _∷_}
 use lib.ListN.{length}
 use lib.Dec.{eqb, leb, ltb}
@@ -9,12 +9,9 @@ use Rattle.laws.specs.Choice.{pick}
 use Rattle.tokens.specs.Classes.{isLetter, isNameByte, isStringByte}
 use Rattle.contract.specs.Limits.{top, maxParties, maxAssets, maxFields, maxStates, maxStrings, maxClauses, maxFunctions, maxEvents, maxNodes, maxValues, maxParameters, maxStatements, maxName, maxString}
 use Rattle.contract.specs.Fits.{Scope}
-use Rattle.contract.specs.Table.{wordAt, kindAt, argumentAt, sizeAt, functionWord, eventWord, clauseWord, nameWords, stringWords, functionWords, nameStart, partiesStart, assetsStart, fieldsStart, statesStart, stringsStart, functionsStart, tableLength, constantKind, stringKind, nowKind, fieldKind, assetKind, valueKind, parameterKind, plusKind, overKind, trueKind, falseKind, equalKind, atLeastKind, notKind, andKind, orKind, partyKind, valueMoveKind, assetMoveKind, wholeMoveKind, conditionalKind, eventKind}
-
--- p 0, p 1, .. p (n - 1)
-unfoldable pub allBelow : ℕ → (ℕ → Bool) → Bool
-allBelow zero p = true
-allBelow (suc n) p = allBelow n p && p n
+use Rattle.contract.specs.Table.{wordAt, kindAt, argumentAt, sizeAt, functionWord, eventWord, clauseWord, nameWords, stringWords, functionWords, nameStart, partiesStart, assetsStart, fieldsStart, statesStart, stringsStart, functionsStart, tableLength, constantKind, stringKind}
+use Rattle.contract.specs.Table.{nowKind, fieldKind, assetKind, valueKind, parameterKind, plusKind, overKind, trueKind, falseKind, equalKind, atLeastKind, notKind, andKind, orKind, partyKind, valueMoveKind, assetMoveKind, wholeMoveKind, conditionalKind, eventKind}
+use Rattle.laws.specs.Lists.{allBelow}
 
 -- lo ≤ n ≤ hi
 unfoldable pub ranges : ℕ → ℕ → ℕ → Bool

@@ -1,7 +1,7 @@
 -- The contract that a table holds, for any words at all. A node's parts have lower numbers than the node; the right part of node k ends
 -- at k - 1, the left part before it. A malformed table gives some contract, often with a broken part; such a table does not pass.
 use Prim.Native.Nat.{ℕ, zero, suc, _+_, _-_, _*_}
-use mathlib.Core.Bool.{Bool, true, false}
+use mathlib.Core.Bool.{true, false}
 use mathlib.Core.List.{List, [], _∷_}
 use lib.ListN.{take, drop}
 use lib.Dec.{eqb, leb, ltb}
@@ -11,8 +11,10 @@ use Rattle.numbers.specs.declared.Operator.the-variants.{Plus, Minus, Times, Ov
 use Rattle.numbers.specs.declared.Comparison.{Comparison}
 use Rattle.numbers.specs.declared.Comparison.the-variants.{Equal, Unequal, Less, AtMost, Greater, AtLeast}
 use Rattle.contract.specs.Limits.{top, maxStrings}
-use Rattle.contract.specs.Tree.{Word, Holder, asset, assetParameter, Expression, constant, string, clock, field, valueParameter, held, apply, brokenExpression, Condition, truth, compare, negation, both, either, brokenCondition, Action, assign, send, move, pay, moveAll, payAll, Block, none, perform, conditional, brokenBlock, Precondition, omitted, given, Event, Function, Verb, set, ok, Clause, Contract}
-use Rattle.contract.specs.Table.{wordAt, kindAt, argumentAt, sizeAt, functionWord, eventWord, clauseWord, nameWords, stringWords, clauseWords, functionWords, nameStart, partiesStart, assetsStart, fieldsStart, statesStart, stringsStart, clausesStart, functionsStart, constantKind, stringKind, nowKind, fieldKind, assetKind, valueKind, parameterKind, plusKind, minusKind, timesKind, overKind, trueKind, falseKind, equalKind, unequalKind, lessKind, atMostKind, greaterKind, atLeastKind, notKind, andKind, orKind, partyKind, valueMoveKind, assetMoveKind, wholeMoveKind, conditionalKind}
+use Rattle.contract.specs.Tree.{Word, Holder, asset, assetParameter, Expression, constant, string, clock, field, valueParameter, held, apply, brokenExpression, Condition, truth, compare, negation, both, either, brokenCondition, Action}
+use Rattle.contract.specs.Tree.{assign, send, move, pay, moveAll, payAll, Block, none, perform, conditional, brokenBlock, Precondition, omitted, given, Event, Function, set, ok, Clause, Contract}
+use Rattle.contract.specs.Table.{wordAt, kindAt, argumentAt, sizeAt, functionWord, eventWord, clauseWord, nameWords, stringWords, clauseWords, functionWords, nameStart, partiesStart, assetsStart, fieldsStart, statesStart, stringsStart, clausesStart, functionsStart, constantKind, stringKind, nowKind, fieldKind}
+use Rattle.contract.specs.Table.{assetKind, valueKind, parameterKind, plusKind, minusKind, timesKind, overKind, trueKind, falseKind, equalKind, unequalKind, lessKind, atMostKind, greaterKind, atLeastKind, notKind, andKind, orKind, partyKind, valueMoveKind, assetMoveKind, wholeMoveKind, conditionalKind}
 
 -- f i, f (i + 1), .. n of them
 unfoldable pub eachFrom : {A : Type 0} → ℕ → ℕ → (ℕ → A) → List A

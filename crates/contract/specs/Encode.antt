@@ -9,10 +9,12 @@ use Rattle.numbers.specs.declared.Operator.the-variants.{Plus, Minus, Times, Ov
 use Rattle.numbers.specs.declared.Comparison.{Comparison}
 use Rattle.numbers.specs.declared.Comparison.the-variants.{Equal, Unequal, Less, AtMost, Greater, AtLeast}
 use Rattle.contract.specs.Limits.{maxParties, maxAssets, maxFields, maxStates, maxStrings, maxClauses, maxFunctions, maxEvents, maxNodes, maxName, maxString}
-use Rattle.contract.specs.Tree.{Word, Holder, asset, assetParameter, Expression, constant, string, clock, field, valueParameter, held, apply, brokenExpression, Condition, truth, compare, negation, both, either, brokenCondition, Action, assign, send, move, pay, moveAll, payAll, Block, none, perform, conditional, brokenBlock, Precondition, omitted, given, Event, Function, Verb, set, ok, Clause, Contract}
-use Rattle.contract.specs.Sizes.{expressionSize, conditionSize, actionSize, blockSize, preconditionSize, eventSize, eventsSize, functionSize}
+use Rattle.contract.specs.Tree.{Word, Holder, asset, assetParameter, Expression, constant, string, clock, field, valueParameter, held, apply, brokenExpression, Condition, truth, compare, negation, both, either, brokenCondition, Action}
+use Rattle.contract.specs.Tree.{assign, send, move, pay, moveAll, payAll, Block, none, perform, conditional, brokenBlock, Precondition, omitted, given, Event, Function, Verb, set, ok, Clause, Contract}
+use Rattle.contract.specs.Sizes.{expressionSize, conditionSize, blockSize, preconditionSize, eventSize, functionSize}
 use Rattle.contract.specs.Fits.{total}
-use Rattle.contract.specs.Table.{constantKind, stringKind, nowKind, fieldKind, assetKind, valueKind, parameterKind, plusKind, minusKind, timesKind, overKind, trueKind, falseKind, equalKind, unequalKind, lessKind, atMostKind, greaterKind, atLeastKind, notKind, andKind, orKind, partyKind, valueMoveKind, assetMoveKind, wholeMoveKind, conditionalKind, eventKind, nameWords, stringWords, clauseWords, functionWords, eventWords, nodeWords}
+use Rattle.contract.specs.Table.{constantKind, stringKind, nowKind, fieldKind, assetKind, valueKind, parameterKind, plusKind, minusKind, timesKind, overKind, trueKind, falseKind, equalKind, unequalKind, lessKind, atMostKind}
+use Rattle.contract.specs.Table.{greaterKind, atLeastKind, notKind, andKind, orKind, partyKind, valueMoveKind, assetMoveKind, wholeMoveKind, conditionalKind, eventKind, nameWords, stringWords, clauseWords, functionWords, eventWords, nodeWords}
 
 unfoldable pub zeros : ℕ → List ℕ
 zeros zero = []

@@ -1,18 +1,15 @@
 -- Which contracts a table can hold: within document 01's limits, each number naming something of its kind.
-use Prim.Native.Nat.{ℕ, zero, suc, _+_}
+use Prim.Native.Nat.{ℕ, _+_}
 use mathlib.Core.Bool.{Bool, true, false, _&&_}
 use mathlib.Core.List.{List, [], _∷_}
 use lib.ListN.{length}
-use lib.Dec.{eqb, leb, ltb}
+use lib.Dec.{leb, ltb}
 use Rattle.tokens.specs.Classes.{isLetter, isNameByte, isStringByte}
 use Rattle.contract.specs.Limits.{top, maxParties, maxAssets, maxFields, maxStates, maxStrings, maxClauses, maxFunctions, maxEvents, maxNodes, maxValues, maxParameters, maxStatements, maxName, maxString}
-use Rattle.contract.specs.Tree.{Word, Holder, asset, assetParameter, Expression, constant, string, clock, field, valueParameter, held, apply, brokenExpression, Condition, truth, compare, negation, both, either, brokenCondition, Action, assign, send, move, pay, moveAll, payAll, Block, none, perform, conditional, brokenBlock, Precondition, omitted, given, Event, Function, Clause, Contract}
+use Rattle.contract.specs.Tree.{Word, Holder, asset, assetParameter, Expression, constant, string, clock, field, valueParameter, held, apply, brokenExpression, Condition, truth, compare, negation, both, either, brokenCondition}
+use Rattle.contract.specs.Tree.{Action, assign, send, move, pay, moveAll, payAll, Block, none, perform, conditional, brokenBlock, Precondition, omitted, given, Event, Function, Clause, Contract}
 use Rattle.contract.specs.Sizes.{statements, functionSize}
-
--- whether each member of a list is as it should be
-unfoldable pub every : {A : Type 0} → (A → Bool) → List A → Bool
-every p [] = true
-every p (x ∷ xs) = p x && every p xs
+use Rattle.laws.specs.Lists.{every}
 
 -- the sum of a number of each member of a list
 unfoldable pub total : {A : Type 0} → (A → ℕ) → List A → ℕ

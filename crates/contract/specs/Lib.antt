@@ -7,4 +7,4 @@ pub mod Encode
 pub mod Decode
 pub mod Check
 pub mod Rows
-pub mod Places
+pub mod Private

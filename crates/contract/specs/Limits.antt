@@ -1,9 +1,10 @@
 -- The limits of document 01 on a contract.
 use Prim.Native.Nat.{ℕ}
+use Rattle.tokens.specs.Tokens as tokens
 
--- the greatest constant, amount and clock
+-- document 01's Top: the greatest constant, amount and clock
 abbrev pub top : ℕ
-top = 9223372036854775807
+top = tokens.top
 
 abbrev pub maxParties : ℕ
 maxParties = 8

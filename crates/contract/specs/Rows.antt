@@ -1,14 +1,14 @@
 -- Rows and nodes of a table as they are read, for any words at all.
-use Prim.Native.Nat.{ℕ, _+_, _*_}
+use Prim.Native.Nat.{ℕ}
 use mathlib.Core.List.{List}
 use Rattle.contract.specs.Table.{wordAt, kindAt, argumentAt, sizeAt, functionWord, eventWord, clauseWord}
-use Rattle.contract.specs.declared.Contract.{Contract}
+use Rattle.contract.specs.declared.TableHead.{TableHead}
 use Rattle.contract.specs.declared.Function.{Function}
 use Rattle.contract.specs.declared.Event.{Event}
 use Rattle.contract.specs.declared.Clause.{Clause}
 use Rattle.contract.specs.declared.Node.{Node}
 
-abbrev pub headOf : List ℕ → Contract
+abbrev pub headOf : List ℕ → TableHead
 headOf w =
     record {
       parties = wordAt w 0;

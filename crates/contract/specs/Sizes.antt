@@ -2,7 +2,8 @@
 -- and event. And statements, nested ones counted.
 use Prim.Native.Nat.{ℕ, suc, _+_}
 use mathlib.Core.List.{List, [], _∷_}
-use Rattle.contract.specs.Tree.{Expression, constant, string, clock, field, valueParameter, held, apply, brokenExpression, Condition, truth, compare, negation, both, either, brokenCondition, Action, assign, send, move, pay, moveAll, payAll, Block, none, perform, conditional, brokenBlock, Precondition, omitted, given, Event, Function}
+use Rattle.contract.specs.Tree.{Expression, constant, string, clock, field, valueParameter, held, apply, brokenExpression, Condition, truth, compare, negation, both, either, brokenCondition, Action}
+use Rattle.contract.specs.Tree.{assign, send, move, pay, moveAll, payAll, Block, none, perform, conditional, brokenBlock, Precondition, omitted, given, Event, Function}
 
 unfoldable pub expressionSize : Expression → ℕ
 expressionSize (constant n) = 1

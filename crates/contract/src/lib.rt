@@ -1,31 +1,12 @@
-// The table of a contract: its limits, its rows and nodes, and the check that every step asks of it.
+// The table of a contract: its limits, its rows and nodes, and their readers.
 ghost use mathlib.Core.Path.{_≡_};
 ghost use Prim.Native.Nat.{_+_, _*_, _≤_, _<_};
-ghost use mathlib.Core.Bool.{true};
-ghost use lib.ListN.{length};
-ghost use lib.Dec.{ltb};
 ghost use Rattle.contract.specs.Table.{wordAt, clauseWord};
 ghost use Rattle.contract.specs.Rows.{headOf, functionRowOf, eventRowOf, clauseRowOf, nodeOf};
-ghost use Rattle.contract.specs.Check.{allBelow, headOk, namesOk, clauseOk, passes};
-ghost use Rattle.contract.specs.Places.{RowAt};
+ghost use Rattle.contract.specs.Private.{RowAt};
 
-mod functions;
-mod names;
-mod nodes;
-
-// The head of a table: how many there are of each, and the initial state.
-pub struct Contract {
-    pub parties: usize,
-    pub assets: usize,
-    pub fields: usize,
-    pub states: usize,
-    pub strings: usize,
-    pub clauses: usize,
-    pub functions: usize,
-    pub events: usize,
-    pub nodes: usize,
-    pub initial: usize,
-}
+// The limits of document 01 on a contract.
+pub struct Contract {}
 
 impl Contract {
     pub const PARTIES: usize = 8;
@@ -45,8 +26,26 @@ impl Contract {
     pub const EVENTS: usize = 64;
 
     pub const NODES: usize = 4096;
+    // Bytes of a name, and of a string without its quotes.
+    pub const NAME: usize = 32;
+
+    pub const STRING: usize = 64;
     // The words of a table.
     pub const TABLE: usize = 20819;
+}
+
+// The head of a table: how many there are of each, and the initial state.
+pub struct TableHead {
+    pub parties: usize,
+    pub assets: usize,
+    pub fields: usize,
+    pub states: usize,
+    pub strings: usize,
+    pub clauses: usize,
+    pub functions: usize,
+    pub events: usize,
+    pub nodes: usize,
+    pub initial: usize,
 }
 
 // A function's row. Its nodes start at `first`: those of the precondition, those of the body, its events.
@@ -70,6 +69,8 @@ impl Function {
     pub const PARAMETERS: usize = 4;
     // Statements in a body or a handler, nested ones counted.
     pub const STATEMENTS: usize = 64;
+    // The words of a row.
+    pub const WORDS: usize = 10 + NAME_WORDS;
 }
 
 // An event's row: its states, and its node, which stands after its guard and its handler.
@@ -79,11 +80,19 @@ pub struct Event {
     pub node: usize,
 }
 
+impl Event {
+    pub const WORDS: usize = 3;
+}
+
 // A clause's row: its party, its verb (0 SET, 1 OK), and how many fields it names.
 pub struct Clause {
     pub party: usize,
     pub verb: usize,
     pub fields: usize,
+}
+
+impl Clause {
+    pub const WORDS: usize = 3 + Contract::FIELDS;
 }
 
 // A node: its parts stand before it. Of an expression, a condition or an event its size counts the nodes of its whole, of a
@@ -151,28 +160,35 @@ impl Node {
     pub const CONDITIONAL: u64 = 27;
 
     pub const EVENT: u64 = 28;
+
+    pub const WORDS: usize = 3;
 }
 
+// The words of a row of a name, and of a string: a length and the bytes.
+pub const NAME_WORDS: usize = 1 + Contract::NAME;
+
+pub const STRING_WORDS: usize = 1 + Contract::STRING;
+
 // Where the sections of a table start: rows of names, strings, clauses, functions, events and nodes.
-const NAME: usize = 10;
+pub const NAME: usize = 10;
 
-const PARTIES: usize = NAME + 33;
+pub const PARTIES: usize = NAME + NAME_WORDS;
 
-const ASSETS: usize = PARTIES + Contract::PARTIES * 33;
+pub const ASSETS: usize = PARTIES + Contract::PARTIES * NAME_WORDS;
 
-const FIELDS: usize = ASSETS + Contract::ASSETS * 33;
+pub const FIELDS: usize = ASSETS + Contract::ASSETS * NAME_WORDS;
 
-const STATES: usize = FIELDS + Contract::FIELDS * 33;
+pub const STATES: usize = FIELDS + Contract::FIELDS * NAME_WORDS;
 
-const STRINGS: usize = STATES + Contract::STATES * 33;
+pub const STRINGS: usize = STATES + Contract::STATES * NAME_WORDS;
 
-const CLAUSES: usize = STRINGS + Contract::STRINGS * 65;
+pub const CLAUSES: usize = STRINGS + Contract::STRINGS * STRING_WORDS;
 
-const FUNCTIONS: usize = CLAUSES + Contract::CLAUSES * 35;
+pub const FUNCTIONS: usize = CLAUSES + Contract::CLAUSES * Clause::WORDS;
 
-const EVENTS: usize = FUNCTIONS + Contract::FUNCTIONS * 43;
+pub const EVENTS: usize = FUNCTIONS + Contract::FUNCTIONS * Function::WORDS;
 
-const NODES: usize = EVENTS + Contract::EVENTS * 3;
+pub const NODES: usize = EVENTS + Contract::EVENTS * Event::WORDS;
 
 // Word i of a table, and 0 past its end.
 pub fn word(table: &[u64], i: usize) -> u64
@@ -192,10 +208,10 @@ fn row(table: &[u64], start: usize, width: usize, i: usize) -> usize
     start + i * width
 }
 
-pub fn head(table: &[u64]) -> Contract
+pub fn head(table: &[u64]) -> TableHead
     ensures { λ r. ⌜ r ≡ headOf (now (table .entry)) ⌝ }
 {
-    Contract {
+    TableHead {
         parties: word(table, 0) as usize,
         assets: word(table, 1) as usize,
         fields: word(table, 2) as usize,
@@ -212,7 +228,7 @@ pub fn head(table: &[u64]) -> Contract
 pub fn function_at(table: &[u64], i: usize) -> Function
     ensures { λ r. ⌜ r ≡ functionRowOf (now (table .entry)) i ⌝ }
 {
-    let at = row(table, FUNCTIONS, 43, i);
+    let at = row(table, FUNCTIONS, Function::WORDS, i);
     Function {
         state: word(table, at) as usize,
         party: word(table, at + 1) as usize,
@@ -230,7 +246,7 @@ pub fn function_at(table: &[u64], i: usize) -> Function
 pub fn event_at(table: &[u64], i: usize) -> Event
     ensures { λ r. ⌜ r ≡ eventRowOf (now (table .entry)) i ⌝ }
 {
-    let at = row(table, EVENTS, 3, i);
+    let at = row(table, EVENTS, Event::WORDS, i);
     Event {
         state: word(table, at) as usize,
         last: word(table, at + 1) as usize,
@@ -241,7 +257,7 @@ pub fn event_at(table: &[u64], i: usize) -> Event
 pub fn clause_at(table: &[u64], i: usize) -> Clause
     ensures { λ r. ⌜ r ≡ clauseRowOf (now (table .entry)) i ⌝ }
 {
-    let at = row(table, CLAUSES, 35, i);
+    let at = row(table, CLAUSES, Clause::WORDS, i);
     Clause {
         party: word(table, at) as usize,
         verb: word(table, at + 1) as usize,
@@ -256,112 +272,16 @@ pub fn clause_field(table: &[u64], i: usize, j: usize) -> usize
     if table.len() <= j {
         return 0;
     }
-    word(table, row(table, CLAUSES, 35, i) + (3 + j)) as usize
+    word(table, row(table, CLAUSES, Clause::WORDS, i) + (3 + j)) as usize
 }
 
 pub fn node_at(table: &[u64], k: usize) -> Node
     ensures { λ r. ⌜ r ≡ nodeOf (now (table .entry)) k ⌝ }
 {
-    let at = row(table, NODES, 3, k);
+    let at = row(table, NODES, Node::WORDS, k);
     Node {
         kind: word(table, at),
         argument: word(table, at + 1),
         size: word(table, at + 2) as usize,
     }
-}
-
-fn head_ok(table: &[u64]) -> bool
-    ensures { λ r. ⌜ r ≡ headOk (now (table .entry)) ⌝ }
-{
-    let h = head(table);
-    (h.parties <= Contract::PARTIES)
-        & ((h.assets <= Contract::ASSETS)
-            & ((h.fields <= Contract::FIELDS)
-                & ((h.states <= Contract::STATES)
-                    & ((h.strings <= Contract::STRINGS)
-                        & ((h.clauses <= Contract::CLAUSES)
-                            & ((h.functions <= Contract::FUNCTIONS)
-                                & ((h.events <= Contract::EVENTS)
-                                    & ((h.nodes <= Contract::NODES) & (h.initial < h.states)))))))))
-}
-
-fn clause_fields_ok(table: &[u64], i: usize, n: usize) -> bool
-    ensures { λ r. ⌜ r ≡ allBelow n (λ j. ltb (clauseWord (now (table .entry)) i (3 + j)) (wordAt (now (table .entry)) 2)) ⌝ }
-{
-    let fields = word(table, 2) as usize;
-    let mut j: usize = 0;
-    while j < n {
-        if clause_field(table, i, j) < fields {
-            j += 1;
-        } else {
-            return false;
-        }
-    }
-    true
-}
-
-fn clause_ok(table: &[u64], i: usize) -> bool
-    ensures { λ r. ⌜ r ≡ clauseOk (now (table .entry)) i ⌝ }
-{
-    let c = clause_at(table, i);
-    if c.party < word(table, 0) as usize {
-        if c.verb <= 1 {
-            if c.fields <= Contract::FIELDS {
-                return clause_fields_ok(table, i, c.fields);
-            }
-        }
-    }
-    false
-}
-
-fn clauses_ok(table: &[u64], count: usize) -> bool
-    ensures { λ r. ⌜ r ≡ allBelow count (clauseOk (now (table .entry))) ⌝ }
-{
-    let mut i: usize = 0;
-    while i < count {
-        if clause_ok(table, i) {
-            i += 1;
-        } else {
-            return false;
-        }
-    }
-    true
-}
-
-// The contract's name, and those of its parties, assets, fields and states; its strings.
-fn words_ok(table: &[u64]) -> bool
-    requires { ⌜ length (now table) ≡ 20819 ⌝ }
-    requires { ⌜ headOk (now table) ≡ true ⌝ }
-    ensures { λ r. ⌜ r ≡ namesOk (now (table .entry)) ⌝ }
-{
-    let h = head(table);
-    if names::name_ok(table, NAME) {
-        if names::names_ok(table, PARTIES, h.parties) {
-            if names::names_ok(table, ASSETS, h.assets) {
-                if names::names_ok(table, FIELDS, h.fields) {
-                    if names::names_ok(table, STATES, h.states) {
-                        return names::strings_ok(table, h.strings);
-                    }
-                }
-            }
-        }
-    }
-    false
-}
-
-// Question 3: whether a table passes the check of docs/TABLE.md.
-pub fn table_passes(table: &[u64]) -> bool
-    ensures { λ r. ⌜ r ≡ passes (now (table .entry)) ⌝ }
-{
-    if table.len() != Contract::TABLE {
-        return false;
-    }
-    if head_ok(table) {
-        if words_ok(table) {
-            if clauses_ok(table, word(table, 5) as usize) {
-                return functions::functions_ok(table);
-            }
-        }
-    }
-    false
 }

@@ -12,7 +12,7 @@ use Rattle.laws.specs.Bytes.{sameBytes}
 use Rattle.laws.proofs.Choice.{pick-true, pick-false}
 use Rattle.laws.proofs.Lists.{cons-at}
 use Rattle.tokens.specs.Tokens.{between}
-use Rattle.entries.specs.Pass.{slotIs, findFrom, Skips, numberIn, amongIn, isDeclared, markOf, slotOf, knownCount}
+use Rattle.entries.specs.Draft.{slotIs, findFrom, Skips, numberIn, amongIn, isDeclared, markOf, slotOf, knownCount}
 
 -- ---- one turn of the comparison, and its end
 module _ (a b : List ℕ) (i : ℕ) where

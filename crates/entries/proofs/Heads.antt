@@ -1,17 +1,16 @@
 -- The clause at hand and functions' heads. Assumes nothing.
-use mathlib.Core.Path.{_≡_, refl, sym, ap, _∙_}
+use mathlib.Core.Path.{_≡_, sym, ap, _∙_}
 use mathlib.Core.Bool.{Bool, true, false}
-use mathlib.Core.List.{List, [], _∷_}
-use Prim.Native.Nat.{ℕ, suc, _+_, _-_, _*_, _<_, _≤_, min}
+use mathlib.Core.List.{List}
+use Prim.Native.Nat.{ℕ, _+_, _-_, _*_, _<_, _≤_, min}
 use native.Mathlib.Omega.{arith}
-use lib.Dec.{ltb, eqb}
+use lib.Dec.{ltb}
 use lib.ListN.{getD, set}
-use lib.Seq.{sets}
 use borrow.Author.Tests.{lt-ltb, le-ltb}
 use Rattle.laws.specs.Choice.{pick}
 use Rattle.laws.proofs.Choice.{pick-true, pick-false}
 use Rattle.tokens.specs.Tokens.{between}
-use Rattle.entries.specs.Pass.{partyUsed, Pass, note, found, knownCount, numberIn, amongIn, clauseParty, clauseVerb, fieldAt, clauseField, clauseEnd, findFrom, headMark, headed, isHeaded, headNotes, head, rowed, slotted}
+use Rattle.entries.specs.Draft.{nameUsed, Draft, note, found, knownCount, numberIn, amongIn, clauseParty, clauseVerb, fieldAt, clauseField, clauseEnd, findFrom, headMark, headed, isHeaded, headNotes, headEntered, head, rowed, slotted}
 use Rattle.entries.proofs.Uses.{is-among, not-among}
 use Rattle.entries.proofs.Nodes.{two}
 
@@ -28,25 +27,20 @@ module _ (s : List ℕ) (a e : ℕ) (t n : List ℕ) where
   unfolding clauseParty
   party-past r q h = sym (pick-false _ _ _ (le-ltb (note n 11) 16 (omega (arith, q))))
 
-  module _ (x m : ℕ) (f : x ≡ numberIn s n 0 (between s a e)) (g : m ≡ knownCount n 0) where
-    pub party-known : x < m → n ≡ (clauseParty s a e (record { table = t; notes = n })) .notes
-    unfolding clauseParty
-    party-known h = sym (pick-true _ _ _ (is-among s n 0 (between s a e) x m f g h))
-
-    pub party-unknown : (l : List ℕ) → m ≤ x → l ≡ found 13 a n → l ≡ (clauseParty s a e (record { table = t; notes = n })) .notes
-    unfolding clauseParty
-    party-unknown l h k = k ∙ sym (pick-false _ _ _ (not-among s n 0 (between s a e) x m f g h))
+  pub party-used : (l : List ℕ) → l ≡ nameUsed s 0 a e n → l ≡ (clauseParty s a e (record { table = t; notes = n })) .notes
+  unfolding clauseParty
+  party-used l h = h
 
 pub verb-row : (v r : ℕ) (t n l : List ℕ) → r ≡ note n 11 → r < 16 → l ≡ set t (5027 + 35 * r + 1) v
     → l ≡ (clauseVerb v (record { table = t; notes = n })) .table
 unfolding clauseVerb
 verb-row v r t n l q h k =
     k ∙ (λ i. set t (5027 + 35 * q i + 1) v)
-    ∙ ap (λ (p : Pass). p .table) (sym (pick-true _ _ _ (lt-ltb (note n 11) 16 (omega (arith, q)))))
+    ∙ ap (λ (p : Draft). p .table) (sym (pick-true _ _ _ (lt-ltb (note n 11) 16 (omega (arith, q)))))
 
 pub verb-past : (v r : ℕ) (t n : List ℕ) → r ≡ note n 11 → 16 ≤ r → t ≡ (clauseVerb v (record { table = t; notes = n })) .table
 unfolding clauseVerb
-verb-past v r t n q h = ap (λ (p : Pass). p .table) (sym (pick-false _ _ _ (le-ltb (note n 11) 16 (omega (arith, q)))))
+verb-past v r t n q h = ap (λ (p : Draft). p .table) (sym (pick-false _ _ _ (le-ltb (note n 11) 16 (omega (arith, q)))))
 
 module _ (r j x : ℕ) (t n : List ℕ) where
   pub field-in : (t₁ t₂ : List ℕ) → j < 32 → t₁ ≡ set t (r + 3 + j) x → t₂ ≡ set t₁ (r + 2) (j + 1)
@@ -54,8 +48,8 @@ module _ (r j x : ℕ) (t n : List ℕ) where
   unfolding fieldAt
   field-in t₁ t₂ h k₁ k₂ =
       let e = pick-true (ltb j 32) _ _ (lt-ltb j 32 h) in (
-        k₂ ∙ ap (λ (l : List ℕ). set l (r + 2) (j + 1)) k₁ ∙ ap (λ (p : Pass). p .table) (sym e),
-        ap (λ (p : Pass). p .notes) (sym e),
+        k₂ ∙ ap (λ (l : List ℕ). set l (r + 2) (j + 1)) k₁ ∙ ap (λ (p : Draft). p .table) (sym e),
+        ap (λ (p : Draft). p .notes) (sym e),
       )
 
   pub field-out : (l : List ℕ) → 32 ≤ j → l ≡ set n 15 1
@@ -63,8 +57,8 @@ module _ (r j x : ℕ) (t n : List ℕ) where
   unfolding fieldAt
   field-out l h k =
       let e = pick-false (ltb j 32) _ _ (le-ltb j 32 h) in (
-        ap (λ (p : Pass). p .table) (sym e),
-        k ∙ ap (λ (p : Pass). p .notes) (sym e),
+        ap (λ (p : Draft). p .table) (sym e),
+        k ∙ ap (λ (p : Draft). p .notes) (sym e),
       )
 
 -- the notes after a name is looked up among those of a kind
@@ -90,8 +84,8 @@ module _ (s : List ℕ) (a e : ℕ) (t n : List ℕ) (r : ℕ) (l : List ℕ) (q
       → n₁ ≡ (fieldAt (5027 + 35 * r) j x (record { table = t; notes = l })) .notes
       → (t₁ ≡ (clauseField s a e (record { table = t; notes = n })) .table) × (n₁ ≡ (clauseField s a e (record { table = t; notes = n })) .notes)
   clause-field-in x j t₁ n₁ f h g k₁ k₂ = (
-    k₁ ∙ ap (λ (p : Pass). p .table) (field-row x j f h g),
-    k₂ ∙ ap (λ (p : Pass). p .notes) (field-row x j f h g),
+    k₁ ∙ ap (λ (p : Draft). p .table) (field-row x j f h g),
+    k₂ ∙ ap (λ (p : Draft). p .notes) (field-row x j f h g),
   )
 
   field-past : 16 ≤ r → record { table = t; notes = l } ≡ clauseField s a e (record { table = t; notes = n })
@@ -100,7 +94,7 @@ module _ (s : List ℕ) (a e : ℕ) (t n : List ℕ) (r : ℕ) (l : List ℕ) (q
 
   pub clause-field-out : 16 ≤ r
       → (t ≡ (clauseField s a e (record { table = t; notes = n })) .table) × (l ≡ (clauseField s a e (record { table = t; notes = n })) .notes)
-  clause-field-out h = (ap (λ (p : Pass). p .table) (field-past h), ap (λ (p : Pass). p .notes) (field-past h))
+  clause-field-out h = (ap (λ (p : Draft). p .table) (field-past h), ap (λ (p : Draft). p .notes) (field-past h))
 
 pub end-in : (n l : List ℕ) (r : ℕ) → r ≡ note n 11 → r < 16 → l ≡ set n 11 (r + 1) → l ≡ clauseEnd n
 unfolding clauseEnd
@@ -153,46 +147,33 @@ head-written s i q a f e t n t₁ t₂ t₃ n₁ n₂ w m z h₁ h₂ h₃ g k�
 
 -- the row of a head within the limit, none past it; then no parameter
 module _ (s : List ℕ) (o q a f e : ℕ) (t n : List ℕ) where
-  abbrev pub Rowed : Pass
-  Rowed =
-      pick (ltb (note n 10) 64)
-      (headed s (note n 10) q a f e (record { table = t; notes = headNotes s o q a f e n }))
-      (record { table = t; notes = headNotes s o q a f e n })
+  abbrev Entered : Draft
+  Entered = headEntered s o q a f e (record { table = t; notes = n })
 
-  row-in : (v : ℕ) (n₁ : List ℕ) → v ≡ note n 10 → n₁ ≡ headNotes s o q a f e n → v < 64
-      → headed s v q a f e (record { table = t; notes = n₁ }) ≡ Rowed
-  row-in v n₁ g u h =
-      (λ i. headed s (g i) q a f e (record { table = t; notes = u i }))
-      ∙ sym (pick-true _ _ _ (lt-ltb (note n 10) 64 (omega (arith, g))))
+  module _ (v : ℕ) (n₁ : List ℕ) where
+    row-in : v ≡ note n 10 → n₁ ≡ headNotes s o q a f e n → v < 64 → headed s v q a f e (record { table = t; notes = n₁ }) ≡ Entered
+    row-in g u h =
+        (λ i. headed s (g i) q a f e (record { table = t; notes = u i }))
+        ∙ sym (pick-true _ _ _ (lt-ltb (note n 10) 64 (omega (arith, g))))
 
-  row-past : (v : ℕ) (n₁ : List ℕ) → v ≡ note n 10 → n₁ ≡ headNotes s o q a f e n → 64 ≤ v → record { table = t; notes = n₁ } ≡ Rowed
-  row-past v n₁ g u h =
-      (λ i. record { table = t; notes = u i }) ∙ sym (pick-false _ _ _ (le-ltb (note n 10) 64 (omega (arith, g))))
+    row-past : v ≡ note n 10 → n₁ ≡ headNotes s o q a f e n → 64 ≤ v → record { table = t; notes = n₁ } ≡ Entered
+    row-past g u h =
+        (λ i. record { table = t; notes = u i }) ∙ sym (pick-false _ _ _ (le-ltb (note n 10) 64 (omega (arith, g))))
 
-  module _ (v : ℕ) (n₁ t₁ n₂ : List ℕ) (g : v ≡ note n 10) (u : n₁ ≡ headNotes s o q a f e n) where
-    pub rowed-in : v < 64
-        → t₁ ≡ (headed s v q a f e (record { table = t; notes = n₁ })) .table
-        → n₂ ≡ (headed s v q a f e (record { table = t; notes = n₁ })) .notes
-        → (t₁ ≡ Rowed .table) × (n₂ ≡ Rowed .notes)
-    rowed-in h k₁ k₂ = (k₁ ∙ ap (λ (p : Pass). p .table) (row-in v n₁ g u h), k₂ ∙ ap (λ (p : Pass). p .notes) (row-in v n₁ g u h))
+  pub entered-in : (v : ℕ) (n₁ t₁ n₂ : List ℕ) → v ≡ note n 10 → n₁ ≡ headNotes s o q a f e n → v < 64
+      → t₁ ≡ (headed s v q a f e (record { table = t; notes = n₁ })) .table
+      → n₂ ≡ (headed s v q a f e (record { table = t; notes = n₁ })) .notes
+      → (t₁ ≡ Entered .table) × (n₂ ≡ Entered .notes)
+  entered-in v n₁ t₁ n₂ g u h k₁ k₂ =
+      (k₁ ∙ ap (λ (p : Draft). p .table) (row-in v n₁ g u h), k₂ ∙ ap (λ (p : Draft). p .notes) (row-in v n₁ g u h))
 
-    pub rowed-past : 64 ≤ v → t₁ ≡ t → n₂ ≡ n₁ → (t₁ ≡ Rowed .table) × (n₂ ≡ Rowed .notes)
-    rowed-past h k₁ k₂ = (k₁ ∙ ap (λ (p : Pass). p .table) (row-past v n₁ g u h), k₂ ∙ ap (λ (p : Pass). p .notes) (row-past v n₁ g u h))
+  pub entered-past : (v : ℕ) (n₁ : List ℕ) → v ≡ note n 10 → n₁ ≡ headNotes s o q a f e n → 64 ≤ v → (t ≡ Entered .table) × (n₁ ≡ Entered .notes)
+  entered-past v n₁ g u h = (ap (λ (p : Draft). p .table) (row-past v n₁ g u h), ap (λ (p : Draft). p .notes) (row-past v n₁ g u h))
 
-  pub head-done : (t₁ n₂ n₃ n₄ : List ℕ) → (t₁ ≡ Rowed .table) × (n₂ ≡ Rowed .notes) → n₃ ≡ set n₂ 3 0 → n₄ ≡ set n₃ 4 0
+  pub head-done : (t₁ n₂ n₃ n₄ : List ℕ) → (t₁ ≡ Entered .table) × (n₂ ≡ Entered .notes) → n₃ ≡ set n₂ 3 0 → n₄ ≡ set n₃ 4 0
       → (t₁ ≡ (head s o q a f e (record { table = t; notes = n })) .table) × (n₄ ≡ (head s o q a f e (record { table = t; notes = n })) .notes)
   unfolding head
   head-done t₁ n₂ n₃ n₄ r h k = (
     r .0,
     k ∙ ap (λ (l : List ℕ). set l 4 0) (h ∙ ap (λ (l : List ℕ). set l 3 0) (r .1)),
   )
-
--- a party that a function names
-module _ (s : List ℕ) (a e : ℕ) (n : List ℕ) (x m : ℕ) (f : x ≡ numberIn s n 0 (between s a e)) (g : m ≡ knownCount n 0) where
-  pub used-known : x < m → n ≡ partyUsed s a e n
-  unfolding partyUsed
-  used-known h = sym (pick-true _ _ _ (is-among s n 0 (between s a e) x m f g h))
-
-  pub used-unknown : (l : List ℕ) → m ≤ x → l ≡ found 13 a n → l ≡ partyUsed s a e n
-  unfolding partyUsed
-  used-unknown l h k = k ∙ sym (pick-false _ _ _ (not-among s n 0 (between s a e) x m f g h))

@@ -9,7 +9,7 @@ use borrow.Author.Tests.{lt-ltb, le-ltb}
 use Rattle.laws.specs.Choice.{pick}
 use Rattle.laws.proofs.Choice.{pick-true, pick-false}
 use Rattle.tokens.specs.Tokens.{between}
-use Rattle.entries.specs.Pass.{Pass, note, limit, slotOf, sectionOf, widthOf, markOf, knownCount, found, rowed, slotted, entered, isDeclared, declaredIn, declare, mention, numberIn, amongIn}
+use Rattle.entries.specs.Draft.{Draft, note, limit, slotOf, sectionOf, widthOf, markOf, knownCount, found, rowed, slotted, entered, isDeclared, declaredIn, declare, mention, numberIn, amongIn}
 
 -- ---- name i of a kind
 module _ (s t n : List ℕ) (k i a e : ℕ) (w : List ℕ) (f : w ≡ between s a e) where
@@ -31,11 +31,11 @@ module _ (n : List ℕ) (k o x l : ℕ) (e : x ≡ note n k) (f : l ≡ limit k)
   test-of : (b : Bool) → ltb x l ≡ b → ltb (note n k) (limit k) ≡ b
   test-of b h = sym (λ i. ltb (e i) (f i)) ∙ h
 
-  pub within-full : (n₁ : List ℕ) → l ≤ x → n₁ ≡ found 11 o n → n₁ ≡ pick (ltb (note n k) (limit k)) n (found 11 o n)
-  within-full n₁ h g = g ∙ sym (pick-false _ _ _ (test-of false (le-ltb x l h)))
+  pub limit-full : (n₁ : List ℕ) → l ≤ x → n₁ ≡ found 11 o n → n₁ ≡ pick (ltb (note n k) (limit k)) n (found 11 o n)
+  limit-full n₁ h g = g ∙ sym (pick-false _ _ _ (test-of false (le-ltb x l h)))
 
-  pub within-more : x < l → n ≡ pick (ltb (note n k) (limit k)) n (found 11 o n)
-  within-more h = sym (pick-true _ _ _ (test-of true (lt-ltb x l h)))
+  pub limit-more : x < l → n ≡ pick (ltb (note n k) (limit k)) n (found 11 o n)
+  limit-more h = sym (pick-true _ _ _ (test-of true (lt-ltb x l h)))
 
 -- ---- questions 11 and 12 of a declared name
 module _ (s n m : List ℕ) (k a e : ℕ) (g : m ≡ pick (ltb (note n k) (limit k)) n (found 11 a n)) where
@@ -56,7 +56,7 @@ module _ (s t n m : List ℕ) (k a e x l : ℕ) (f : x ≡ note n k) (g : l ≡ 
       (λ i. entered s k (f i) a e (record { table = t; notes = h i }))
       ∙ sym (pick-true _ _ _ (sym (λ i. ltb (f i) (g i)) ∙ lt-ltb x l o))
 
-  pub declare-full : l ≤ x → _≡_ {A = Pass} (record { table = t; notes = m }) (declare s k a e (record { table = t; notes = n }))
+  pub declare-full : l ≤ x → _≡_ {A = Draft} (record { table = t; notes = m }) (declare s k a e (record { table = t; notes = n }))
   unfolding declare
   declare-full o =
       (λ i. record { table = t; notes = h i })
@@ -74,14 +74,14 @@ module _ (s t n : List ℕ) (k a e o x l : ℕ) (f : x ≡ note n k) (g : l ≡ 
 
   pub new-full :
       l ≤ x →
-      _≡_ {A = Pass}
+      _≡_ {A = Draft}
       (record { table = t; notes = found 11 o n })
       (pick (ltb (note n k) (limit k)) (entered s k (note n k) a e (record { table = t; notes = n })) (record { table = t; notes = found 11 o n }))
   new-full h = sym (pick-false _ _ _ (sym (λ i. ltb (f i) (g i)) ∙ le-ltb x l h))
 
 -- ---- a state or a string
 module _ (s t n : List ℕ) (k a e o x y : ℕ) (f : x ≡ numberIn s n k (between s a e)) (g : y ≡ knownCount n k) where
-  pub mention-known : x < y → _≡_ {A = Pass} (record { table = t; notes = n }) (mention s k a e o (record { table = t; notes = n }))
+  pub mention-known : x < y → _≡_ {A = Draft} (record { table = t; notes = n }) (mention s k a e o (record { table = t; notes = n }))
   unfolding mention amongIn
   mention-known h = sym (pick-true _ _ _ (sym (λ i. ltb (f i) (g i)) ∙ lt-ltb x y h))
 

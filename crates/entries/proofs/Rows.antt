@@ -13,7 +13,7 @@ use lib.Dec.{eqb}
 use borrow.Author.Tests.{eq-eqb, ne-eqb}
 use Rattle.laws.specs.Choice.{pick}
 use Rattle.laws.proofs.Choice.{pick-true, pick-false}
-use Rattle.entries.specs.Pass.{rowed, slotted, sectionOf, widthOf}
+use Rattle.entries.specs.Draft.{rowed, sectionOf, widthOf}
 
 -- ---- a word's length and bytes, from o on
 module _ (t w : List ℕ) (o : ℕ) where
@@ -32,22 +32,6 @@ module _ (t w : List ℕ) (o : ℕ) where
   unfolding rowed
   row-all u v e f =
       f ∙ ap (λ (v : List ℕ). sets v (o + 1) w) e ∙ ap (λ (k : ℕ). sets (set u o (length w)) k w) (omega arith)
-
--- ---- three words of a slot
-pub slot-all :
-    (n n₁ n₂ n₃ : List ℕ) (j m a e : ℕ) → n₁ ≡ set n (16 + 3 * j) m → n₂ ≡ set n₁ (16 + 3 * j + 1) a → n₃ ≡ set n₂ (16 + 3 * j + 2) e →
-    n₃ ≡ slotted n j m a e
-unfolding slotted
-slot-all n n₁ n₂ n₃ j m a e f g h =
-    h
-    ∙ ap (λ (l : List ℕ). set l (16 + 3 * j + 2) e) (g ∙ ap (λ (l : List ℕ). set l (16 + 3 * j + 1) a) f)
-    ∙ (λ i. set (set (set n (16 + 3 * j) m) (one i) a) (two i) e)
-  where
-    one : 16 + 3 * j + 1 ≡ suc (16 + 3 * j)
-    one = omega arith
-
-    two : 16 + 3 * j + 2 ≡ suc (suc (16 + 3 * j))
-    two = omega arith
 
 -- ---- a list of zeros
 pub clear-none : (l : List ℕ) → take 0 l ≡ zeros 0

@@ -9,7 +9,7 @@ use lib.Dec.{eqb, ltb}
 use borrow.Author.Tests.{lt-ltb, le-ltb}
 use Rattle.laws.proofs.Choice.{pick-true, pick-false}
 use Rattle.contract.specs.Limits.{maxParties, maxAssets, maxFields, maxStates, maxStrings, maxEvents, maxNodes, maxValues, maxParameters, maxStatements}
-use Rattle.entries.specs.Pass.{limit, slotOf, sectionOf, found, counted, note}
+use Rattle.entries.specs.Draft.{limit, slotOf, sectionOf, found, counted, note}
 
 -- a kind that is none of those with a limit, slots or rows
 pub past-limits : (k : ℕ) → 10 ≤ k → 0 ≡ limit k

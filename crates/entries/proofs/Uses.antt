@@ -1,17 +1,14 @@
 -- What a used name stands for, test by test. Assumes nothing.
-use mathlib.Core.Path.{_≡_, refl, sym, ap, _∙_}
+use mathlib.Core.Path.{_≡_, sym, _∙_}
 use mathlib.Core.Bool.{Bool, true, false}
 use mathlib.Core.List.{List}
-use Prim.Native.Nat.{ℕ, _<_, _≤_, min}
+use Prim.Native.Nat.{ℕ, _<_, _≤_}
 use native.Mathlib.Omega.{arith}
-use lib.Dec.{ltb}
-use lib.ListN.{getD}
 use borrow.Author.Tests.{lt-ltb, le-ltb}
-use Rattle.laws.specs.Choice.{pick}
 use Rattle.laws.proofs.Choice.{pick-true, pick-false}
 use Rattle.contract.specs.Table.{fieldKind, assetKind, valueKind, parameterKind, partyKind}
 use Rattle.entries.specs.declared.Known.{Known}
-use Rattle.entries.specs.Pass.{knownCount, numberIn, amongIn, seek, unknown, holderIn, storedIn, nameIn, valueTarget, assetTarget}
+use Rattle.entries.specs.Draft.{knownCount, numberIn, amongIn, seek, unknown, holderIn, storedIn, nameIn, valueTarget, assetTarget}
 
 module _ (s n : List ℕ) (k : ℕ) (w : List ℕ) (x m : ℕ) (e : x ≡ numberIn s n k w) (f : m ≡ knownCount n k) where
   pub is-among : x < m → amongIn s n k w ≡ true

@@ -1,1 +1,1 @@
-pub mod Pass
+pub mod Draft

@@ -1,18 +1,21 @@
 // What one pass over a contract's text notes and writes: names, counts, the least finding, rows and nodes. Every function takes any lent
 // words: a word past their end reads as 0, and is not written.
 ghost use mathlib.Core.Path.{_≡_};
-ghost use mathlib.Core.Bool.{Bool, true, false};
-ghost use mathlib.Core.List.{List, [], _∷_};
-ghost use Prim.Native.Nat.{_+_, _-_, _*_, _%_, _≤_, _<_, min};
-ghost use lib.ListN.{length, getD, set};
+ghost use mathlib.Core.Bool.{true, false};
+ghost use mathlib.Core.List.{[], _∷_};
+ghost use Prim.Native.Nat.{_+_, _-_, _*_, _%_, _≤_, _<_};
+ghost use lib.ListN.{length, set};
 ghost use lib.Seq.{sets};
-ghost use lib.Dec.{eqb, ltb};
+ghost use lib.Dec.{eqb};
 ghost use Rattle.laws.specs.Choice.{pick};
 ghost use Rattle.laws.specs.Bytes.{sameBytes};
 ghost use Rattle.tokens.specs.Tokens.{between};
 ghost use Rattle.contract.specs.Encode.{zeros};
-ghost use Rattle.entries.specs.Pass as pass;
+ghost use Rattle.entries.specs.Draft as draft;
+use contract::Clause;
 use contract::Contract;
+use contract::Event;
+use contract::Function;
 use contract::Node;
 
 // Kinds of what is counted. The first seven are names.
@@ -51,6 +54,11 @@ pub const WRITTEN: usize = 14;
 
 pub const EXCESS: usize = 15;
 
+// Then a slot of three words for each name; those of functions are the last.
+const SLOTS: usize = 16;
+
+const FUNCTION_SLOT: usize = 132;
+
 // Nodes of the body at hand, and events of the function at hand.
 pub const BODY: usize = 604;
 
@@ -74,11 +82,21 @@ pub fn store(words: &mut [u64], i: usize, v: u64)
     }
 }
 
+// Three words from word i on.
+fn store_three(words: &mut [u64], i: usize, a: u64, b: u64, c: u64)
+    requires { ⌜ i ≤ 300000 ⌝ }
+    ensures { λ _. ⌜ now (words .exit) ≡ sets (now (words .entry)) i (a ∷ b ∷ c ∷ []) ⌝ }
+{
+    store(words, i, a);
+    store(words, i + 1, b);
+    store(words, i + 2, c);
+}
+
 // ---- Findings and counts.
 
 // The least finding after one more: earliest place, then lowest number.
 pub fn find(notes: &mut [u64], question: u8, place: usize)
-    ensures { λ _. ⌜ now (notes .exit) ≡ pass.found question place (now (notes .entry)) ⌝ }
+    ensures { λ _. ⌜ now (notes .exit) ≡ draft.found question place (now (notes .entry)) ⌝ }
 {
     let q = contract::word(notes, QUESTION);
     let o = contract::word(notes, PLACE) as usize;
@@ -93,18 +111,18 @@ pub fn find(notes: &mut [u64], question: u8, place: usize)
 
 // The most of a kind.
 fn limit(kind: usize) -> usize
-    ensures { λ r. ⌜ r ≡ pass.limit kind ⌝ }
+    ensures { λ r. ⌜ r ≡ draft.limit kind ⌝ }
 {
     match kind {
         PARTY => Contract::PARTIES,
         ASSET => Contract::ASSETS,
         FIELD => Contract::FIELDS,
-        VALUE => contract::Function::VALUES,
-        PARAMETER => contract::Function::PARAMETERS,
+        VALUE => Function::VALUES,
+        PARAMETER => Function::PARAMETERS,
         STATE => Contract::STATES,
         STRING => Contract::STRINGS,
         EVENT => Contract::EVENTS,
-        STATEMENT => contract::Function::STATEMENTS,
+        STATEMENT => Function::STATEMENTS,
         NODE => Contract::NODES,
         _ => 0,
     }
@@ -112,7 +130,7 @@ fn limit(kind: usize) -> usize
 
 // One more of a kind, within its limit; else question 11.
 pub fn count(notes: &mut [u64], kind: usize, place: usize)
-    ensures { λ _. ⌜ now (notes .exit) ≡ pass.counted kind place (now (notes .entry)) ⌝ }
+    ensures { λ _. ⌜ now (notes .exit) ≡ draft.counted kind place (now (notes .entry)) ⌝ }
 {
     let n = contract::word(notes, kind);
     if n < limit(kind) as u64 {
@@ -143,7 +161,7 @@ fn same_bytes(a: &[u8], b: &[u8]) -> bool
 
 // A number that equal words share.
 fn mark(word: &[u8]) -> u64
-    ensures { λ r. ⌜ r ≡ pass.markOf (now (word .entry)) ⌝ }
+    ensures { λ r. ⌜ r ≡ draft.markOf (now (word .entry)) ⌝ }
     ensures { λ r. ⌜ r < 16777216 ⌝ }
 {
     let n = word.len();
@@ -156,9 +174,9 @@ fn mark(word: &[u8]) -> u64
 // Whether a slot has this mark and these bytes.
 fn slot_is(text: &[u8], notes: &[u64], slot: usize, mark: u64, word: &[u8]) -> bool
     requires { ⌜ slot ≤ 5000 ⌝ }
-    ensures { λ r. ⌜ r ≡ pass.slotIs (now (text .entry)) (now (notes .entry)) slot mark (now (word .entry)) ⌝ }
+    ensures { λ r. ⌜ r ≡ draft.slotIs (now (text .entry)) (now (notes .entry)) slot mark (now (word .entry)) ⌝ }
 {
-    let at = 16 + 3 * slot;
+    let at = SLOTS + 3 * slot;
     if contract::word(notes, at) != mark {
         return false;
     }
@@ -176,15 +194,15 @@ fn less_one(n: usize) -> usize
 // A slot before which none has this mark: the first that has it, two slots a turn, or `many`; the first of all in short notes.
 fn find_mark(notes: &[u64], mark: u64, slot: usize, many: usize) -> usize
     requires { ⌜ (slot ≤ 132) × (many ≤ 4096) ⌝ }
-    ensures { λ r. ⌜ pass.Skips (now (notes .entry)) mark slot 0 many r ⌝ }
+    ensures { λ r. ⌜ draft.Skips (now (notes .entry)) mark slot 0 many r ⌝ }
 {
-    if notes.len() < 16 + 3 * (slot + many) {
+    if notes.len() < SLOTS + 3 * (slot + many) {
         return 0;
     }
     let last = less_one(many);
     let mut i: usize = 0;
     while i < last {
-        let at = 16 + 3 * (slot + i);
+        let at = SLOTS + 3 * (slot + i);
         if notes[at] == mark {
             return i;
         }
@@ -194,7 +212,7 @@ fn find_mark(notes: &[u64], mark: u64, slot: usize, many: usize) -> usize
         i += 2;
     }
     if i < many {
-        if notes[16 + 3 * (slot + i)] == mark {
+        if notes[SLOTS + 3 * (slot + i)] == mark {
             return i;
         }
     }
@@ -204,7 +222,7 @@ fn find_mark(notes: &[u64], mark: u64, slot: usize, many: usize) -> usize
 // The first of so many slots that has this mark and these bytes.
 fn find_from(text: &[u8], notes: &[u64], mark: u64, word: &[u8], slot: usize, many: usize) -> usize
     requires { ⌜ (slot ≤ 132) × (many ≤ 4096) ⌝ }
-    ensures { λ r. ⌜ r ≡ pass.findFrom (now (text .entry)) (now (notes .entry)) mark (now (word .entry)) slot 0 many ⌝ }
+    ensures { λ r. ⌜ r ≡ draft.findFrom (now (text .entry)) (now (notes .entry)) mark (now (word .entry)) slot 0 many ⌝ }
     ensures { λ r. ⌜ r ≤ many ⌝ }
 {
     let mut i = find_mark(notes, mark, slot, many);
@@ -219,7 +237,7 @@ fn find_from(text: &[u8], notes: &[u64], mark: u64, word: &[u8], slot: usize, ma
 
 // How many there are of a kind.
 fn many_of(notes: &[u64], kind: usize) -> usize
-    ensures { λ r. ⌜ r ≡ pass.knownCount (now (notes .entry)) kind ⌝ }
+    ensures { λ r. ⌜ r ≡ draft.knownCount (now (notes .entry)) kind ⌝ }
     ensures { λ r. ⌜ r ≤ 4096 ⌝ }
 {
     let n = contract::word(notes, kind) as usize;
@@ -228,7 +246,7 @@ fn many_of(notes: &[u64], kind: usize) -> usize
 }
 
 fn slot_of(kind: usize) -> usize
-    ensures { λ r. ⌜ r ≡ pass.slotOf kind ⌝ }
+    ensures { λ r. ⌜ r ≡ draft.slotOf kind ⌝ }
     ensures { λ r. ⌜ r ≤ 132 ⌝ }
 {
     match kind {
@@ -239,14 +257,14 @@ fn slot_of(kind: usize) -> usize
         PARAMETER => 64,
         STATE => 68,
         STRING => 100,
-        _ => 132,
+        _ => FUNCTION_SLOT,
     }
 }
 
 // The number of a word with its mark among those of a kind.
 fn number_by(text: &[u8], notes: &[u64], kind: usize, mark: u64, word: &[u8]) -> usize
-    requires { ⌜ mark ≡ pass.markOf (now word) ⌝ }
-    ensures { λ r. ⌜ r ≡ pass.numberIn (now (text .entry)) (now (notes .entry)) kind (now (word .entry)) ⌝ }
+    requires { ⌜ mark ≡ draft.markOf (now word) ⌝ }
+    ensures { λ r. ⌜ r ≡ draft.numberIn (now (text .entry)) (now (notes .entry)) kind (now (word .entry)) ⌝ }
 {
     let many = many_of(notes, kind);
     if many == 0 {
@@ -256,15 +274,15 @@ fn number_by(text: &[u8], notes: &[u64], kind: usize, mark: u64, word: &[u8]) ->
 }
 
 fn among(text: &[u8], notes: &[u64], kind: usize, mark: u64, word: &[u8]) -> bool
-    requires { ⌜ mark ≡ pass.markOf (now word) ⌝ }
-    ensures { λ r. ⌜ r ≡ pass.amongIn (now (text .entry)) (now (notes .entry)) kind (now (word .entry)) ⌝ }
+    requires { ⌜ mark ≡ draft.markOf (now word) ⌝ }
+    ensures { λ r. ⌜ r ≡ draft.amongIn (now (text .entry)) (now (notes .entry)) kind (now (word .entry)) ⌝ }
 {
     number_by(text, notes, kind, mark, word) < many_of(notes, kind)
 }
 
 // The number of a name among those of a kind; how many they are where it is not among them.
-pub fn number_of(text: &[u8], notes: &[u64], kind: usize, start: usize, end: usize) -> usize
-    ensures { λ r. ⌜ r ≡ pass.numberIn (now (text .entry)) (now (notes .entry)) kind (between (now (text .entry)) start end) ⌝ }
+fn number_of(text: &[u8], notes: &[u64], kind: usize, start: usize, end: usize) -> usize
+    ensures { λ r. ⌜ r ≡ draft.numberIn (now (text .entry)) (now (notes .entry)) kind (between (now (text .entry)) start end) ⌝ }
 {
     let word = tokens::between(text, start, end);
     number_by(text, notes, kind, mark(word), word)
@@ -272,7 +290,7 @@ pub fn number_of(text: &[u8], notes: &[u64], kind: usize, start: usize, end: usi
 
 // Whether a name is a party's, an asset's, a field's or a parameter's.
 fn is_declared(text: &[u8], notes: &[u64], start: usize, end: usize) -> bool
-    ensures { λ r. ⌜ r ≡ pass.isDeclared (now (text .entry)) (now (notes .entry)) (between (now (text .entry)) start end) ⌝ }
+    ensures { λ r. ⌜ r ≡ draft.isDeclared (now (text .entry)) (now (notes .entry)) (between (now (text .entry)) start end) ⌝ }
 {
     let word = tokens::between(text, start, end);
     let mark = mark(word);
@@ -294,7 +312,7 @@ fn is_declared(text: &[u8], notes: &[u64], start: usize, end: usize) -> bool
 // A word's length and bytes at a row.
 fn write_row(table: &mut [u64], at: usize, word: &[u8])
     requires { ⌜ at ≤ 300000 ⌝ }
-    ensures { λ _. ⌜ now (table .exit) ≡ pass.rowed (now (table .entry)) at (now (word .entry)) ⌝ }
+    ensures { λ _. ⌜ now (table .exit) ≡ draft.rowed (now (table .entry)) at (now (word .entry)) ⌝ }
 {
     store(table, at, word.len() as u64);
     let mut i: usize = 0;
@@ -307,41 +325,42 @@ fn write_row(table: &mut [u64], at: usize, word: &[u8])
 // A name's mark and place at a slot.
 fn write_slot(notes: &mut [u64], slot: usize, mark: u64, start: usize, end: usize)
     requires { ⌜ slot ≤ 5000 ⌝ }
-    ensures { λ _. ⌜ now (notes .exit) ≡ pass.slotted (now (notes .entry)) slot mark start end ⌝ }
+    ensures { λ _. ⌜ now (notes .exit) ≡ draft.slotted (now (notes .entry)) slot mark start end ⌝ }
 {
-    let at = 16 + 3 * slot;
-    store(notes, at, mark);
-    store(notes, at + 1, start as u64);
-    store(notes, at + 2, end as u64);
+    store_three(notes, SLOTS + 3 * slot, mark, start as u64, end as u64);
 }
 
 // Where the rows of a kind of names stand; 0 where it has none.
 fn section_of(kind: usize) -> usize
-    ensures { λ r. ⌜ r ≡ pass.sectionOf kind ⌝ }
+    ensures { λ r. ⌜ r ≡ draft.sectionOf kind ⌝ }
     ensures { λ r. ⌜ r ≤ 2947 ⌝ }
 {
     match kind {
-        PARTY => 43,
-        ASSET => 307,
-        FIELD => 835,
-        STATE => 1891,
-        STRING => 2947,
+        PARTY => contract::PARTIES,
+        ASSET => contract::ASSETS,
+        FIELD => contract::FIELDS,
+        STATE => contract::STATES,
+        STRING => contract::STRINGS,
         _ => 0,
     }
 }
 
 // How many words a row of a kind of names has.
 fn width_of(kind: usize) -> usize
-    ensures { λ r. ⌜ r ≡ pass.widthOf kind ⌝ }
+    ensures { λ r. ⌜ r ≡ draft.widthOf kind ⌝ }
     ensures { λ r. ⌜ r ≤ 65 ⌝ }
 {
-    if kind == STRING { 65 } else { 33 }
+    if kind == STRING {
+        contract::STRING_WORDS
+    } else {
+        contract::NAME_WORDS
+    }
 }
 
 // Row i of a kind, where it has rows.
 fn enter_row(table: &mut [u64], kind: usize, i: usize, word: &[u8])
     requires { ⌜ i < 4096 ⌝ }
-    ensures { λ _. ⌜ now (table .exit) ≡ pick (eqb (pass.sectionOf kind) 0) (now (table .entry)) (pass.rowed (now (table .entry)) (pass.sectionOf kind + pass.widthOf kind * i) (now (word .entry))) ⌝ }
+    ensures { λ _. ⌜ now (table .exit) ≡ pick (eqb (draft.sectionOf kind) 0) (now (table .entry)) (draft.rowed (now (table .entry)) (draft.sectionOf kind + draft.widthOf kind * i) (now (word .entry))) ⌝ }
 {
     let section = section_of(kind);
     let width = width_of(kind);
@@ -361,8 +380,8 @@ fn enter(
     end: usize,
 )
     requires { ⌜ i < 4096 ⌝ }
-    ensures { λ _. ⌜ now (table .exit) ≡ (pass.entered (now (text .entry)) kind i start end (record { table = now (table .entry); notes = now (notes .entry) })) .table ⌝ }
-    ensures { λ _. ⌜ now (notes .exit) ≡ (pass.entered (now (text .entry)) kind i start end (record { table = now (table .entry); notes = now (notes .entry) })) .notes ⌝ }
+    ensures { λ _. ⌜ now (table .exit) ≡ (draft.entered (now (text .entry)) kind i start end (record { table = now (table .entry); notes = now (notes .entry) })) .table ⌝ }
+    ensures { λ _. ⌜ now (notes .exit) ≡ (draft.entered (now (text .entry)) kind i start end (record { table = now (table .entry); notes = now (notes .entry) })) .notes ⌝ }
 {
     let word = tokens::between(text, start, end);
     enter_row(table, kind, i, word);
@@ -371,8 +390,8 @@ fn enter(
 }
 
 // Question 11 where there are as many of a kind as can be.
-fn within(notes: &mut [u64], kind: usize, place: usize)
-    ensures { λ _. ⌜ now (notes .exit) ≡ pick (ltb (pass.note (now (notes .entry)) kind) (pass.limit kind)) (now (notes .entry)) (pass.found 11 place (now (notes .entry))) ⌝ }
+fn ask_limit(notes: &mut [u64], kind: usize, place: usize)
+    ensures { λ _. ⌜ now (notes .exit) ≡ draft.limitAsked kind place (now (notes .entry)) ⌝ }
 {
     if limit(kind) as u64 <= contract::word(notes, kind) {
         find(notes, questions::LIMITS, place);
@@ -381,10 +400,10 @@ fn within(notes: &mut [u64], kind: usize, place: usize)
 
 // Questions 11 and 12 of a declared name.
 fn declare_notes(text: &[u8], notes: &mut [u64], kind: usize, start: usize, end: usize)
-    ensures { λ _. ⌜ now (notes .exit) ≡ pass.declaredIn (now (text .entry)) kind start end (now (notes .entry)) ⌝ }
+    ensures { λ _. ⌜ now (notes .exit) ≡ draft.declaredIn (now (text .entry)) kind start end (now (notes .entry)) ⌝ }
 {
     let known = is_declared(text, notes, start, end);
-    within(notes, kind, start);
+    ask_limit(notes, kind, start);
     if known {
         find(notes, questions::NAME_NEW, start);
     }
@@ -399,8 +418,8 @@ pub fn declare(
     start: usize,
     end: usize,
 )
-    ensures { λ _. ⌜ now (table .exit) ≡ (pass.declare (now (text .entry)) kind start end (record { table = now (table .entry); notes = now (notes .entry) })) .table ⌝ }
-    ensures { λ _. ⌜ now (notes .exit) ≡ (pass.declare (now (text .entry)) kind start end (record { table = now (table .entry); notes = now (notes .entry) })) .notes ⌝ }
+    ensures { λ _. ⌜ now (table .exit) ≡ (draft.declare (now (text .entry)) kind start end (record { table = now (table .entry); notes = now (notes .entry) })) .table ⌝ }
+    ensures { λ _. ⌜ now (notes .exit) ≡ (draft.declare (now (text .entry)) kind start end (record { table = now (table .entry); notes = now (notes .entry) })) .notes ⌝ }
 {
     let n = contract::word(notes, kind) as usize;
     declare_notes(text, notes, kind, start, end);
@@ -419,8 +438,8 @@ fn enter_new(
     end: usize,
     place: usize,
 )
-    ensures { λ _. ⌜ now (table .exit) ≡ (pick (ltb (pass.note (now (notes .entry)) kind) (pass.limit kind)) (pass.entered (now (text .entry)) kind (pass.note (now (notes .entry)) kind) start end (record { table = now (table .entry); notes = now (notes .entry) })) (record { table = now (table .entry); notes = pass.found 11 place (now (notes .entry)) })) .table ⌝ }
-    ensures { λ _. ⌜ now (notes .exit) ≡ (pick (ltb (pass.note (now (notes .entry)) kind) (pass.limit kind)) (pass.entered (now (text .entry)) kind (pass.note (now (notes .entry)) kind) start end (record { table = now (table .entry); notes = now (notes .entry) })) (record { table = now (table .entry); notes = pass.found 11 place (now (notes .entry)) })) .notes ⌝ }
+    ensures { λ _. ⌜ now (table .exit) ≡ (draft.enteredNew (now (text .entry)) kind start end place (record { table = now (table .entry); notes = now (notes .entry) })) .table ⌝ }
+    ensures { λ _. ⌜ now (notes .exit) ≡ (draft.enteredNew (now (text .entry)) kind start end place (record { table = now (table .entry); notes = now (notes .entry) })) .notes ⌝ }
 {
     let n = contract::word(notes, kind) as usize;
     if n < limit(kind) {
@@ -440,9 +459,9 @@ pub fn mention(
     end: usize,
     place: usize,
 ) -> usize
-    ensures { λ r. ⌜ r ≡ pass.numberIn (now (text .entry)) (now (notes .entry)) kind (between (now (text .entry)) start end) ⌝ }
-    ensures { λ _. ⌜ now (table .exit) ≡ (pass.mention (now (text .entry)) kind start end place (record { table = now (table .entry); notes = now (notes .entry) })) .table ⌝ }
-    ensures { λ _. ⌜ now (notes .exit) ≡ (pass.mention (now (text .entry)) kind start end place (record { table = now (table .entry); notes = now (notes .entry) })) .notes ⌝ }
+    ensures { λ r. ⌜ r ≡ draft.numberIn (now (text .entry)) (now (notes .entry)) kind (between (now (text .entry)) start end) ⌝ }
+    ensures { λ _. ⌜ now (table .exit) ≡ (draft.mention (now (text .entry)) kind start end place (record { table = now (table .entry); notes = now (notes .entry) })) .table ⌝ }
+    ensures { λ _. ⌜ now (notes .exit) ≡ (draft.mention (now (text .entry)) kind start end place (record { table = now (table .entry); notes = now (notes .entry) })) .notes ⌝ }
 {
     let i = number_of(text, notes, kind, start, end);
     if i < many_of(notes, kind) {
@@ -455,15 +474,15 @@ pub fn mention(
 // ---- Used names.
 
 fn unknown() -> Known
-    ensures { λ r. ⌜ r ≡ pass.unknown ⌝ }
+    ensures { λ r. ⌜ r ≡ draft.unknown ⌝ }
 {
     Known { kind: 0, number: 0 }
 }
 
 // An asset, or outside handlers an asset parameter.
 fn holder_by(text: &[u8], notes: &[u64], handler: bool, mark: u64, word: &[u8]) -> Known
-    requires { ⌜ mark ≡ pass.markOf (now word) ⌝ }
-    ensures { λ r. ⌜ r ≡ pass.holderIn (now (text .entry)) (now (notes .entry)) handler (now (word .entry)) ⌝ }
+    requires { ⌜ mark ≡ draft.markOf (now word) ⌝ }
+    ensures { λ r. ⌜ r ≡ draft.holderIn (now (text .entry)) (now (notes .entry)) handler (now (word .entry)) ⌝ }
 {
     let asset = number_by(text, notes, ASSET, mark, word);
     if asset < many_of(notes, ASSET) {
@@ -486,7 +505,7 @@ fn holder_by(text: &[u8], notes: &[u64], handler: bool, mark: u64, word: &[u8]) 
 }
 
 pub fn holder(text: &[u8], notes: &[u64], handler: bool, start: usize, end: usize) -> Known
-    ensures { λ r. ⌜ r ≡ pass.holderIn (now (text .entry)) (now (notes .entry)) handler (between (now (text .entry)) start end) ⌝ }
+    ensures { λ r. ⌜ r ≡ draft.holderIn (now (text .entry)) (now (notes .entry)) handler (between (now (text .entry)) start end) ⌝ }
 {
     let word = tokens::between(text, start, end);
     holder_by(text, notes, handler, mark(word), word)
@@ -494,8 +513,8 @@ pub fn holder(text: &[u8], notes: &[u64], handler: bool, start: usize, end: usiz
 
 // An asset or a field.
 fn stored_by(text: &[u8], notes: &[u64], mark: u64, word: &[u8]) -> Known
-    requires { ⌜ mark ≡ pass.markOf (now word) ⌝ }
-    ensures { λ r. ⌜ r ≡ pass.storedIn (now (text .entry)) (now (notes .entry)) (now (word .entry)) ⌝ }
+    requires { ⌜ mark ≡ draft.markOf (now word) ⌝ }
+    ensures { λ r. ⌜ r ≡ draft.storedIn (now (text .entry)) (now (notes .entry)) (now (word .entry)) ⌝ }
 {
     let asset = number_by(text, notes, ASSET, mark, word);
     if asset < many_of(notes, ASSET) {
@@ -516,7 +535,7 @@ fn stored_by(text: &[u8], notes: &[u64], mark: u64, word: &[u8]) -> Known
 
 // What an expression names.
 pub fn name(text: &[u8], notes: &[u64], handler: bool, start: usize, end: usize) -> Known
-    ensures { λ r. ⌜ r ≡ pass.nameIn (now (text .entry)) (now (notes .entry)) handler (between (now (text .entry)) start end) ⌝ }
+    ensures { λ r. ⌜ r ≡ draft.nameIn (now (text .entry)) (now (notes .entry)) handler (between (now (text .entry)) start end) ⌝ }
 {
     let word = tokens::between(text, start, end);
     let mark = mark(word);
@@ -542,7 +561,7 @@ pub fn name(text: &[u8], notes: &[u64], handler: bool, start: usize, end: usize)
 
 // What `->` goes to.
 pub fn value_target(text: &[u8], notes: &[u64], start: usize, end: usize) -> Known
-    ensures { λ r. ⌜ r ≡ pass.valueTarget (now (text .entry)) (now (notes .entry)) (between (now (text .entry)) start end) ⌝ }
+    ensures { λ r. ⌜ r ≡ draft.valueTarget (now (text .entry)) (now (notes .entry)) (between (now (text .entry)) start end) ⌝ }
 {
     let word = tokens::between(text, start, end);
     let mark = mark(word);
@@ -565,7 +584,7 @@ pub fn value_target(text: &[u8], notes: &[u64], start: usize, end: usize) -> Kno
 
 // What `-o` goes to.
 pub fn asset_target(text: &[u8], notes: &[u64], handler: bool, start: usize, end: usize) -> Known
-    ensures { λ r. ⌜ r ≡ pass.assetTarget (now (text .entry)) (now (notes .entry)) handler (between (now (text .entry)) start end) ⌝ }
+    ensures { λ r. ⌜ r ≡ draft.assetTarget (now (text .entry)) (now (notes .entry)) handler (between (now (text .entry)) start end) ⌝ }
 {
     let word = tokens::between(text, start, end);
     let mark = mark(word);
@@ -581,7 +600,7 @@ pub fn asset_target(text: &[u8], notes: &[u64], handler: bool, start: usize, end
 
 // Question 13 where a name is unknown.
 pub fn want(notes: &mut [u64], name: Known, place: usize)
-    ensures { λ _. ⌜ now (notes .exit) ≡ pass.wanted name place (now (notes .entry)) ⌝ }
+    ensures { λ _. ⌜ now (notes .exit) ≡ draft.wanted name place (now (notes .entry)) ⌝ }
 {
     let kind = name.kind;
     if kind == 0 {
@@ -593,24 +612,27 @@ pub fn want(notes: &mut [u64], name: Known, place: usize)
 
 // One more node; its size counts the nodes from `before` on.
 pub fn put(table: &mut [u64], notes: &mut [u64], kind: u64, argument: u64, before: usize)
-    ensures { λ _. ⌜ now (table .exit) ≡ (pass.put kind argument before (record { table = now (table .entry); notes = now (notes .entry) })) .table ⌝ }
-    ensures { λ _. ⌜ now (notes .exit) ≡ (pass.put kind argument before (record { table = now (table .entry); notes = now (notes .entry) })) .notes ⌝ }
+    ensures { λ _. ⌜ now (table .exit) ≡ (draft.put kind argument before (record { table = now (table .entry); notes = now (notes .entry) })) .table ⌝ }
+    ensures { λ _. ⌜ now (notes .exit) ≡ (draft.put kind argument before (record { table = now (table .entry); notes = now (notes .entry) })) .notes ⌝ }
 {
     let n = contract::word(notes, WRITTEN) as usize;
     if n < Contract::NODES {
         let size = if before < n { n - before + 1 } else { 1 };
-        let at = 8531 + 3 * n;
-        store(table, at, kind);
-        store(table, at + 1, argument);
-        store(table, at + 2, size as u64);
+        store_three(
+            table,
+            contract::NODES + Node::WORDS * n,
+            kind,
+            argument,
+            size as u64,
+        );
         store(notes, WRITTEN, n as u64 + 1);
     }
 }
 
 // A name's node.
 pub fn put_name(table: &mut [u64], notes: &mut [u64], name: Known, place: usize)
-    ensures { λ _. ⌜ now (table .exit) ≡ (pass.putName name place (record { table = now (table .entry); notes = now (notes .entry) })) .table ⌝ }
-    ensures { λ _. ⌜ now (notes .exit) ≡ (pass.putName name place (record { table = now (table .entry); notes = now (notes .entry) })) .notes ⌝ }
+    ensures { λ _. ⌜ now (table .exit) ≡ (draft.putName name place (record { table = now (table .entry); notes = now (notes .entry) })) .table ⌝ }
+    ensures { λ _. ⌜ now (notes .exit) ≡ (draft.putName name place (record { table = now (table .entry); notes = now (notes .entry) })) .notes ⌝ }
 {
     let before = contract::word(notes, WRITTEN) as usize;
     count(notes, NODE, place);
@@ -620,8 +642,8 @@ pub fn put_name(table: &mut [u64], notes: &mut [u64], name: Known, place: usize)
 
 // A node without parts that is no name.
 pub fn put_leaf(table: &mut [u64], notes: &mut [u64], kind: u64, argument: u64, place: usize)
-    ensures { λ _. ⌜ now (table .exit) ≡ (pass.putLeaf kind argument place (record { table = now (table .entry); notes = now (notes .entry) })) .table ⌝ }
-    ensures { λ _. ⌜ now (notes .exit) ≡ (pass.putLeaf kind argument place (record { table = now (table .entry); notes = now (notes .entry) })) .notes ⌝ }
+    ensures { λ _. ⌜ now (table .exit) ≡ (draft.putLeaf kind argument place (record { table = now (table .entry); notes = now (notes .entry) })) .table ⌝ }
+    ensures { λ _. ⌜ now (notes .exit) ≡ (draft.putLeaf kind argument place (record { table = now (table .entry); notes = now (notes .entry) })) .notes ⌝ }
 {
     let before = contract::word(notes, WRITTEN) as usize;
     count(notes, NODE, place);
@@ -630,48 +652,53 @@ pub fn put_leaf(table: &mut [u64], notes: &mut [u64], kind: u64, argument: u64, 
 
 // ---- Rows.
 
+// The number of a name among those of a kind; question 13 where it is not among them.
+fn use_name(text: &[u8], notes: &mut [u64], kind: usize, start: usize, end: usize) -> usize
+    ensures { λ r. ⌜ r ≡ draft.numberIn (now (text .entry)) (now (notes .entry)) kind (between (now (text .entry)) start end) ⌝ }
+    ensures { λ _. ⌜ now (notes .exit) ≡ draft.nameUsed (now (text .entry)) kind start end (now (notes .entry)) ⌝ }
+{
+    let number = number_of(text, notes, kind, start, end);
+    if many_of(notes, kind) <= number {
+        find(notes, questions::NAME_KIND, start);
+    }
+    number
+}
+
 // The party of the clause at hand.
 pub fn clause_party(text: &[u8], table: &mut [u64], notes: &mut [u64], start: usize, end: usize)
-    ensures { λ _. ⌜ now (table .exit) ≡ (pass.clauseParty (now (text .entry)) start end (record { table = now (table .entry); notes = now (notes .entry) })) .table ⌝ }
-    ensures { λ _. ⌜ now (notes .exit) ≡ (pass.clauseParty (now (text .entry)) start end (record { table = now (table .entry); notes = now (notes .entry) })) .notes ⌝ }
+    ensures { λ _. ⌜ now (table .exit) ≡ (draft.clauseParty (now (text .entry)) start end (record { table = now (table .entry); notes = now (notes .entry) })) .table ⌝ }
+    ensures { λ _. ⌜ now (notes .exit) ≡ (draft.clauseParty (now (text .entry)) start end (record { table = now (table .entry); notes = now (notes .entry) })) .notes ⌝ }
 {
-    let party = number_of(text, notes, PARTY, start, end);
     let row = contract::word(notes, CLAUSES) as usize;
+    let party = use_name(text, notes, PARTY, start, end);
     if row < Contract::CLAUSES {
-        store(table, 5027 + 35 * row, party as u64);
-    }
-    if many_of(notes, PARTY) <= party {
-        find(notes, questions::NAME_KIND, start);
+        store(table, contract::CLAUSES + Clause::WORDS * row, party as u64);
     }
 }
 
 // A party that a function names, and its number.
 pub fn use_party(text: &[u8], notes: &mut [u64], start: usize, end: usize) -> usize
-    ensures { λ r. ⌜ r ≡ pass.numberIn (now (text .entry)) (now (notes .entry)) 0 (between (now (text .entry)) start end) ⌝ }
-    ensures { λ _. ⌜ now (notes .exit) ≡ pass.partyUsed (now (text .entry)) start end (now (notes .entry)) ⌝ }
+    ensures { λ r. ⌜ r ≡ draft.numberIn (now (text .entry)) (now (notes .entry)) 0 (between (now (text .entry)) start end) ⌝ }
+    ensures { λ _. ⌜ now (notes .exit) ≡ draft.partyUsed (now (text .entry)) start end (now (notes .entry)) ⌝ }
 {
-    let party = number_of(text, notes, PARTY, start, end);
-    if many_of(notes, PARTY) <= party {
-        find(notes, questions::NAME_KIND, start);
-    }
-    party
+    use_name(text, notes, PARTY, start, end)
 }
 
 // Its verb: 0 for SET, 1 for OK.
 pub fn clause_verb(table: &mut [u64], notes: &[u64], verb: u64)
-    ensures { λ _. ⌜ now (table .exit) ≡ (pass.clauseVerb verb (record { table = now (table .entry); notes = now (notes .entry) })) .table ⌝ }
+    ensures { λ _. ⌜ now (table .exit) ≡ (draft.clauseVerb verb (record { table = now (table .entry); notes = now (notes .entry) })) .table ⌝ }
 {
     let row = contract::word(notes, CLAUSES) as usize;
     if row < Contract::CLAUSES {
-        store(table, 5027 + 35 * row + 1, verb);
+        store(table, contract::CLAUSES + Clause::WORDS * row + 1, verb);
     }
 }
 
 // Field number `field` in the row at `at`, the j-th there.
 fn field_at(table: &mut [u64], notes: &mut [u64], at: usize, j: u64, field: usize)
     requires { ⌜ at ≤ 300000 ⌝ }
-    ensures { λ _. ⌜ now (table .exit) ≡ (pass.fieldAt at j field (record { table = now (table .entry); notes = now (notes .entry) })) .table ⌝ }
-    ensures { λ _. ⌜ now (notes .exit) ≡ (pass.fieldAt at j field (record { table = now (table .entry); notes = now (notes .entry) })) .notes ⌝ }
+    ensures { λ _. ⌜ now (table .exit) ≡ (draft.fieldAt at j field (record { table = now (table .entry); notes = now (notes .entry) })) .table ⌝ }
+    ensures { λ _. ⌜ now (notes .exit) ≡ (draft.fieldAt at j field (record { table = now (table .entry); notes = now (notes .entry) })) .notes ⌝ }
 {
     if j < Contract::FIELDS as u64 {
         store(table, at + 3 + j as usize, field as u64);
@@ -683,16 +710,13 @@ fn field_at(table: &mut [u64], notes: &mut [u64], at: usize, j: u64, field: usiz
 
 // One more field of it.
 pub fn clause_field(text: &[u8], table: &mut [u64], notes: &mut [u64], start: usize, end: usize)
-    ensures { λ _. ⌜ now (table .exit) ≡ (pass.clauseField (now (text .entry)) start end (record { table = now (table .entry); notes = now (notes .entry) })) .table ⌝ }
-    ensures { λ _. ⌜ now (notes .exit) ≡ (pass.clauseField (now (text .entry)) start end (record { table = now (table .entry); notes = now (notes .entry) })) .notes ⌝ }
+    ensures { λ _. ⌜ now (table .exit) ≡ (draft.clauseField (now (text .entry)) start end (record { table = now (table .entry); notes = now (notes .entry) })) .table ⌝ }
+    ensures { λ _. ⌜ now (notes .exit) ≡ (draft.clauseField (now (text .entry)) start end (record { table = now (table .entry); notes = now (notes .entry) })) .notes ⌝ }
 {
-    let field = number_of(text, notes, FIELD, start, end);
     let row = contract::word(notes, CLAUSES) as usize;
-    if many_of(notes, FIELD) <= field {
-        find(notes, questions::NAME_KIND, start);
-    }
+    let field = use_name(text, notes, FIELD, start, end);
     if row < Contract::CLAUSES {
-        let at = 5027 + 35 * row;
+        let at = contract::CLAUSES + Clause::WORDS * row;
         let j = contract::word(table, at + 2);
         field_at(table, notes, at, j, field);
     }
@@ -700,7 +724,7 @@ pub fn clause_field(text: &[u8], table: &mut [u64], notes: &mut [u64], start: us
 
 // The end of the clause at hand.
 pub fn clause_end(notes: &mut [u64])
-    ensures { λ _. ⌜ now (notes .exit) ≡ pass.clauseEnd (now (notes .entry)) ⌝ }
+    ensures { λ _. ⌜ now (notes .exit) ≡ draft.clauseEnd (now (notes .entry)) ⌝ }
 {
     let row = contract::word(notes, CLAUSES);
     if row < Contract::CLAUSES as u64 {
@@ -712,13 +736,13 @@ pub fn clause_end(notes: &mut [u64])
 
 // The mark of a function's head.
 fn head_mark(state: usize, party: usize, word: &[u8]) -> u64
-    ensures { λ r. ⌜ r ≡ pass.headMark state party (now (word .entry)) ⌝ }
+    ensures { λ r. ⌜ r ≡ draft.headMark state party (now (word .entry)) ⌝ }
 {
     mark(word) + 16777216 * (16 * (state % 256) as u64 + (party % 16) as u64)
 }
 
 fn is_headed(text: &[u8], notes: &[u64], state: usize, party: usize, word: &[u8]) -> bool
-    ensures { λ r. ⌜ r ≡ pass.isHeaded (now (text .entry)) (now (notes .entry)) state party (now (word .entry)) ⌝ }
+    ensures { λ r. ⌜ r ≡ draft.isHeaded (now (text .entry)) (now (notes .entry)) state party (now (word .entry)) ⌝ }
 {
     let n = contract::word(notes, FUNCTIONS) as usize;
     let many = if n < Contract::FUNCTIONS {
@@ -727,7 +751,16 @@ fn is_headed(text: &[u8], notes: &[u64], state: usize, party: usize, word: &[u8]
         Contract::FUNCTIONS
     };
     let mark = head_mark(state, party, word);
-    find_from(text, notes, mark, word, 132, many) < many
+    find_from(text, notes, mark, word, FUNCTION_SLOT, many) < many
+}
+
+// Question 11 where there are as many functions as can be.
+fn ask_functions(notes: &mut [u64], place: usize)
+    ensures { λ _. ⌜ now (notes .exit) ≡ draft.functionsAsked place (now (notes .entry)) ⌝ }
+{
+    if Contract::FUNCTIONS as u64 <= contract::word(notes, FUNCTIONS) {
+        find(notes, questions::LIMITS, place);
+    }
 }
 
 // Questions 11 and 15 of a function's head.
@@ -740,13 +773,11 @@ fn head_notes(
     start: usize,
     end: usize,
 )
-    ensures { λ _. ⌜ now (notes .exit) ≡ pass.headNotes (now (text .entry)) place state party start end (now (notes .entry)) ⌝ }
+    ensures { λ _. ⌜ now (notes .exit) ≡ draft.headNotes (now (text .entry)) place state party start end (now (notes .entry)) ⌝ }
 {
     let word = tokens::between(text, start, end);
     let known = is_headed(text, notes, state, party, word);
-    if Contract::FUNCTIONS as u64 <= contract::word(notes, FUNCTIONS) {
-        find(notes, questions::LIMITS, place);
-    }
+    ask_functions(notes, place);
     if known {
         find(notes, questions::FUNCTION_NEW, start);
     }
@@ -764,16 +795,43 @@ fn write_head(
     end: usize,
 )
     requires { ⌜ i < 64 ⌝ }
-    ensures { λ _. ⌜ now (table .exit) ≡ (pass.headed (now (text .entry)) i state party start end (record { table = now (table .entry); notes = now (notes .entry) })) .table ⌝ }
-    ensures { λ _. ⌜ now (notes .exit) ≡ (pass.headed (now (text .entry)) i state party start end (record { table = now (table .entry); notes = now (notes .entry) })) .notes ⌝ }
+    ensures { λ _. ⌜ now (table .exit) ≡ (draft.headed (now (text .entry)) i state party start end (record { table = now (table .entry); notes = now (notes .entry) })) .table ⌝ }
+    ensures { λ _. ⌜ now (notes .exit) ≡ (draft.headed (now (text .entry)) i state party start end (record { table = now (table .entry); notes = now (notes .entry) })) .notes ⌝ }
 {
     let word = tokens::between(text, start, end);
-    let at = 5587 + 43 * i;
+    let at = contract::FUNCTIONS + Function::WORDS * i;
     store(table, at, state as u64);
     store(table, at + 1, party as u64);
     write_row(table, at + 10, word);
-    write_slot(notes, 132 + i, head_mark(state, party, word), start, end);
+    write_slot(
+        notes,
+        FUNCTION_SLOT + i,
+        head_mark(state, party, word),
+        start,
+        end,
+    );
     store(notes, FUNCTIONS, i as u64 + 1);
+}
+
+// One more head, within the limit; questions 11 and 15.
+fn enter_head(
+    text: &[u8],
+    table: &mut [u64],
+    notes: &mut [u64],
+    place: usize,
+    state: usize,
+    party: usize,
+    start: usize,
+    end: usize,
+)
+    ensures { λ _. ⌜ now (table .exit) ≡ (draft.headEntered (now (text .entry)) place state party start end (record { table = now (table .entry); notes = now (notes .entry) })) .table ⌝ }
+    ensures { λ _. ⌜ now (notes .exit) ≡ (draft.headEntered (now (text .entry)) place state party start end (record { table = now (table .entry); notes = now (notes .entry) })) .notes ⌝ }
+{
+    let n = contract::word(notes, FUNCTIONS) as usize;
+    head_notes(text, notes, place, state, party, start, end);
+    if n < Contract::FUNCTIONS {
+        write_head(text, table, notes, n, state, party, start, end);
+    }
 }
 
 // A function's head: its place, its state's and its party's number, its name.
@@ -787,14 +845,10 @@ pub fn head(
     start: usize,
     end: usize,
 )
-    ensures { λ _. ⌜ now (table .exit) ≡ (pass.head (now (text .entry)) place state party start end (record { table = now (table .entry); notes = now (notes .entry) })) .table ⌝ }
-    ensures { λ _. ⌜ now (notes .exit) ≡ (pass.head (now (text .entry)) place state party start end (record { table = now (table .entry); notes = now (notes .entry) })) .notes ⌝ }
+    ensures { λ _. ⌜ now (table .exit) ≡ (draft.head (now (text .entry)) place state party start end (record { table = now (table .entry); notes = now (notes .entry) })) .table ⌝ }
+    ensures { λ _. ⌜ now (notes .exit) ≡ (draft.head (now (text .entry)) place state party start end (record { table = now (table .entry); notes = now (notes .entry) })) .notes ⌝ }
 {
-    let n = contract::word(notes, FUNCTIONS) as usize;
-    head_notes(text, notes, place, state, party, start, end);
-    if n < Contract::FUNCTIONS {
-        write_head(text, table, notes, n, state, party, start, end);
-    }
+    enter_head(text, table, notes, place, state, party, start, end);
     store(notes, VALUE, 0);
     store(notes, PARAMETER, 0);
 }
@@ -810,16 +864,20 @@ pub struct Rest {
 }
 
 pub fn function_rest(table: &mut [u64], notes: &[u64], i: usize, rest: Rest)
-    ensures { λ _. ⌜ now (table .exit) ≡ (pass.functionRest i (rest .last) (rest .first) (rest .precondition) (rest .body) (rest .event) (rest .events) (record { table = now (table .entry); notes = now (notes .entry) })) .table ⌝ }
+    ensures { λ _. ⌜ now (table .exit) ≡ (draft.functionRest i (rest .last) (rest .first) (rest .precondition) (rest .body) (rest .event) (rest .events) (record { table = now (table .entry); notes = now (notes .entry) })) .table ⌝ }
 {
     if i < Contract::FUNCTIONS {
-        let at = 5587 + 43 * i + 2;
-        store(table, at, rest.last as u64);
-        store(table, at + 1, contract::word(notes, VALUE));
-        store(table, at + 2, contract::word(notes, PARAMETER));
-        store(table, at + 3, rest.first as u64);
-        store(table, at + 4, rest.precondition as u64);
-        store(table, at + 5, rest.body as u64);
+        let at = contract::FUNCTIONS + Function::WORDS * i + 2;
+        let values = contract::word(notes, VALUE);
+        let parameters = contract::word(notes, PARAMETER);
+        store_three(table, at, rest.last as u64, values, parameters);
+        store_three(
+            table,
+            at + 3,
+            rest.first as u64,
+            rest.precondition as u64,
+            rest.body as u64,
+        );
         store(table, at + 6, rest.event as u64);
         store(table, at + 7, rest.events as u64);
     }
@@ -827,36 +885,38 @@ pub fn function_rest(table: &mut [u64], notes: &[u64], i: usize, rest: Rest)
 
 // An event's row.
 pub fn event_row(table: &mut [u64], i: usize, state: usize, last: usize, node: usize)
-    ensures { λ _. ⌜ now (table .exit) ≡ pass.eventRow i state last node (now (table .entry)) ⌝ }
+    ensures { λ _. ⌜ now (table .exit) ≡ draft.eventRow i state last node (now (table .entry)) ⌝ }
 {
     if i < Contract::EVENTS {
-        let at = 8339 + 3 * i;
-        store(table, at, state as u64);
-        store(table, at + 1, last as u64);
-        store(table, at + 2, node as u64);
+        let at = contract::EVENTS + Event::WORDS * i;
+        store_three(table, at, state as u64, last as u64, node as u64);
     }
 }
 
 // The contract's name.
 pub fn title(text: &[u8], table: &mut [u64], start: usize, end: usize)
-    ensures { λ _. ⌜ now (table .exit) ≡ pass.title (now (text .entry)) start end (now (table .entry)) ⌝ }
+    ensures { λ _. ⌜ now (table .exit) ≡ draft.title (now (text .entry)) start end (now (table .entry)) ⌝ }
 {
-    write_row(table, 10, tokens::between(text, start, end));
+    write_row(table, contract::NAME, tokens::between(text, start, end));
+}
+
+// Three words of the notes, from word `at` of the table on.
+fn copy_three(table: &mut [u64], at: usize, notes: &[u64], i: usize, j: usize, k: usize)
+    requires { ⌜ at ≤ 300000 ⌝ }
+    ensures { λ _. ⌜ now (table .exit) ≡ sets (now (table .entry)) at (draft.note (now (notes .entry)) i ∷ draft.note (now (notes .entry)) j ∷ draft.note (now (notes .entry)) k ∷ []) ⌝ }
+{
+    let a = contract::word(notes, i);
+    let b = contract::word(notes, j);
+    store_three(table, at, a, b, contract::word(notes, k));
 }
 
 // How many there are of each, and the initial state.
 pub fn write_counts(table: &mut [u64], notes: &[u64], initial: usize)
-    ensures { λ _. ⌜ now (table .exit) ≡ pass.counts initial (now (notes .entry)) (now (table .entry)) ⌝ }
+    ensures { λ _. ⌜ now (table .exit) ≡ draft.counts initial (now (notes .entry)) (now (table .entry)) ⌝ }
 {
-    store(table, 0, contract::word(notes, PARTY));
-    store(table, 1, contract::word(notes, ASSET));
-    store(table, 2, contract::word(notes, FIELD));
-    store(table, 3, contract::word(notes, STATE));
-    store(table, 4, contract::word(notes, STRING));
-    store(table, 5, contract::word(notes, CLAUSES));
-    store(table, 6, contract::word(notes, FUNCTIONS));
-    store(table, 7, contract::word(notes, EVENT));
-    store(table, 8, contract::word(notes, WRITTEN));
+    copy_three(table, 0, notes, PARTY, ASSET, FIELD);
+    copy_three(table, 3, notes, STATE, STRING, CLAUSES);
+    copy_three(table, 6, notes, FUNCTIONS, EVENT, WRITTEN);
     store(table, 9, initial as u64);
 }
 

@@ -1,3 +1,4 @@
 pub mod Fuel
 pub mod Values
 pub mod Truths
+pub mod Refusals

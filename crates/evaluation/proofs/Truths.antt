@@ -24,7 +24,7 @@ use Rattle.contract.specs.Decode.{comparisonOf, expressionAt, conditionAt}
 use Rattle.evaluation.specs.declared.Run.{Run}
 use Rattle.evaluation.specs.Memory.{Memory}
 use Rattle.evaluation.specs.Meaning.{refusalOf, valueOf, comparison, negated, conjunction, disjunction, truthOf}
-use Rattle.evaluation.specs.Nodes.{comparedAt, simpleAt, runFrom, turnedBy}
+use Rattle.evaluation.specs.Private.{comparedAt, simpleAt, runFrom, turnedBy}
 use Rattle.evaluation.proofs.Fuel.{leftAt, partsOver, condition-node}
 use Rattle.evaluation.proofs.Values.{pick-ap}
 

@@ -1,3 +1,3 @@
 pub mod Memory
 pub mod Meaning
-pub mod Nodes
+pub mod Private

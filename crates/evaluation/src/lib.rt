@@ -12,7 +12,7 @@ ghost use Rattle.contract.specs.Table.{sizeAt, andKind};
 ghost use Rattle.contract.specs.Decode.{operatorOf, comparisonOf, leafOf, expressionAt, conditionAt};
 ghost use Rattle.evaluation.specs.Memory.{memoryOf};
 ghost use Rattle.evaluation.specs.Meaning.{refusalOf, fieldValue, valueOf, truthOf};
-ghost use Rattle.evaluation.specs.Nodes.{comparedAt, simpleAt, runFrom, turnedBy};
+ghost use Rattle.evaluation.specs.Private.{comparedAt, simpleAt, runFrom, turnedBy};
 use contract::Contract;
 use contract::Node;
 use numbers::Answer;

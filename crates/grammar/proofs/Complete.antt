@@ -1,7 +1,7 @@
 -- What tokens derive, the grammar reads: the next token chooses each production. Assumes nothing.
 use mathlib.Core.Path.{_≡_, refl, sym, ap, subst, _∙_}
-use mathlib.Core.Bool.{true, false, not}
-use mathlib.Core.List.{List, [], _∷_, _++_}
+use mathlib.Core.Bool.{true, false}
+use mathlib.Core.List.{List, [], _∷_, _++_, append-assoc}
 use Prim.Native.Nat.{ℕ, zero, suc, _+_, _-_, _<_, _≤_}
 use native.Mathlib.Omega.{arith}
 use lib.ListN.{length}
@@ -15,12 +15,15 @@ use Rattle.tokens.specs.declared.Lexed.{Lexed}
 use Rattle.tokens.specs.declared.Lexed.the-variants.{Found, End}
 use Rattle.tokens.proofs.Facts.{progress}
 use Rattle.contract.specs.Tree.{Verb}
-use Rattle.contract.specs.Fits.{every}
-use Rattle.reader.specs.Syntax.{Span, Term, named, numeral, quoted, fixed, operated, Action, Block, none, perform, Event, Body, Precondition, Function, Clause, Syntax}
-use Rattle.reader.specs.Grammar.{Parsed, done, no, Parser, andThen, give, onFound, isOneOf, operators, itemStarts, negatedAt, leafOf, maxLevels, misfit, nextIn, ifNext, tokenIn, token, place, repeated, row, name, names, state, chain, factor, sum, insideExpression, expression, comparison, simple, primary, choice, insideCondition, condition, wholeMove, assetMove, action, statement, braces, conditionalAfter, event, beforeEvents, bodyItem, body, parametersIn, precondition, function, verb, clause, line, endsOn, ending, contract, parse}
-use Rattle.reader.specs.Grammar as reader
-use Rattle.grammar.specs.Derivations.{Tokens, TokensOf, In, Is, Starts, StartsNot, startOf, spanOf, Names, State, leaves, Chain, Factor, Product, Sum, InsideExpression, Expression, comparisons, Simple, Primary, Conjunction, Disjunction, InsideCondition, Condition, ActionOf, Braced, Guarded, Row, Conditional, Statements, EventOf, BodyOf, Parameters, PreconditionOf, Straight, FunctionOf, Each, VerbOf, Fields, ClauseOf, Line, Derives}
-use Rattle.grammar.proofs.Laws.{append-append, starts-append, apart, other, wider, starts-wider, kind-is}
+use Rattle.laws.specs.Lists.{every}
+use Rattle.reading.specs.Syntax.{Span, Term, named, numeral, quoted, fixed, operated, Action, Block, none, perform, Event, Body, Precondition, Function, Clause, Syntax}
+use Rattle.reading.specs.Grammar.{Parsed, done, no, Parser, andThen, give, onFound, isOneOf, operators, itemStarts, negatedAt, leafOf, maxLevels, misfit, nextIn, ifNext, tokenIn, token, place, repeated, row, name, names, state, chain, factor, sum, insideExpression, expression, comparison, simple}
+use Rattle.reading.specs.Grammar.{primary, choice, insideCondition, condition, wholeMove, assetMove, action, statement, braces, conditionalAfter, event, beforeEvents, bodyItem, body, parametersIn, precondition, function, verb, clause, line, endsOn, ending, contract, parse}
+use Rattle.reading.specs.Grammar as reader
+use Rattle.grammar.specs.Derivations.{Tokens, TokensOf, In, Is, Starts, StartsNot, startOf, spanOf, Names, State, leaves, Chain, Factor, Product, Sum, InsideExpression, Expression, comparisons, Simple, Primary, Conjunction, Disjunction, InsideCondition, Condition, ActionOf, Braced, Guarded}
+use Rattle.grammar.specs.Derivations.{Row, Conditional, Statements, EventOf, BodyOf, Parameters, PreconditionOf, Straight, FunctionOf, Each, VerbOf, Fields, ClauseOf, Line, Derives}
+use Rattle.reading.proofs.TokenKinds.{apart, other, wider, kind-is}
+use Rattle.grammar.proofs.Laws.{starts-append, starts-wider}
 use Rattle.grammar.proofs.Sound.{next-found, placeAt, place-first, place-token, state-starts}
 
 then-done : {A B : Type 0} {a : A} {n : ℕ} {x : Parsed B} (r : Parsed A) (f : A → Parser B) → r ≡ done a n → f a n ≡ x → andThen r f ≡ x
@@ -601,7 +604,7 @@ module _ (s : List ℕ) where
       let y8 = tokens-split (y7 .0) xs (w ∷ rs) m (y7 .2) in
       let z8 = y8 .2 in
       let b = braced-starts BodyOf i xs (w ∷ rs) hi in
-      let u5 = unless-straight (f .end) us (vs ++ ws) (xs ++ (w ∷ rs)) m st b (subst (λ (os : List Token). Tokens s (f .end) (us ++ os) m) (sym (append-append vs ws (xs ++ (w ∷ rs)))) r5) in
+      let u5 = unless-straight (f .end) us (vs ++ ws) (xs ++ (w ∷ rs)) m st b (subst (λ (os : List Token). Tokens s (f .end) (us ++ os) m) (sym (append-assoc vs ws (xs ++ (w ∷ rs)))) r5) in
       let u6 = unless-next openBracket (y5 .0) vs (y6 .0) (y6 .1) (next-not openBracket (openBrace ∷ []) (y6 .0) ws (xs ++ (w ∷ rs)) m refl (precondition-not t ws ht) b (y6 .2)) in
       then-done _ _ (place-done at)
       (then-done _ _ (state-complete q ts at (y1 .0) hq (y1 .1))

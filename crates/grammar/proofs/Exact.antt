@@ -9,11 +9,11 @@ use borrow.Author.Tests.{le-leb, leb-true, eqb-true, eq-eqb}
 use Rattle.laws.proofs.Choice.{pick-true, by-cases}
 use Rattle.contract.specs.Tree.{Contract}
 use Rattle.contract.specs.Table.{tableLength}
-use Rattle.reader.specs.Syntax.{Syntax}
-use Rattle.reader.specs.Grammar.{Parsed, done, no, parse}
-use Rattle.reader.specs.Items.{items}
-use Rattle.reader.specs.Rules.{Finding, fine, breaks, judged}
-use Rattle.reader.specs.Reading.{maxText, Reading, accepted, refused, ruled, parsed, readText}
+use Rattle.reading.specs.Syntax.{Syntax}
+use Rattle.reading.specs.Grammar.{Parsed, done, no, parse}
+use Rattle.reading.specs.Items.{items}
+use Rattle.reading.specs.Rules.{Finding, fine, breaks, judged}
+use Rattle.reading.specs.Reading.{maxText, Reading, accepted, refused, ruled, parsed, readText}
 use Rattle.grammar.specs.Meaning.{Means}
 use Rattle.grammar.proofs.Sound.{parse-sound}
 use Rattle.grammar.proofs.Complete.{parse-complete}

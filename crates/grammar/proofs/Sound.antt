@@ -1,7 +1,7 @@
 -- What the grammar reads, its tokens derive. Assumes nothing.
 use mathlib.Core.Path.{_≡_, refl, sym, ap, subst, _∙_}
 use mathlib.Core.Bool.{false}
-use mathlib.Core.List.{List, [], _∷_, _++_}
+use mathlib.Core.List.{List, [], _∷_, _++_, append-assoc, append-nil}
 use Prim.Native.Nat.{ℕ, zero, suc}
 use lib.ListN.{length}
 use lib.Dec.{eqb}
@@ -12,12 +12,15 @@ use Rattle.tokens.specs.Tokens.{tokenAt, name as nameKind, number as numberKind
 use Rattle.tokens.specs.declared.Token.{Token}
 use Rattle.tokens.specs.declared.Lexed.{Lexed}
 use Rattle.tokens.specs.declared.Lexed.the-variants.{Found, Refused, End}
-use Rattle.contract.specs.Fits.{every}
-use Rattle.reader.specs.Syntax.{Span, Term, named, numeral, quoted, fixed, negated, operated, Block, none, perform, Event, Body, Syntax}
-use Rattle.reader.specs.Grammar.{Parsed, done, no, Parser, andThen, give, onFound, isOneOf, operators, itemStarts, leafOf, negatedAt, withStatements, maxLevels, unfit, misfit, nextIn, ifNext, tokenIn, token, place, repeated, row, name, names, state, chain, factor, sum, insideExpression, expression, comparison, simple, primary, choice, insideCondition, condition, wholeMove, assetMove, action, statement, braces, conditionalAfter, event, beforeEvents, bodyItem, body, parametersIn, precondition, function, verb, clause, line, endsOn, ending, contract, parse}
-use Rattle.reader.specs.Grammar as reader
-use Rattle.grammar.specs.Derivations.{Tokens, TokensOf, In, Is, Starts, startOf, spanOf, Names, State, leaves, Chain, Factor, Product, Sum, InsideExpression, Expression, comparisons, Simple, Primary, Conjunction, Disjunction, InsideCondition, Condition, ActionOf, Braced, Guarded, Row, Conditional, Statements, EventOf, BodyOf, Parameters, PreconditionOf, Straight, FunctionOf, Each, VerbOf, Fields, ClauseOf, Line, Derives}
-use Rattle.grammar.proofs.Laws.{append-none, append-append, snoc-some, starts-append, drop-first, wider, is-kind, one-fewer}
+use Rattle.laws.specs.Lists.{every}
+use Rattle.reading.specs.Syntax.{Span, Term, named, numeral, quoted, fixed, negated, operated, Block, none, perform, Event, Body, Syntax}
+use Rattle.reading.specs.Grammar.{Parsed, done, no, Parser, andThen, give, onFound, isOneOf, operators, itemStarts, leafOf, negatedAt, withStatements, maxLevels, unfit, misfit, nextIn, ifNext, tokenIn, token, place, repeated, row, name, names, state, chain, factor, sum, insideExpression, expression}
+use Rattle.reading.specs.Grammar.{comparison, simple, primary, choice, insideCondition, condition, wholeMove, assetMove, action, statement, braces, conditionalAfter, event, beforeEvents, bodyItem, body, parametersIn, precondition, function, verb, clause, line, endsOn, ending, contract, parse}
+use Rattle.reading.specs.Grammar as reader
+use Rattle.grammar.specs.Derivations.{Tokens, TokensOf, In, Is, Starts, startOf, spanOf, Names, State, leaves, Chain, Factor, Product, Sum, InsideExpression, Expression, comparisons, Simple, Primary, Conjunction, Disjunction, InsideCondition, Condition, ActionOf, Braced, Guarded, Row}
+use Rattle.grammar.specs.Derivations.{Conditional, Statements, EventOf, BodyOf, Parameters, PreconditionOf, Straight, FunctionOf, Each, VerbOf, Fields, ClauseOf, Line, Derives}
+use Rattle.reading.proofs.TokenKinds.{wider, is-kind, one-fewer}
+use Rattle.grammar.proofs.Laws.{snoc-some, starts-append, drop-first}
 
 module _ (s : List ℕ) where
   -- ---- what a parser's result derives
@@ -111,12 +114,12 @@ module _ (s : List ℕ) where
       → ((a : A) (ts : List Token) (at : ℕ) → P a ts → Yields (λ b us. P b (ts ++ us)) at (part a at)) → (f : ℕ) (a : A) (ts : List Token) (at : ℕ) → P a ts
       → Yields (λ b us. P b (ts ++ us)) at (repeated s starts part f a at)
   unfolding repeated
-  repeated-yields P starts part h zero a ts at p = yields-give _ at a (subst (P a) (sym (append-none ts)) p)
+  repeated-yields P starts part h zero a ts at p = yields-give _ at a (subst (P a) (sym (append-nil ts)) p)
   repeated-yields P starts part h (suc f) a ts at p =
       by-cases (Yields (λ b us. P b (ts ++ us)) at) (nextIn s starts at) _ _
       (λ _. yields-then _ _ at (part a at) (repeated s starts part f) (h a ts at p) λ b n us _ q.
-      yields-map _ _ n _ (repeated-yields P starts part h f b (ts ++ us) n q) λ c vs r. subst (P c) (append-append ts us vs) r)
-      (λ _. yields-give _ at a (subst (P a) (sym (append-none ts)) p))
+      yields-map _ _ n _ (repeated-yields P starts part h f b (ts ++ us) n q) λ c vs r. subst (P c) (append-assoc ts us vs) r)
+      (λ _. yields-give _ at a (subst (P a) (sym (append-nil ts)) p))
 
   -- ---- names
 
@@ -255,7 +258,7 @@ module _ (s : List ℕ) where
       yields-then (Before n R) _ at (row s (notMark ∷ []) _ [] at) _
       (repeated-yields (Before n R) (notMark ∷ []) _
       (λ ps ts m h. yields-token _ (notMark ∷ []) m _ λ o _ k. yields-give _ (o .end) _
-      (λ t us d. subst (Primary n R (negatedAt ps (negated (o .start) t))) (sym (append-append ts (o ∷ []) us)) (h (negated (o .start) t) (o ∷ us) (Primary.negate o k d))))
+      (λ t us d. subst (Primary n R (negatedAt ps (negated (o .start) t))) (sym (append-assoc ts (o ∷ []) us)) (h (negated (o .start) t) (o ∷ us) (Primary.negate o k d))))
       (length s) [] [] at (λ t us d. d)) λ ps m ts _ h.
       yields-last (Simple n R) _ m (simple s n inside m) (negatedAt ps) (simple-sound n R inside g m) λ t _ us _ d. h t us (Primary.simple d)
 

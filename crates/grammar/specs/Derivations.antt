@@ -4,13 +4,14 @@ use Prim.Native.Nat.{ℕ, zero, suc, _+_, _-_}
 use mathlib.Core.Path.{_≡_}
 use mathlib.Core.Bool.{true, false}
 use mathlib.Core.List.{List, [], _∷_, _++_}
-use Rattle.words.specs.Words.{legalContract, assets as assetsWord, fields as fieldsWord, agreement as agreementWord, nowWord, trueWord, falseWord, setArrow, okArrow, valueArrow, assetArrow, stateArrow, eventMark, equal, unequal, atMost, atLeast, andMark, orMark, openParen, closeParen, openBrace, closeBrace, openBracket, closeBracket, comma, colon, atSign, underscore, plusMark, minusMark, timesMark, overMark, less, greater, notMark}
+use Rattle.words.specs.Words.{legalContract, assets as assetsWord, fields as fieldsWord, agreement as agreementWord, nowWord, trueWord, falseWord, setArrow, okArrow, valueArrow, assetArrow, stateArrow, eventMark, equal, unequal, atMost, atLeast, andMark, orMark, openParen, closeParen, openBrace}
+use Rattle.words.specs.Words.{closeBrace, openBracket, closeBracket, comma, colon, atSign, underscore, plusMark, minusMark, timesMark, overMark, less, greater, notMark}
 use Rattle.tokens.specs.Tokens.{tokenAt, name as nameKind, number as numberKind, string as stringKind}
 use Rattle.tokens.specs.declared.Token.{Token}
 use Rattle.tokens.specs.declared.Lexed.the-variants.{Found, End}
 use Rattle.contract.specs.Tree.{Verb, set, ok}
-use Rattle.reader.specs.Syntax.{Span, Term, named, numeral, quoted, fixed, negated, operated, Action, sends, moves, movesAll, Block, none, perform, conditional, Event, Body, Precondition, omitted, given, Function, Clause, Syntax}
-use Rattle.reader.specs.Grammar.{isOneOf, maxLevels}
+use Rattle.reading.specs.Syntax.{Span, Term, named, numeral, quoted, fixed, negated, operated, Action, sends, moves, movesAll, Block, none, perform, conditional, Event, Body, Precondition, omitted, given, Function, Clause, Syntax}
+use Rattle.reading.specs.Grammar.{isOneOf, maxLevels}
 
 -- ---- tokens
 

@@ -4,10 +4,10 @@ use mathlib.Core.Path.{_≡_}
 use mathlib.Core.List.{List, []}
 use Rattle.tokens.specs.declared.Token.{Token}
 use Rattle.contract.specs.Tree.{Contract}
-use Rattle.reader.specs.Syntax.{Syntax}
-use Rattle.reader.specs.Items.{items}
-use Rattle.reader.specs.Rules.{fine, judged}
-use Rattle.reader.specs.Resolve.{resolve}
+use Rattle.reading.specs.Syntax.{Syntax}
+use Rattle.reading.specs.Items.{items}
+use Rattle.reading.specs.Rules.{fine, judged}
+use Rattle.reading.specs.Resolve.{resolve}
 use Rattle.grammar.specs.Derivations.{TokensOf, Derives}
 
 pub record Means (s : List ℕ) (k : Contract) : Type 0 where

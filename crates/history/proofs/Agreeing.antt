@@ -15,13 +15,16 @@ use Rattle.numbers.specs.Numbers.{within, eqZ}
 use Rattle.contract.specs.Limits.{top, maxFields}
 use Rattle.contract.specs.Tree.{Verb, Clause, Contract}
 use Rattle.contract.specs.Tree as tree
-use Rattle.contract.specs.Fits.{every, clauseIn}
-use Rattle.contract.proofs.Fitting.{both-left, both-right, both-true, every-head, every-tail, fits-clause}
+use Rattle.contract.specs.Fits.{clauseIn}
+use Rattle.laws.proofs.Members.{every-head, every-tail}
+use Rattle.laws.proofs.Truths.{both-left, both-right, both-true}
+use Rattle.laws.specs.Lists.{every}
+use Rattle.contract.proofs.Fitting.{fits-clause}
 use Rattle.state.specs.declared.State.{State}
 use Rattle.state.specs.States.{fieldOk}
-use Rattle.machine.specs.Agreement.{Part, setFields, setClause, setClauses}
-use Rattle.history.proofs.Values.{Fields, fields-set}
-use Rattle.history.proofs.Good.{Assets, asset-unused}
+use Rattle.agreements.specs.Agreement.{Part, setFields, setClause, setClauses}
+use Rattle.history.proofs.ValuesInRange.{Fields, fields-set}
+use Rattle.history.proofs.GoodState.{Assets, asset-unused}
 
 -- a state with other fields
 abbrev pub filled : State → List ℕ → List ℤ → State

@@ -13,35 +13,35 @@ use Rattle.numbers.specs.Numbers.{within}
 use Rattle.tokens.specs.Tokens.{between}
 use Rattle.contract.specs.Limits.{maxFields, maxAssets}
 use Rattle.contract.specs.Tree.{Contract}
-use Rattle.contract.specs.Fits.{every}
+use Rattle.laws.proofs.Members.{below-at, repeated-at, repeated-length, every-append}
+use Rattle.laws.proofs.Truths.{both-true}
+use Rattle.laws.specs.Lists.{every}
 use Rattle.contract.specs.Decode.{contractOf}
 use Rattle.contract.specs.Check.{passes}
-use Rattle.contract.proofs.Fitting.{both-true, FitsContract, fits-contract}
-use Rattle.contract.proofs.Sound.{sound}
+use Rattle.contract.proofs.Fitting.{FitsContract, fits-contract}
+use Rattle.contract_laws.proofs.Sound.{sound}
 use Rattle.state.specs.declared.State.{State}
 use Rattle.state.specs.declared.Due.{Due}
 use Rattle.state.specs.declared.Due.the-variants as due
 use Rattle.state.specs.States.{maxPending, blank, freshAt, used, fieldSlotOk, assetSlotOk, pendingSlotOk, stateOk, dueIn}
-use Rattle.state.proofs.Below.{below-at}
-use Rattle.state.proofs.Fresh.{repeated-at}
 use Rattle.state.proofs.Within as state
 use Rattle.state.proofs.Within.{Within}
 use Rattle.statements.specs.Running.{maxLabels}
 use Rattle.lines.specs.Lines.{Asked, asked}
 use Rattle.lines.specs.Lines as lines
 use Rattle.results.specs.Lines.{reportOk}
-use Rattle.machine.specs.declared.Stepped.{Stepped}
+use Rattle.outcomes.specs.declared.Stepped.{Stepped}
 use Rattle.machine.specs.Steps.{called, fired, ticked, step}
-use Rattle.machine.specs.Agreement.{agreedOn}
-use Rattle.machine.specs.Sessions.{partsSaid, invocationIn, takenBy, told, maxTold, endOfLine, Turn, wait, turnByDue, turnAt, Session, here, before, onTurn, sessionFor, session}
+use Rattle.agreements.specs.Agreement.{agreedOn}
+use Rattle.step_reports.specs.Reports.{told, maxTold}
+use Rattle.machine.specs.Sessions.{partsSaid, invocationIn, takenBy, endOfLine, Turn, wait, turnByDue, turnAt, Session, here, before, onTurn, sessionFor, session}
 use Rattle.machine.specs.Sessions as sessions
 use Rattle.history.specs.Histories.{agreement, call, firing, tick, within64}
 use Rattle.history.specs.Sessions.{Stored, askedBy, askedTurnByDue, askedTurnAt, askedSessionFor, askedSession}
-use Rattle.history.proofs.Good.{Good, good-ok}
-use Rattle.history.proofs.Kept.{request-good}
-use Rattle.history.proofs.Sums.{length-repeated, every-append}
+use Rattle.history.proofs.GoodState.{Good, good-ok}
+use Rattle.history.proofs.StepsKeepGood.{request-good}
 use Rattle.history.proofs.Reported.{Fine, refused-fine, fine-told, request-fine}
-use Rattle.history.proofs.Said.{LineIn, parts-in, asked-in}
+use Rattle.history.proofs.LineIntegers.{LineIn, parts-in, asked-in}
 
 -- a state that code holds and that passes question 4 is good
 pub stored-good : (c : Contract) (s : State) → Stored s → stateOk c s ≡ true → Good c s
@@ -78,11 +78,11 @@ pub fresh-stored : (clock : ℕ) → Stored (freshAt clock)
 unfolding freshAt
 fresh-stored clock =
     record {
-      kinds = length-repeated {A = ℕ} maxFields 0;
-      numbers = length-repeated maxFields (pos 0);
-      texts = length-repeated {A = ℕ} maxFields 0;
-      assets = length-repeated {A = ℕ} maxAssets 0;
-      events = length-repeated maxPending blank;
+      kinds = repeated-length {A = ℕ} maxFields 0;
+      numbers = repeated-length maxFields (pos 0);
+      texts = repeated-length {A = ℕ} maxFields 0;
+      assets = repeated-length {A = ℕ} maxAssets 0;
+      events = repeated-length maxPending blank;
       integers = λ i _ p. within (repeated-at maxFields (pos 0) i p);
     }
 

@@ -18,8 +18,8 @@ use Rattle.contract.specs.Limits.{top, maxAssets}
 use Rattle.contract.specs.Tree.{Event, Function, Contract}
 use Rattle.contract.specs.Decode.{contractOf}
 use Rattle.contract.specs.Check.{passes}
-use Rattle.contract.specs.Fits.{every}
-use Rattle.contract.proofs.Fitting.{both-left, both-right}
+use Rattle.laws.proofs.Truths.{both-left, both-right}
+use Rattle.laws.specs.Lists.{every}
 use Rattle.state.specs.declared.State.{State}
 use Rattle.state.specs.declared.Pending.{Pending}
 use Rattle.state.specs.declared.Due.{Due}
@@ -27,12 +27,14 @@ use Rattle.state.specs.declared.Due.the-variants as due
 use Rattle.state.specs.States.{blank, noFunction, eventOf, live, stateOk, dueIn, lapsed, removed, maxPending}
 use Rattle.statements.specs.declared.Work.{Work}
 use Rattle.statements.specs.Running.{memoryIn, ran}
-use Rattle.machine.specs.declared.Rule.the-variants.{Agree, Call, EventMatch, Tick}
-use Rattle.machine.specs.declared.Outcome.the-variants.{Accepted, Failed, Refused}
-use Rattle.machine.specs.declared.Stepped.{Stepped}
-use Rattle.machine.specs.Steps.{answered, refused, accepted, begun, ended, Invocation, amounts, Chosen, chosen, answersTo, choose, preconditionHolds, Scheduled, times, no, schedule, withScheduled, finished, byPrecondition, invoked, byChosen, callByDue, called, handled, fireByDue, fired, later, tickByDue, ticked, step}
-use Rattle.machine.specs.Agreement.{Part, setClauses, opened, agreedOn}
-use Rattle.history.specs.Histories.{Request, agreement, call, firing, tick, Asked, requested, answerTo}
+use Rattle.outcomes.specs.declared.Rule.the-variants.{Agree, Call, EventMatch, Tick}
+use Rattle.outcomes.specs.declared.Outcome.the-variants.{Accepted, Failed, Refused}
+use Rattle.outcomes.specs.declared.Stepped.{Stepped}
+use Rattle.outcomes.specs.Outcomes.{answered, refused}
+use Rattle.holdings.specs.Holdings.{amounts}
+use Rattle.machine.specs.Steps.{accepted, begun, ended, Invocation, Chosen, chosen, answersTo, choose, preconditionHolds, Scheduled, times, no, schedule, withScheduled, finished, byPrecondition, invoked, byChosen, callByDue, called, handled, fireByDue, fired, later, tickByDue, ticked, step}
+use Rattle.agreements.specs.Agreement.{Part, setClauses, opened, agreedOn}
+use Rattle.history.specs.Histories.{Request, agreement, call, firing, tick, Step, requested, answerTo}
 
 -- the work of a call's body, and of the handler of an event
 abbrev pub bodyRan : State → Invocation → Function → Work
@@ -58,16 +60,16 @@ pub record CallOk (c : Contract) (s : State) (i : Invocation) (n : ℕ) (f : Fun
   pub given : schedule (memoryIn (i .values) (s .clock) (bodyRan s i f)) (s .clock) n 0 (f .events) ≡ times ps
   pub room : length (live s) + length ps ≤ maxPending
 
-pub data Came (c : Contract) (s : State) : Request → Stepped → Type 0 where
-  refusal : {q : Request} (n : ℕ) → Came c s q (refused s n)
-  agrees : (ps : List Part) → s .agreed ≡ false → Came c s (agreement ps) (answered (Accepted Agree) (opened c (setClauses s (c .clauses) ps)))
+pub data ComesOut (c : Contract) (s : State) : Request → Stepped → Type 0 where
+  refusal : {q : Request} (n : ℕ) → ComesOut c s q (refused s n)
+  agrees : (ps : List Part) → s .agreed ≡ false → ComesOut c s (agreement ps) (answered (Accepted Agree) (opened c (setClauses s (c .clauses) ps)))
   calls : (i : Invocation) (n : ℕ) (f : Function) (ps : List Pending) → CallOk c s i n f ps
-      → Came c s (call i) (accepted Call (ended s (bodyRan s i f) (f .last) (live s ++ ps)) (bodyRan s i f))
+      → ComesOut c s (call i) (accepted Call (ended s (bodyRan s i f) (f .last) (live s ++ ps)) (bodyRan s i f))
   fires : (k : ℕ) → s .agreed ≡ true → dueIn c s ≡ due.At k → handlerRan c s k .refusal ≡ 0
-      → Came c s firing (accepted EventMatch (ended s (handlerRan c s k) (eventAt c s k .last) (live (removed s k))) (handlerRan c s k))
+      → ComesOut c s firing (accepted EventMatch (ended s (handlerRan c s k) (eventAt c s k .last) (live (removed s k))) (handlerRan c s k))
   fails : (k : ℕ) → s .agreed ≡ true → dueIn c s ≡ due.At k → (handlerRan c s k .refusal ≡ 0 → ⊥)
-      → Came c s firing (answered (Failed (handlerRan c s k .refusal)) (removed s k))
-  ticks : s .agreed ≡ true → dueIn c s ≡ due.Nothing → s .clock < top → Came c s tick (answered (Accepted Tick) (later (lapsed s)))
+      → ComesOut c s firing (answered (Failed (handlerRan c s k .refusal)) (removed s k))
+  ticks : s .agreed ≡ true → dueIn c s ≡ due.Nothing → s .clock < top → ComesOut c s tick (answered (Accepted Tick) (later (lapsed s)))
 
 -- ---- what is left of a list from n on
 
@@ -82,12 +84,12 @@ rest-is n l h = ap (λ (k : ℕ). drop k l) (sym (add-one n)) ∙ sym (drop-drop
 
 -- ---- each step's cases
 
-pub agreement-came : (c : Contract) (s : State) (ps : List Part) → Came c s (agreement ps) (agreedOn c s ps)
+pub agreement-came : (c : Contract) (s : State) (ps : List Part) → ComesOut c s (agreement ps) (agreedOn c s ps)
 unfolding agreedOn
 agreement-came c s ps =
-    by-cases (Came c s (agreement ps)) _ _ _ (λ _. refusal 21) λ e.
-    by-cases (Came c s (agreement ps)) _ _ _
-    (λ _. by-cases (Came c s (agreement ps)) _ _ _ (λ _. agrees ps e) (λ _. refusal 24))
+    by-cases (ComesOut c s (agreement ps)) _ _ _ (λ _. refusal 21) λ e.
+    by-cases (ComesOut c s (agreement ps)) _ _ _
+    (λ _. by-cases (ComesOut c s (agreement ps)) _ _ _ (λ _. agrees ps e) (λ _. refusal 24))
     (λ _. refusal 23)
 
 module _ (c : Contract) (s : State) (i : Invocation) (e : s .agreed ≡ true) (d : dueIn c s ≡ due.Nothing) where
@@ -95,10 +97,10 @@ module _ (c : Contract) (s : State) (i : Invocation) (e : s .agreed ≡ true) (d
       (v : length (i .values) ≡ f .values) (a : length (i .assets) ≡ f .parameters) where
     scheduled-came : bodyRan s i f .refusal ≡ 0 → every (λ a. eqb a 0) (drop maxAssets (bodyRan s i f .holdings)) ≡ true → (z : Scheduled)
         → schedule (memoryIn (i .values) (s .clock) (bodyRan s i f)) (s .clock) n 0 (f .events) ≡ z
-        → Came c s (call i) (withScheduled s (bodyRan s i f) (f .last) z)
+        → ComesOut c s (call i) (withScheduled s (bodyRan s i f) (f .last) z)
     scheduled-came w h (no q) t = refusal q
     scheduled-came w h (times ps) t =
-        by-cases (Came c s (call i)) _ _ _
+        by-cases (ComesOut c s (call i)) _ _ _
         (λ r. calls i n f ps
         (record {
           agreed = e;
@@ -114,25 +116,25 @@ module _ (c : Contract) (s : State) (i : Invocation) (e : s .agreed ≡ true) (d
         }))
         (λ _. refusal 39)
 
-    finished-came : Came c s (call i) (finished s n f (i .values) (bodyRan s i f))
+    finished-came : ComesOut c s (call i) (finished s n f (i .values) (bodyRan s i f))
     unfolding finished
     finished-came =
-        by-cases (Came c s (call i)) _ _ _
-        (λ w. by-cases (Came c s (call i)) _ _ _
+        by-cases (ComesOut c s (call i)) _ _ _
+        (λ w. by-cases (ComesOut c s (call i)) _ _ _
         (λ h. scheduled-came (eqb-true (bodyRan s i f .refusal) 0 w) h _ refl)
         (λ _. refusal 37))
         (λ _. refusal _)
 
-    precondition-came : (t : Truth) → Came c s (call i) (byPrecondition s n f (i .values) (begun s (amounts (i .assets))) t)
+    precondition-came : (t : Truth) → ComesOut c s (call i) (byPrecondition s n f (i .values) (begun s (amounts (i .assets))) t)
     precondition-came (truth.Refused q) = refusal q
     precondition-came (truth.Holds false) = refusal 29
     precondition-came (truth.Holds true) = finished-came
 
-  invoked-came : (n : ℕ) (f : Function) → n < length (c .functions) → getD (c .functions) n noFunction ≡ f → Came c s (call i) (invoked s i n f)
+  invoked-came : (n : ℕ) (f : Function) → n < length (c .functions) → getD (c .functions) n noFunction ≡ f → ComesOut c s (call i) (invoked s i n f)
   unfolding invoked
   invoked-came n f l g =
-      by-cases (Came c s (call i)) _ _ _
-      (λ v. by-cases (Came c s (call i)) _ _ _
+      by-cases (ComesOut c s (call i)) _ _ _
+      (λ v. by-cases (ComesOut c s (call i)) _ _ _
       (λ _. precondition-came n f l g
       (eqb-true _ _ (both-left (eqb (length (i .values)) (f .values)) (eqb (length (i .assets)) (f .parameters)) v))
       (eqb-true _ _ (both-right (eqb (length (i .values)) (f .values)) (eqb (length (i .assets)) (f .parameters)) v))
@@ -141,44 +143,44 @@ module _ (c : Contract) (s : State) (i : Invocation) (e : s .agreed ≡ true) (d
       (λ _. refusal 27)
 
   -- the first that answers among the functions from n on
-  chosen-came : (n : ℕ) (fs : List Function) → drop n (c .functions) ≡ fs → Came c s (call i) (byChosen s i (choose c (s .state) i n fs))
+  chosen-came : (n : ℕ) (fs : List Function) → drop n (c .functions) ≡ fs → ComesOut c s (call i) (byChosen s i (choose c (s .state) i n fs))
   unfolding choose
   chosen-came n [] h = refusal 26
   chosen-came n (f ∷ fs) h =
-      by-cases (λ (z : Chosen). Came c s (call i) (byChosen s i z)) (answersTo c (s .state) i f) (chosen n f) (choose c (s .state) i (suc n) fs)
+      by-cases (λ (z : Chosen). ComesOut c s (call i) (byChosen s i z)) (answersTo c (s .state) i f) (chosen n f) (choose c (s .state) i (suc n) fs)
       (λ _. invoked-came n f (some-left n (c .functions) h) (next-is noFunction n (c .functions) h))
       (λ _. chosen-came (suc n) fs (rest-is n (c .functions) h))
 
-pub call-came : (c : Contract) (s : State) (i : Invocation) → Came c s (call i) (called c s i)
+pub call-came : (c : Contract) (s : State) (i : Invocation) → ComesOut c s (call i) (called c s i)
 unfolding called
-call-came c s i = by-cases (Came c s (call i)) _ _ _ (λ e. go e (dueIn c s) refl) (λ _. refusal 22)
+call-came c s i = by-cases (ComesOut c s (call i)) _ _ _ (λ e. go e (dueIn c s) refl) (λ _. refusal 22)
   where
-    go : s .agreed ≡ true → (d : Due) → dueIn c s ≡ d → Came c s (call i) (callByDue c s i d)
+    go : s .agreed ≡ true → (d : Due) → dueIn c s ≡ d → ComesOut c s (call i) (callByDue c s i d)
     go e (due.At k) d = refusal 25
     go e due.Nothing d = chosen-came c s i e d 0 (c .functions) refl
 
-pub firing-came : (c : Contract) (s : State) → Came c s firing (fired c s)
+pub firing-came : (c : Contract) (s : State) → ComesOut c s firing (fired c s)
 unfolding fired handled
-firing-came c s = by-cases (Came c s firing) _ _ _ (λ e. go e (dueIn c s) refl) (λ _. refusal 22)
+firing-came c s = by-cases (ComesOut c s firing) _ _ _ (λ e. go e (dueIn c s) refl) (λ _. refusal 22)
   where
-    go : s .agreed ≡ true → (d : Due) → dueIn c s ≡ d → Came c s firing (fireByDue c s d)
+    go : s .agreed ≡ true → (d : Due) → dueIn c s ≡ d → ComesOut c s firing (fireByDue c s d)
     go e due.Nothing d = refusal 41
     go e (due.At k) d =
-        by-cases (Came c s firing) _ _ _
+        by-cases (ComesOut c s firing) _ _ _
         (λ w. fires k e d (eqb-true (handlerRan c s k .refusal) 0 w))
         (λ w. fails k e d (eqb-false (handlerRan c s k .refusal) 0 w))
 
-pub tick-came : (c : Contract) (s : State) → Came c s tick (ticked c s)
+pub tick-came : (c : Contract) (s : State) → ComesOut c s tick (ticked c s)
 unfolding ticked
-tick-came c s = by-cases (Came c s tick) _ _ _ (λ e. go e (dueIn c s) refl) (λ _. refusal 22)
+tick-came c s = by-cases (ComesOut c s tick) _ _ _ (λ e. go e (dueIn c s) refl) (λ _. refusal 22)
   where
-    go : s .agreed ≡ true → (d : Due) → dueIn c s ≡ d → Came c s tick (tickByDue s d)
+    go : s .agreed ≡ true → (d : Due) → dueIn c s ≡ d → ComesOut c s tick (tickByDue s d)
     go e (due.At k) d = refusal 25
-    go e due.Nothing d = by-cases (Came c s tick) _ _ _ (λ l. ticks e d (ltb-true (s .clock) top l)) (λ _. refusal 40)
+    go e due.Nothing d = by-cases (ComesOut c s tick) _ _ _ (λ l. ticks e d (ltb-true (s .clock) top l)) (λ _. refusal 40)
 
 -- ---- any step
 
-pub request-came : (c : Contract) (s : State) (q : Request) → Came c s q (requested s q c)
+pub request-came : (c : Contract) (s : State) (q : Request) → ComesOut c s q (requested s q c)
 request-came c s (agreement ps) = agreement-came c s ps
 request-came c s (call i) = call-came c s i
 request-came c s firing = firing-came c s
@@ -187,9 +189,9 @@ request-came c s tick = tick-came c s
 -- on a table: refused, or the table and the state were found right
 pub data Answers (w : List ℕ) (s : State) (q : Request) : Stepped → Type 0 where
   first-refusal : (n : ℕ) → Answers w s q (refused s n)
-  by-rule : {r : Stepped} → passes w ≡ true → stateOk (contractOf w) s ≡ true → Came (contractOf w) s q r → Answers w s q r
+  by-rule : {r : Stepped} → passes w ≡ true → stateOk (contractOf w) s ≡ true → ComesOut (contractOf w) s q r → Answers w s q r
 
-pub answered-so : (w : List ℕ) (s : State) (a : Asked) → Answers w s (a .request) (answerTo w s a)
+pub answered-so : (w : List ℕ) (s : State) (a : Step) → Answers w s (a .request) (answerTo w s a)
 unfolding answerTo step
 answered-so w s a =
     by-cases (Answers w s (a .request)) _ _ _

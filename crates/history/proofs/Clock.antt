@@ -14,9 +14,10 @@ use Rattle.contract.specs.Limits.{top}
 use Rattle.contract.specs.Tree.{Contract}
 use Rattle.contract.specs.Decode.{contractOf}
 use Rattle.contract.specs.Check.{passes}
-use Rattle.contract.specs.Fits.{every}
-use Rattle.contract.proofs.Fitting.{every-head, every-tail, fits-contract}
-use Rattle.contract.proofs.Sound.{sound}
+use Rattle.laws.proofs.Members.{every-head, every-tail}
+use Rattle.laws.specs.Lists.{every}
+use Rattle.contract.proofs.Fitting.{fits-contract}
+use Rattle.contract_laws.proofs.Sound.{sound}
 use Rattle.state.specs.declared.State.{State}
 use Rattle.state.specs.declared.Due.{Due}
 use Rattle.state.specs.declared.Due.the-variants as due
@@ -26,14 +27,14 @@ use Rattle.state.proofs.Each.{without-count}
 use Rattle.state.proofs.Within as state
 use Rattle.state.proofs.Within.{removed-count}
 use Rattle.statements.specs.Running.{maxLabels}
-use Rattle.machine.specs.declared.Rule.the-variants.{Tick}
-use Rattle.machine.specs.declared.Outcome.the-variants.{Accepted}
-use Rattle.machine.specs.declared.Stepped.{Stepped}
+use Rattle.outcomes.specs.declared.Rule.the-variants.{Tick}
+use Rattle.outcomes.specs.declared.Outcome.the-variants.{Accepted}
+use Rattle.outcomes.specs.declared.Stepped.{Stepped}
 use Rattle.machine.specs.Steps.{handled, fireByDue, fired, tickByDue, ticked, step}
-use Rattle.history.specs.Histories.{firing, tick, Asked, requested, answerTo, answers, lastState, isRefused, firings, noneRefused, within64}
+use Rattle.history.specs.Histories.{firing, tick, Step, requested, answerTo, answers, lastState, isRefused, firings, noneRefused, within64}
 use Rattle.history.specs.Demand.{Cleared, GoesOn}
-use Rattle.history.proofs.Good.{Good, good-ok, fresh-good, live-length}
-use Rattle.history.proofs.Kept.{request-good, last-good}
+use Rattle.history.proofs.GoodState.{Good, good-ok, fresh-good, live-length}
+use Rattle.history.proofs.StepsKeepGood.{request-good, last-good}
 
 -- ---- one firing
 
@@ -69,7 +70,7 @@ by-due {X} c s f g = go (dueIn c s) refl
 
 module _ (w : List ℕ) (p : passes w ≡ true) where
   -- questions 3, 4 and 20 are passed
-  answered-by : {s : State} → Good (contractOf w) s → (a : Asked) → maxLabels ≤ a .room → answerTo w s a ≡ requested s (a .request) (contractOf w)
+  answered-by : {s : State} → Good (contractOf w) s → (a : Step) → maxLabels ≤ a .room → answerTo w s a ≡ requested s (a .request) (contractOf w)
   unfolding answerTo step
   answered-by g a h = pick-true _ _ _ p ∙ pick-true _ _ _ (good-ok g) ∙ pick-true _ _ _ (le-leb maxLabels (a .room) h)
 
@@ -126,7 +127,7 @@ module _ (w : List ℕ) (p : passes w ≡ true) where
 
 -- with a clock past the greatest one no state passes question 4, and nothing is agreed
 module _ (w : List ℕ) (clock : ℕ) (h : top < clock) where
-  late-same : (a : Asked) → answerTo w (freshAt clock) a .state ≡ freshAt clock
+  late-same : (a : Step) → answerTo w (freshAt clock) a .state ≡ freshAt clock
   unfolding answerTo step freshAt
   late-same a =
       let P : Stepped → Type 0 = λ r. r .state ≡ freshAt clock in
@@ -134,17 +135,17 @@ module _ (w : List ℕ) (clock : ℕ) (h : top < clock) where
       (λ _. by-cases P _ _ _ (λ o. absurd (omega (arith, state.within (contractOf w) (freshAt clock) o .clock))) (λ _. refl))
       (λ _. refl)
 
-  late-last : (xs : List Asked) → lastState w (freshAt clock) xs ≡ freshAt clock
+  late-last : (xs : List Step) → lastState w (freshAt clock) xs ≡ freshAt clock
   unfolding lastState
   late-last [] = refl
   late-last (a ∷ xs) = ap (λ (s : State). lastState w s xs) (late-same a) ∙ late-last xs
 
-  late-unagreed : (xs : List Asked) → lastState w (freshAt clock) xs .agreed ≡ false
+  late-unagreed : (xs : List Step) → lastState w (freshAt clock) xs .agreed ≡ false
   unfolding freshAt
   late-unagreed xs = ap (λ (s : State). s .agreed) (late-last xs)
 
 -- whatever steps were asked for before, with 64-bit arguments
-pub clock-goes-on : (w : List ℕ) → passes w ≡ true → (clock : ℕ) (xs : List Asked) → every (λ a. within64 (a .request)) xs ≡ true
+pub clock-goes-on : (w : List ℕ) → passes w ≡ true → (clock : ℕ) (xs : List Step) → every (λ a. within64 (a .request)) xs ≡ true
     → lastState w (freshAt clock) xs .agreed ≡ true → lastState w (freshAt clock) xs .clock < top → GoesOn w (lastState w (freshAt clock) xs)
 clock-goes-on w p clock xs e a l = go (ltb top clock) refl
   where

@@ -21,9 +21,10 @@ use Rattle.state.specs.declared.Due.{Due}
 use Rattle.state.specs.declared.Due.the-variants as due
 use Rattle.state.specs.States.{stateOk, dueIn}
 use Rattle.results.specs.declared.Report.{Report}
-use Rattle.machine.specs.declared.Stepped.{Stepped}
+use Rattle.outcomes.specs.declared.Stepped.{Stepped}
 use Rattle.machine.specs.declared.Played.{Played}
-use Rattle.machine.specs.Sessions.{taken, told, maxTold, endOfLine, Turn, wait, makes, turnByDue, turnAt, Session, here, before, onTurn, sessionFor, session, played}
+use Rattle.step_reports.specs.Reports.{told, maxTold}
+use Rattle.machine.specs.Sessions.{taken, endOfLine, Turn, wait, makes, turnByDue, turnAt, Session, here, before, onTurn, sessionFor, session, played}
 use Rattle.history.specs.Sessions.{wholeFor, countTurn, turnsFor, turnsOf, movedTurn, moved, blocks, turnsIn}
 
 -- ---- places counted from a later byte

@@ -12,23 +12,27 @@ use Rattle.contract.specs.Tree.{Function, Verb, Clause, Contract}
 use Rattle.contract.specs.Tree as tree
 use Rattle.contract.specs.Sizes.{statements}
 use Rattle.contract.specs.Decode.{contractOf}
-use Rattle.contract.specs.Fits.{every, scopeOf}
-use Rattle.contract.proofs.Sound.{sound}
+use Rattle.contract.specs.Fits.{scopeOf}
+use Rattle.laws.proofs.Members.{every-append, repeated-length}
+use Rattle.laws.specs.Lists.{every, repeated}
+use Rattle.contract_laws.proofs.Sound.{sound}
 use Rattle.state.specs.declared.State.{State}
 use Rattle.state.specs.declared.Pending.{Pending}
-use Rattle.state.specs.States.{repeated, blank, freshAt, live, withPending, removed, lapsed, eventOf}
+use Rattle.state.specs.States.{blank, freshAt, live, withPending, removed, lapsed, eventOf}
 use Rattle.statements.specs.Running.{maxLabels}
-use Rattle.machine.specs.declared.Rule.the-variants.{Call, EventMatch}
-use Rattle.machine.specs.declared.Outcome.the-variants.{Refused}
-use Rattle.machine.specs.declared.Stepped.{Stepped}
-use Rattle.machine.specs.Steps.{Invocation, noLabel, refused, accepted, begun, ended, amounts}
-use Rattle.machine.specs.Agreement.{Part, setFields, setClause, setClauses}
-use Rattle.history.specs.Histories.{Request, agreement, call, firing, tick, Asked, answerTo, answers, lastState, sum, deposit, deposits, payoutsIn, payoutsOf, payouts, worth, isAmount, holdings}
-use Rattle.history.proofs.Sums.{every-append, worth-append, sum-append, sum-zeros, sum-padded, sum-nothing, length-repeated}
-use Rattle.history.proofs.Works.{Worth, ran-worth}
+use Rattle.outcomes.specs.declared.Rule.the-variants.{Call, EventMatch}
+use Rattle.outcomes.specs.declared.Outcome.the-variants.{Refused}
+use Rattle.outcomes.specs.declared.Stepped.{Stepped}
+use Rattle.outcomes.specs.Outcomes.{noLabel, refused}
+use Rattle.holdings.specs.Holdings.{amounts}
+use Rattle.machine.specs.Steps.{Invocation, accepted, begun, ended}
+use Rattle.agreements.specs.Agreement.{Part, setFields, setClause, setClauses}
+use Rattle.history.specs.Histories.{Request, agreement, call, firing, tick, Step, answerTo, answers, lastState, sum, deposit, deposits, payoutsIn, payoutsOf, payouts, worth, isAmount, holdings}
+use Rattle.history.proofs.AmountSums.{worth-append, sum-append, sum-zeros, sum-padded, sum-nothing}
+use Rattle.history.proofs.StatementsConserve.{Worth, ran-worth}
 use Rattle.history.proofs.Parameters.{Parameters, ran-same}
-use Rattle.history.proofs.Bounded.{Bounded, BoundedFunction, BoundedEvent, bounded}
-use Rattle.history.proofs.Cases.{bodyRan, eventAt, handlerRan, CallOk, Came, refusal, agrees, calls, fires, fails, ticks, Answers, first-refusal, by-rule, answered-so}
+use Rattle.history.proofs.ContractBounds.{Bounded, BoundedFunction, BoundedEvent, bounded}
+use Rattle.history.proofs.Cases.{bodyRan, eventAt, handlerRan, CallOk, ComesOut, refusal, agrees, calls, fires, fails, ticks, Answers, first-refusal, by-rule, answered-so}
 
 -- ---- the work that statements begin with
 
@@ -40,8 +44,8 @@ module _ (s : State) (ps : List ℕ) (l : length (s .assets) ≡ maxAssets) wher
       let b = take maxParameters (ps ++ repeated maxParameters 0) in
       let whole : a ≡ s .assets = take-all maxAssets (s .assets) (omega arith) in
       record {
-        holdings-length = omega (arith, length-append a b, length-take maxAssets (s .assets), length-take maxParameters (ps ++ repeated maxParameters 0), length-append ps (repeated maxParameters 0), length-repeated {A = ℕ} maxParameters 0);
-        labels-length = length-repeated maxLabels noLabel;
+        holdings-length = omega (arith, length-append a b, length-take maxAssets (s .assets), length-take maxParameters (ps ++ repeated maxParameters 0), length-append ps (repeated maxParameters 0), repeated-length {A = ℕ} maxParameters 0);
+        labels-length = repeated-length maxLabels noLabel;
         labels-few = omega arith;
         amounts = refl;
         total-is = omega (arith, sum-append a b, ap sum whole, sum-padded ps maxParameters maxParameters h);
@@ -97,7 +101,7 @@ module _ {s : State} (l : length (s .assets) ≡ maxAssets) where
   refused-counted : (q : Request) (n : ℕ) → Counted q s (refused s n)
   unfolding worth every
   refused-counted q n =
-      record { assets-length = l; count = omega (arith, refused-brings q n); amounts-paid = refl; labels-few = omega arith; labels-length = length-repeated maxLabels noLabel }
+      record { assets-length = l; count = omega (arith, refused-brings q n); amounts-paid = refl; labels-few = omega arith; labels-length = repeated-length maxLabels noLabel }
 
   module _ (c : Contract) (b : Bounded c) where
     call-counted : (i : Invocation) (n : ℕ) (f : Function) (ps : List Pending) → CallOk c s i n f ps
@@ -136,16 +140,16 @@ module _ {s : State} (l : length (s .assets) ≡ maxAssets) where
         }
 
     -- every step
-    pub came-counted : {q : Request} {r : Stepped} → Came c s q r → Counted q s r
+    pub came-counted : {q : Request} {r : Stepped} → ComesOut c s q r → Counted q s r
     unfolding withPending removed lapsed payoutsIn worth every
     came-counted (refusal {q = q} n) = refused-counted q n
     came-counted (agrees ps a) =
         let e = set-clauses-assets s (c .clauses) ps in
-        record { assets-length = ap length e ∙ l; count = omega (arith, ap sum e); amounts-paid = refl; labels-few = omega arith; labels-length = length-repeated maxLabels noLabel }
+        record { assets-length = ap length e ∙ l; count = omega (arith, ap sum e); amounts-paid = refl; labels-few = omega arith; labels-length = repeated-length maxLabels noLabel }
     came-counted (calls i n f ps o) = call-counted i n f ps o
     came-counted (fires k a d h) = firing-counted k (live (removed s k)) (eventAt c s k .last)
-    came-counted (fails k a d h) = record { assets-length = l; count = omega arith; amounts-paid = refl; labels-few = omega arith; labels-length = length-repeated maxLabels noLabel }
-    came-counted (ticks a d h) = record { assets-length = l; count = omega arith; amounts-paid = refl; labels-few = omega arith; labels-length = length-repeated maxLabels noLabel }
+    came-counted (fails k a d h) = record { assets-length = l; count = omega arith; amounts-paid = refl; labels-few = omega arith; labels-length = repeated-length maxLabels noLabel }
+    came-counted (ticks a d h) = record { assets-length = l; count = omega arith; amounts-paid = refl; labels-few = omega arith; labels-length = repeated-length maxLabels noLabel }
 
 -- ---- lists of steps
 
@@ -153,11 +157,11 @@ answer-counted : {w : List ℕ} {s : State} {q : Request} {r : Stepped} → leng
 answer-counted {q = q} l (first-refusal n) = refused-counted l q n
 answer-counted {w = w} l (by-rule p o k) = came-counted l (contractOf w) (bounded (contractOf w) (sound w p)) k
 
-pub step-counted : (w : List ℕ) (s : State) (a : Asked) → length (s .assets) ≡ maxAssets → Counted (a .request) s (answerTo w s a)
+pub step-counted : (w : List ℕ) (s : State) (a : Step) → length (s .assets) ≡ maxAssets → Counted (a .request) s (answerTo w s a)
 step-counted w s a l = answer-counted l (answered-so w s a)
 
 -- from any state
-pub count-from : (w : List ℕ) (s : State) (xs : List Asked) → length (s .assets) ≡ maxAssets
+pub count-from : (w : List ℕ) (s : State) (xs : List Step) → length (s .assets) ≡ maxAssets
     → deposits w s xs + holdings s ≡ holdings (lastState w s xs) + worth (payouts (answers w s xs))
 unfolding deposits lastState answers payouts worth
 count-from w s [] l = omega arith
@@ -168,14 +172,14 @@ count-from w s (a ∷ xs) l =
     omega (arith, g .count, worth-append (payoutsOf r (r .outcome)) (payouts (answers w (r .state) xs)))
 
 -- from the fresh state
-pub count : (w : List ℕ) (clock : ℕ) (xs : List Asked)
+pub count : (w : List ℕ) (clock : ℕ) (xs : List Step)
     → deposits w (freshAt clock) xs ≡ holdings (lastState w (freshAt clock) xs) + worth (payouts (answers w (freshAt clock) xs))
 unfolding freshAt
 count w clock xs =
-    omega (arith, count-from w (freshAt clock) xs (length-repeated {A = ℕ} maxAssets 0), sum-zeros maxAssets maxAssets, ap sum (take-all maxAssets (repeated maxAssets 0) (omega (arith, length-repeated {A = ℕ} maxAssets 0))))
+    omega (arith, count-from w (freshAt clock) xs (repeated-length {A = ℕ} maxAssets 0), sum-zeros maxAssets maxAssets, ap sum (take-all maxAssets (repeated maxAssets 0) (omega (arith, repeated-length {A = ℕ} maxAssets 0))))
 
 -- each payout is of 0 or more
-pub payouts-from : (w : List ℕ) (s : State) (xs : List Asked) → length (s .assets) ≡ maxAssets → every isAmount (payouts (answers w s xs)) ≡ true
+pub payouts-from : (w : List ℕ) (s : State) (xs : List Step) → length (s .assets) ≡ maxAssets → every isAmount (payouts (answers w s xs)) ≡ true
 unfolding answers payouts every
 payouts-from w s [] l = refl
 payouts-from w s (a ∷ xs) l =
@@ -183,6 +187,6 @@ payouts-from w s (a ∷ xs) l =
     let g = step-counted w s a l in
     every-append isAmount (payoutsOf r (r .outcome)) (payouts (answers w (r .state) xs)) (g .amounts-paid) (payouts-from w (r .state) xs (g .assets-length))
 
-pub payouts-are : (w : List ℕ) (clock : ℕ) (xs : List Asked) → every isAmount (payouts (answers w (freshAt clock) xs)) ≡ true
+pub payouts-are : (w : List ℕ) (clock : ℕ) (xs : List Step) → every isAmount (payouts (answers w (freshAt clock) xs)) ≡ true
 unfolding freshAt
-payouts-are w clock xs = payouts-from w (freshAt clock) xs (length-repeated {A = ℕ} maxAssets 0)
+payouts-are w clock xs = payouts-from w (freshAt clock) xs (repeated-length {A = ℕ} maxAssets 0)

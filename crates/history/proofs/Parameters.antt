@@ -18,7 +18,7 @@ use Rattle.numbers.specs.declared.Truth.the-variants as truth
 use Rattle.contract.specs.Limits.{maxAssets}
 use Rattle.contract.specs.Tree.{Holder, asset, assetParameter, held, Action, assign, send, move, pay, moveAll, payAll, Block, none, perform, conditional, brokenBlock}
 use Rattle.contract.specs.Fits.{Scope, holderIn, expressionIn, conditionIn, actionIn, blockIn}
-use Rattle.contract.proofs.Fitting.{both-left, both-right}
+use Rattle.laws.proofs.Truths.{both-left, both-right}
 use Rattle.evaluation.specs.Meaning.{valueOf, truthOf}
 use Rattle.statements.specs.declared.Work.{Work}
 use Rattle.statements.specs.Running.{integerLabel, stringLabel, assetLabel, memoryIn, stopped, onward, stored, labelled, sent, place, amountAt, moved, paid, withValue, withAmount, performed, byTruth, ran}

@@ -21,12 +21,12 @@ use Rattle.numbers.specs.declared.Truth.the-variants as truth
 use Rattle.contract.specs.Limits.{top, maxAssets, maxFields}
 use Rattle.contract.specs.Tree.{Holder, asset, assetParameter, held, Action, assign, send, move, pay, moveAll, payAll, Block, none, perform, conditional, brokenBlock}
 use Rattle.contract.specs.Fits.{Scope, holderIn, expressionIn, conditionIn, actionIn, blockIn}
-use Rattle.contract.proofs.Fitting.{both-left, both-right}
+use Rattle.laws.proofs.Truths.{both-left, both-right}
 use Rattle.evaluation.specs.Meaning.{valueOf, truthOf}
 use Rattle.state.specs.States.{fieldOk}
 use Rattle.statements.specs.declared.Work.{Work}
 use Rattle.statements.specs.Running.{maxHoldings, integerLabel, stringLabel, assetLabel, memoryIn, stopped, onward, stored, withHoldings, labelled, sent, place, amountAt, moved, paid, withValue, withAmount, performed, byTruth, ran}
-use Rattle.history.proofs.Values.{ValueIn, AnswerIn, Fields, fields-set, MemoryIn, value-in}
+use Rattle.history.proofs.ValuesInRange.{ValueIn, AnswerIn, Fields, fields-set, MemoryIn, value-in}
 
 -- the amounts of the assets, of which a contract has so many, and of the parameters
 pub record Amounts (assets : ℕ) (hs : List ℕ) : Type 0 where

@@ -19,8 +19,11 @@ use Rattle.numbers.specs.declared.Truth.the-variants as truth
 use Rattle.contract.specs.Limits.{top, maxParameters}
 use Rattle.contract.specs.Tree.{Precondition, omitted, given, Event, Function, Contract}
 use Rattle.contract.specs.Check.{ranges}
-use Rattle.contract.specs.Fits.{every, Scope, preconditionIn, scopeOf, eventIn, functionIn, fits}
-use Rattle.contract.proofs.Fitting.{both-left, both-right, both-true, every-head, every-tail, FitsFunction, FitsContract, fits-event, fits-function, fits-contract}
+use Rattle.laws.proofs.Members.{every-head, every-tail, repeated-length}
+use Rattle.laws.proofs.Truths.{both-left, both-right, both-true}
+use Rattle.laws.specs.Lists.{every}
+use Rattle.contract.specs.Fits.{Scope, preconditionIn, scopeOf, eventIn, functionIn, fits}
+use Rattle.contract.proofs.Fitting.{FitsFunction, FitsContract, fits-event, fits-function, fits-contract}
 use Rattle.evaluation.specs.Memory.{Memory}
 use Rattle.evaluation.specs.Meaning.{valueOf}
 use Rattle.state.specs.declared.State.{State}
@@ -31,22 +34,23 @@ use Rattle.statements.specs.declared.Label.{Label}
 use Rattle.statements.specs.declared.Work.{Work}
 use Rattle.statements.specs.Running.{maxLabels, memoryIn}
 use Rattle.results.specs.Lines.{refusal, reportOk}
-use Rattle.machine.specs.declared.Rule.{Rule}
-use Rattle.machine.specs.declared.Rule.the-variants.{Agree, Call, EventMatch, Tick}
-use Rattle.machine.specs.declared.Outcome.the-variants.{Accepted, Failed}
-use Rattle.machine.specs.declared.Stepped.{Stepped}
-use Rattle.machine.specs.Steps.{noLabel, answered, refused, accepted, begun, Invocation, amounts, Chosen, chosen, answersTo, choose, preconditionHolds, Scheduled, times, no, scheduled, schedule, withScheduled, finished, byPrecondition, invoked, byChosen, callByDue, called, handled, fireByDue, fired, tickByDue, ticked}
-use Rattle.machine.specs.Agreement.{Part, agreedOn}
-use Rattle.machine.specs.Sessions.{ruleNumber, reportOf, labelReports, told}
+use Rattle.outcomes.specs.declared.Rule.{Rule}
+use Rattle.outcomes.specs.declared.Rule.the-variants.{Agree, Call, EventMatch, Tick}
+use Rattle.outcomes.specs.declared.Outcome.the-variants.{Accepted, Failed}
+use Rattle.outcomes.specs.declared.Stepped.{Stepped}
+use Rattle.outcomes.specs.Outcomes.{noLabel, answered, refused}
+use Rattle.holdings.specs.Holdings.{amounts}
+use Rattle.machine.specs.Steps.{accepted, begun, Invocation, Chosen, chosen, answersTo, choose, preconditionHolds, Scheduled, times, no, scheduled, schedule, withScheduled, finished, byPrecondition, invoked, byChosen, callByDue, called, handled, fireByDue, fired, tickByDue, ticked}
+use Rattle.agreements.specs.Agreement.{Part, agreedOn}
+use Rattle.step_reports.specs.Reports.{ruleNumber, reportOf, labelReports, told}
 use Rattle.history.specs.Histories.{Request, agreement, call, firing, tick, requested, within64}
 use Rattle.history.proofs.Cases.{bodyRan, eventAt, handlerRan}
-use Rattle.history.proofs.Sums.{length-repeated}
-use Rattle.history.proofs.Bounded.{BoundedEvent, bounded}
-use Rattle.history.proofs.Good.{Good, agreed-name}
-use Rattle.history.proofs.Ended.{values-in, amounts-most, begun-right}
-use Rattle.history.proofs.Kept.{request-good}
-use Rattle.history.proofs.Stops.{Stops, AnswerStops, TruthStops, value-stops, truth-stops}
-use Rattle.history.proofs.Fair.{labelOk, Fair, Inside, ran-fair}
+use Rattle.history.proofs.ContractBounds.{BoundedEvent, bounded}
+use Rattle.history.proofs.GoodState.{Good, agreed-name}
+use Rattle.history.proofs.GoodWork.{values-in, amounts-most, begun-right}
+use Rattle.history.proofs.StepsKeepGood.{request-good}
+use Rattle.history.proofs.RefusalNumbers.{Stops, AnswerStops, TruthStops, value-stops, truth-stops}
+use Rattle.history.proofs.LabelsOk.{labelOk, Fair, Inside, ran-fair}
 
 -- what a step tells passes question 53
 pub record Fine (c : Contract) (r : Stepped) : Type 0 where
@@ -117,7 +121,7 @@ module _ (c : Contract) where
 
   begun-fair : (s : State) (ps : List ℕ) → Fair c (begun s ps)
   unfolding every
-  begun-fair s ps = record { labels-length = length-repeated maxLabels noLabel; labels = refl; stop = λ e. true-false e }
+  begun-fair s ps = record { labels-length = repeated-length maxLabels noLabel; labels = refl; stop = λ e. true-false e }
 
   -- where the state that it leads to is good
   abbrev Once : Stepped → Type 0

@@ -15,14 +15,17 @@ use Rattle.numbers.specs.declared.Answer.{Answer}
 use Rattle.numbers.specs.declared.Answer.the-variants as answer
 use Rattle.contract.specs.Limits.{top}
 use Rattle.contract.specs.Tree.{Event, Function, Contract}
-use Rattle.contract.specs.Fits.{every, scopeOf, eventIn}
-use Rattle.contract.proofs.Fitting.{both-true, every-head, every-tail, fits-event}
+use Rattle.contract.specs.Fits.{scopeOf, eventIn}
+use Rattle.laws.proofs.Members.{every-head, every-tail}
+use Rattle.laws.proofs.Truths.{both-true}
+use Rattle.laws.specs.Lists.{every}
+use Rattle.contract.proofs.Fitting.{fits-event}
 use Rattle.evaluation.specs.Memory.{Memory}
 use Rattle.evaluation.specs.Meaning.{valueOf}
 use Rattle.state.specs.States.{noFunction, pendingOk}
 use Rattle.state.proofs.Each.{Each, none, more}
 use Rattle.machine.specs.Steps.{Scheduled, times, no, scheduled, schedule}
-use Rattle.history.proofs.Values.{AnswerIn, MemoryIn, value-in}
+use Rattle.history.proofs.ValuesInRange.{AnswerIn, MemoryIn, value-in}
 
 abbrev pub ScheduledIn : Contract → ℕ → Scheduled → Type 0
 ScheduledIn c t (times ps) = Each (λ p. pendingOk c t p ≡ true) ps

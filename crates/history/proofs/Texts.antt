@@ -4,14 +4,14 @@ use mathlib.Core.Bool.{true}
 use mathlib.Core.List.{List}
 use Prim.Native.Nat.{ℕ}
 use Rattle.contract.specs.Tree.{Contract}
-use Rattle.contract.specs.Fits.{every}
+use Rattle.laws.specs.Lists.{every}
 use Rattle.contract.specs.Encode.{encode}
-use Rattle.reader.specs.Reading.{readText, accepted}
-use Rattle.reader.proofs.Accepted.{accepted-passes}
-use Rattle.history.specs.Histories.{Asked, within64}
+use Rattle.reading.specs.Reading.{readText, accepted}
+use Rattle.accepted.proofs.Accepted.{accepted-passes}
+use Rattle.history.specs.Histories.{Step, within64}
 use Rattle.history.specs.Demand.{Demand}
 use Rattle.history.proofs.Demand.{demand}
 
 pub demand-of-text : (s : List ℕ) (words : ℕ) (c : Contract) → readText s words ≡ accepted c
-    → (clock : ℕ) (xs : List Asked) → every (λ a. within64 (a .request)) xs ≡ true → Demand (encode c) clock xs
+    → (clock : ℕ) (xs : List Step) → every (λ a. within64 (a .request)) xs ≡ true → Demand (encode c) clock xs
 demand-of-text s words c e = demand (encode c) (accepted-passes s words c e)

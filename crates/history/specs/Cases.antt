@@ -1,6 +1,6 @@
 -- Document 01's starred cases: an expression, a move, or a step, with what it must give.
 use Prim.Native.Nat.{ℕ}
-use mathlib.Core.Bool.{Bool, true}
+use mathlib.Core.Bool.{true}
 use mathlib.Core.List.{List, [], _∷_}
 use lib.ListN.{take}
 use lib.IntN.{ℤ, pos, negsuc}
@@ -10,18 +10,19 @@ use Rattle.numbers.specs.declared.Answer.{Answer}
 use Rattle.numbers.specs.declared.Answer.the-variants as answer
 use Rattle.numbers.specs.declared.Operator.the-variants.{Plus, Minus, Over}
 use Rattle.numbers.specs.declared.Comparison.the-variants.{AtLeast}
-use Rattle.contract.specs.Limits.{top, maxFields, maxAssets}
-use Rattle.contract.specs.Tree.{Expression, constant, clock, field, held, apply, asset, assetParameter, compare, Action, move, Block, none, perform, moveAll, pay, payAll, omitted, given, Event, Function, set, ok, Clause, Contract}
+use Rattle.contract.specs.Limits.{top, maxFields}
+use Rattle.contract.specs.Tree.{Expression, constant, clock, field, held, apply, asset, assetParameter, compare, Action, move, none, perform, moveAll, pay, payAll, omitted, given, set, ok, Contract}
 use Rattle.evaluation.specs.Memory.{memoryOf}
 use Rattle.evaluation.specs.Meaning.{valueOf}
 use Rattle.state.specs.declared.State.{State}
-use Rattle.state.specs.States.{repeated, freshAt, withPending}
+use Rattle.state.specs.States.{freshAt, withPending}
+use Rattle.laws.specs.Lists.{repeated}
 use Rattle.statements.specs.declared.Work.{Work}
 use Rattle.statements.specs.Running.{performed}
-use Rattle.machine.specs.declared.Rule.the-variants.{Call}
-use Rattle.machine.specs.declared.Outcome.{Outcome}
-use Rattle.machine.specs.declared.Outcome.the-variants.{Accepted, Refused}
-use Rattle.machine.specs.declared.Stepped.{Stepped}
+use Rattle.outcomes.specs.declared.Rule.the-variants.{Call}
+use Rattle.outcomes.specs.declared.Outcome.{Outcome}
+use Rattle.outcomes.specs.declared.Outcome.the-variants.{Accepted, Refused}
+use Rattle.outcomes.specs.declared.Stepped.{Stepped}
 use Rattle.machine.specs.Steps.{begun}
 use Rattle.history.specs.Histories.{Request, call, tick, requested}
 

@@ -9,16 +9,17 @@ use lib.IntN.{pos, natAbs}
 use lib.Signed.{leZ}
 use Rattle.laws.specs.Choice.{pick}
 use Rattle.contract.specs.Tree.{Contract}
-use Rattle.contract.specs.Fits.{every}
+use Rattle.laws.specs.Lists.{every}
 use Rattle.numbers.specs.Numbers.{within}
 use Rattle.state.specs.declared.State.{State}
 use Rattle.statements.specs.declared.Label.{Label}
 use Rattle.statements.specs.Running.{assetLabel}
-use Rattle.machine.specs.declared.Outcome.{Outcome}
-use Rattle.machine.specs.declared.Outcome.the-variants.{Accepted, Failed, Refused}
-use Rattle.machine.specs.declared.Stepped.{Stepped}
-use Rattle.machine.specs.Steps.{Invocation, amounts, called, fired, ticked, step}
-use Rattle.machine.specs.Agreement.{Part, agreedOn}
+use Rattle.outcomes.specs.declared.Outcome.{Outcome}
+use Rattle.outcomes.specs.declared.Outcome.the-variants.{Accepted, Failed, Refused}
+use Rattle.outcomes.specs.declared.Stepped.{Stepped}
+use Rattle.holdings.specs.Holdings.{amounts}
+use Rattle.machine.specs.Steps.{Invocation, called, fired, ticked, step}
+use Rattle.agreements.specs.Agreement.{Part, agreedOn}
 
 pub data Request : Type 0 where
   agreement : List Part → Request
@@ -27,7 +28,7 @@ pub data Request : Type 0 where
   tick : Request
 
 -- a step asked for, with so many entries in its label slice
-pub record Asked : Type 0 where
+pub record Step : Type 0 where
   pub request : Request
   pub room : ℕ
 
@@ -38,15 +39,15 @@ requested s firing c = fired c s
 requested s tick c = ticked c s
 
 -- the answer to one step on a table
-unfoldable pub answerTo : List ℕ → State → Asked → Stepped
+unfoldable pub answerTo : List ℕ → State → Step → Stepped
 answerTo w s a = step w (a .room) s (requested s (a .request))
 
 -- the answers to a list of steps, and the last state
-unfoldable pub answers : List ℕ → State → List Asked → List Stepped
+unfoldable pub answers : List ℕ → State → List Step → List Stepped
 answers w s [] = []
 answers w s (a ∷ xs) = answerTo w s a ∷ answers w (answerTo w s a .state) xs
 
-unfoldable pub lastState : List ℕ → State → List Asked → State
+unfoldable pub lastState : List ℕ → State → List Step → State
 lastState w s [] = s
 lastState w s (a ∷ xs) = lastState w (answerTo w s a .state) xs
 
@@ -65,7 +66,7 @@ deposit (agreement ps) o = 0
 deposit firing o = 0
 deposit tick o = 0
 
-unfoldable pub deposits : List ℕ → State → List Asked → ℕ
+unfoldable pub deposits : List ℕ → State → List Step → ℕ
 deposits w s [] = 0
 deposits w s (a ∷ xs) =
     deposit (a .request) (answerTo w s a .outcome) + deposits w (answerTo w s a .state) xs
@@ -106,18 +107,18 @@ isRefused (Failed n) = false
 isRefused (Refused n) = true
 
 -- the second list is the first without some refused steps; the third has the first's answers to the steps that stay
-pub data Struck (w : List ℕ) : State → List Asked → List Asked → List Stepped → Type 0 where
+pub data Struck (w : List ℕ) : State → List Step → List Step → List Stepped → Type 0 where
   end : {s : State} → Struck w s [] [] []
-  stays : {s : State} {a : Asked} {xs ys : List Asked} {rs : List Stepped}
+  stays : {s : State} {a : Step} {xs ys : List Step} {rs : List Stepped}
       → Struck w (answerTo w s a .state) xs ys rs
       → Struck w s (a ∷ xs) (a ∷ ys) (answerTo w s a ∷ rs)
-  strikes : {s : State} {a : Asked} {xs ys : List Asked} {rs : List Stepped}
+  strikes : {s : State} {a : Step} {xs ys : List Step} {rs : List Stepped}
       → isRefused (answerTo w s a .outcome) ≡ true
       → Struck w (answerTo w s a .state) xs ys rs
       → Struck w s (a ∷ xs) ys rs
 
 -- the steps that are not refused
-unfoldable pub unrefused : List ℕ → State → List Asked → List Asked
+unfoldable pub unrefused : List ℕ → State → List Step → List Step
 unrefused w s [] = []
 unrefused w s (a ∷ xs) =
     let ys = unrefused w (answerTo w s a .state) xs in
@@ -126,7 +127,7 @@ unrefused w s (a ∷ xs) =
 -- ---- the clock
 
 -- a firing with so many entries in its label slice, for each of these numbers
-unfoldable pub firings : List ℕ → List Asked
+unfoldable pub firings : List ℕ → List Step
 firings [] = []
 firings (n ∷ ns) = record { request = firing; room = n } ∷ firings ns
 

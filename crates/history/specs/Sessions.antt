@@ -19,10 +19,12 @@ use Rattle.state.specs.States.{maxPending, dueIn}
 use Rattle.statements.specs.Running.{maxLabels}
 use Rattle.lines.specs.Lines.{Asked, asked}
 use Rattle.lines.specs.Lines as lines
-use Rattle.machine.specs.declared.Stepped.{Stepped}
-use Rattle.machine.specs.Steps.{refused, called, fired, ticked, step}
-use Rattle.machine.specs.Agreement.{agreedOn}
-use Rattle.machine.specs.Sessions.{partsSaid, invocationIn, told, maxTold, endOfLine, Turn, wait, turnAt, Session, here, before, onTurn, session}
+use Rattle.outcomes.specs.declared.Stepped.{Stepped}
+use Rattle.outcomes.specs.Outcomes.{refused}
+use Rattle.machine.specs.Steps.{called, fired, ticked, step}
+use Rattle.agreements.specs.Agreement.{agreedOn}
+use Rattle.step_reports.specs.Reports.{told, maxTold}
+use Rattle.machine.specs.Sessions.{partsSaid, invocationIn, endOfLine, Turn, wait, turnAt, Session, here, before, onTurn, session}
 use Rattle.machine.specs.Sessions as sessions
 
 -- arrays of full length and 64-bit integers, as every state has that code holds

@@ -2,3 +2,5 @@
 pub mod Choice
 pub mod Lists
 pub mod Bytes
+pub mod Truths
+pub mod Members

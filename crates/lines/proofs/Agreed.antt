@@ -18,7 +18,7 @@ use Rattle.tokens.specs.Classes.{within as inRange, isLetter, isDigit, isNameBy
 use Rattle.tokens.specs.Tokens.{between}
 use Rattle.lines.specs.Lines.{Span, Verb, set, ok, Field, Part, Parsed, done, no, andThen, give, skipped, mark, end, nameFrom, name, isWord, verb, field, list, part, parts}
 use Rattle.lines.specs.Answers.{verbNumber, fieldsOf, headsOf, spansOf, valuesOf}
-use Rattle.lines.specs.Steps.{isDone, verbOf, StoredFields, StoredPart, StoredParts}
+use Rattle.lines.specs.Private.{isDone, verbOf, StoredFields, StoredPart, StoredParts}
 use Rattle.lines.specs.declared.Found.{Found}
 use Rattle.lines.specs.declared.Found.the-variants as found
 use Rattle.lines.proofs.Got.{end-yes, end-no}

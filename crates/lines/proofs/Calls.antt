@@ -8,7 +8,7 @@ use lib.ListN.{length}
 use lib.Seq.{sets}
 use lib.IntN.{ℤ}
 use Rattle.lines.specs.Lines.{Parsed, done, no, Lists, end, integer, list, lists}
-use Rattle.lines.specs.Steps.{isDone, Stored, StoredCall}
+use Rattle.lines.specs.Private.{isDone, Stored, StoredCall}
 use Rattle.lines.specs.declared.Found.{Found}
 use Rattle.lines.specs.declared.Found.the-variants as found
 use Rattle.lines.proofs.Got.{end-yes, end-no}

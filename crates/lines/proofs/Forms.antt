@@ -15,7 +15,7 @@ use Rattle.laws.proofs.Choice.{true-false, pick-true, pick-false}
 use Rattle.tokens.specs.Classes.{within as inRange, isLetter}
 use Rattle.lines.specs.Lines.{Span, Part, Names, Lists, Asked, refused, tick, call, Parsed, done, no, andThen, give, otherwise, skipped, isNext, mark, end, nameFrom, name, word, verb, integer, list, names, lists, part, parts, tickLine, callLine, agreementLine, orRefused, asked}
 use Rattle.lines.specs.Answers.{padded, partsOf, fieldsOf}
-use Rattle.lines.specs.Steps.{isDone}
+use Rattle.lines.specs.Private.{isDone}
 use Rattle.lines.proofs.Ahead.{then-done, taken, mark-size}
 use Rattle.lines.proofs.Turns.{begin, missing, next-yes}
 use Rattle.lines.proofs.Size.{total, items-size, items-some, total-eight}

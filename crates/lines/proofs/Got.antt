@@ -11,7 +11,7 @@ use Rattle.laws.specs.Choice.{pick}
 use Rattle.laws.proofs.Choice.{true-false}
 use Rattle.tokens.specs.Classes.{isLetter, isNameByte, run}
 use Rattle.lines.specs.Lines.{Span, Verb, Field, tick, Parsed, done, no, andThen, give, skipped, end, nameFrom, name, mark, integer, verb, field}
-use Rattle.lines.specs.Steps.{placeOf, isDone, nameOf, verbOf, wholeOf, pairOf}
+use Rattle.lines.specs.Private.{placeOf, isDone, nameOf, verbOf, wholeOf, pairOf}
 use Rattle.lines.specs.declared.Place.{Place}
 use Rattle.lines.specs.declared.Place.the-variants as place
 use Rattle.lines.specs.declared.Found.{Found}

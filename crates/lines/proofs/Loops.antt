@@ -10,7 +10,7 @@ use mir.Syntax.{w64}
 use mir.Val.{SFits, toZ, ofZ}
 use mir.ValLaws.{toZ-ofZ}
 use Rattle.lines.specs.Lines.{Field, Parsed, done, no, mark, integer, field, items}
-use Rattle.lines.specs.Steps.{Stored, StoredFields}
+use Rattle.lines.specs.Private.{Stored, StoredFields}
 use Rattle.lines.specs.declared.Found.{Found}
 use Rattle.lines.specs.declared.Found.the-variants as found
 use Rattle.lines.proofs.Ahead.{integer-ahead, mark-ahead, field-ahead}

@@ -14,8 +14,10 @@ use Rattle.laws.proofs.Choice.{pick-true, pick-false}
 use Rattle.laws.proofs.Lists.{cons-at, past}
 use Rattle.numbers.specs.Numbers.{within}
 use Rattle.tokens.specs.Classes.{within as inRange, isLetter, isDigit, isNameByte, run, decimal}
+use Rattle.tokens.specs.Tokens.{digitsAt}
+use Rattle.tokens.specs.declared.Digits.{Digits}
 use Rattle.lines.specs.Lines.{Parsed, done, no, skipped, isNext, mark, end, nameFrom, name, digits, integer}
-use Rattle.lines.specs.Steps.{placeOf, isDone, wholeOf}
+use Rattle.lines.specs.Private.{placeOf, isDone, wholeOf}
 use Rattle.lines.specs.declared.Place.the-variants as place
 use Rattle.lines.specs.declared.Found.the-variants as found
 use Rattle.lines.specs.declared.Whole.{Whole}
@@ -115,13 +117,14 @@ module _ (sign : ℤ → ℤ) (far : (m : ℕ) → 2 ^ 63 < m → within (sign (
           pick-false _ _ _ (far (min d 9223372036854775809) (omega arith)) ∙ sym (ap wholeOf (pick-false _ _ _ (far d (omega arith))))
 
   module _ (s : List ℕ) (i : ℕ) where
-    pub digits-some : {r : Whole} {v e : ℕ} → isDigit (getD s i 0) ≡ true → r ≡ ranged (sign (pos v)) e → v ≡ min (decimal 0 (drop i s)) 9223372036854775809 → e ≡ i + run isDigit (drop i s) → r ≡ wholeOf (digits s sign i)
+    pub digits-some : {r : Whole} {d : Digits} → isDigit (getD s i 0) ≡ true → r ≡ ranged (sign (pos (d .value))) (d .end) → d ≡ digitsAt s i
+        → r ≡ wholeOf (digits s sign i)
     unfolding digits
-    digits-some {r} {v} {e} d q f g =
+    digits-some {r} {d} t q f =
         q
-        ∙ (λ j. ranged (sign (pos (f j))) (g j))
+        ∙ ap (λ (x : Digits). ranged (sign (pos (x .value))) (x .end)) f
         ∙ capped (decimal 0 (drop i s)) (i + run isDigit (drop i s))
-        ∙ sym (ap wholeOf (pick-true _ _ _ d))
+        ∙ sym (ap wholeOf (pick-true _ _ _ t))
 
     pub digits-none : isDigit (getD s i 0) ≡ false → digits s sign i ≡ no
     unfolding digits

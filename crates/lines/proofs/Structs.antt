@@ -10,7 +10,7 @@ use lib.IntN.{ℤ, pos}
 use Rattle.laws.specs.Bytes.{bytes}
 use Rattle.lines.specs.Lines.{Part, Names, Lists, call, agreement, Parsed, done, no, andThen, give, mark, name, names, lists, parts, tickLine, callLine, agreementLine, orRefused, asked}
 use Rattle.lines.specs.Answers.{plain, lineOf, partsOf, fieldsOf, headsOf, spansOf, valuesOf, agreementOf}
-use Rattle.lines.specs.Steps.{isDone, namesOf, StoredCall, StoredParts}
+use Rattle.lines.specs.Private.{isDone, namesOf, StoredCall, StoredParts}
 use Rattle.lines.specs.declared.Request.the-variants as request
 use Rattle.lines.specs.declared.Line.{Line}
 use Rattle.lines.specs.declared.Agreement.{Agreement}

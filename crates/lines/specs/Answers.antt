@@ -9,7 +9,7 @@ use Rattle.lines.specs.declared.Request.the-variants as request
 use Rattle.lines.specs.declared.Line.{Line}
 use Rattle.lines.specs.declared.Agreement.{Agreement}
 
--- the numbers given, then zeros up to n of them
+-- the numbers given, then zeros until there are n in all; no number is cut off
 abbrev pub padded : {A : Type 0} → A → ℕ → List A → List A
 padded none n xs = xs ++ replicate (n - length xs) none
 

@@ -1,3 +1,3 @@
 pub mod Lines
 pub mod Answers
-pub mod Steps
+pub mod Private

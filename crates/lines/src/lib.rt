@@ -1,19 +1,18 @@
 // A reader of one session line, the bytes before its LF: an agreement, a call or a tick, or the question that refuses it.
 ghost use mathlib.Core.Path.{_≡_};
 ghost use mathlib.Core.List.{[], _∷_};
-ghost use Prim.Native.Nat.{_+_, _-_, _*_, _≤_, _<_, min};
-ghost use lib.ListN.{length, drop, getD, set};
+ghost use Prim.Native.Nat.{_+_, _*_, _≤_, _<_};
+ghost use lib.ListN.{length, set};
 ghost use lib.Seq.{sets};
 ghost use lib.IntN.{pos, negℤ};
 ghost use Rattle.laws.specs.Choice.{pick};
 ghost use Rattle.laws.specs.Bytes.{sameBytes};
 ghost use Rattle.numbers.specs.Numbers.{within as inside};
 ghost use Rattle.words.specs.Words.{spelled};
-ghost use Rattle.tokens.specs.Classes.{within, isLetter, isDigit, isNameByte, run, decimal};
 ghost use Rattle.tokens.specs.Tokens.{between};
 ghost use Rattle.lines.specs.Lines.{asked, skipped, mark, end, name, digits, integer, verb, field, list, items, names, lists, part, parts, tickLine, agreementLine, orRefused};
 ghost use Rattle.lines.specs.Answers.{plain, lineOf, agreementOf, partsOf};
-ghost use Rattle.lines.specs.Steps.{placeOf, isDone, nameOf, verbOf, wholeOf, pairOf, namesOf, Stored, StoredCall, StoredFields, StoredPart, StoredParts};
+ghost use Rattle.lines.specs.Private.{placeOf, isDone, nameOf, verbOf, wholeOf, pairOf, namesOf, Stored, StoredCall, StoredFields, StoredPart, StoredParts};
 
 // What a session line asks for.
 pub enum Request {
@@ -84,47 +83,6 @@ enum Names {
 
 // ---- bytes
 
-fn within(b: u8, lo: u8, hi: u8) -> bool
-    ensures { λ r. ⌜ r ≡ within b lo hi ⌝ }
-{
-    if lo <= b { b <= hi } else { false }
-}
-
-fn is_letter(b: u8) -> bool
-    ensures { λ r. ⌜ r ≡ isLetter b ⌝ }
-{
-    if within(b, b'a', b'z') {
-        true
-    } else {
-        within(b, b'A', b'Z')
-    }
-}
-
-fn is_digit(b: u8) -> bool
-    ensures { λ r. ⌜ r ≡ isDigit b ⌝ }
-{
-    within(b, b'0', b'9')
-}
-
-fn is_name_byte(b: u8) -> bool
-    ensures { λ r. ⌜ r ≡ isNameByte b ⌝ }
-{
-    if is_letter(b) {
-        return true;
-    }
-    if is_digit(b) {
-        return true;
-    }
-    b == b'_'
-}
-
-// The byte at i, and 0 past the end.
-fn byte_at(line: &[u8], i: usize) -> u8
-    ensures { λ r. ⌜ r ≡ getD (now (line .entry)) i 0 ⌝ }
-{
-    if i < line.len() { line[i] } else { 0 }
-}
-
 // The place of the next byte that is no space.
 fn skip(line: &[u8], at: usize) -> usize
     ensures { λ r. ⌜ r ≡ skipped (now (line .entry)) at ⌝ }
@@ -132,21 +90,6 @@ fn skip(line: &[u8], at: usize) -> usize
     let mut i = at;
     while i < line.len() {
         if line[i] == b' ' {
-            i += 1;
-        } else {
-            return i;
-        }
-    }
-    i
-}
-
-// The end of the name bytes that start at `at`.
-fn name_end(line: &[u8], at: usize) -> usize
-    ensures { λ r. ⌜ r ≡ at + run isNameByte (drop at (now (line .entry))) ⌝ }
-{
-    let mut i = at;
-    while i < line.len() {
-        if is_name_byte(line[i]) {
             i += 1;
         } else {
             return i;
@@ -197,60 +140,14 @@ fn name(line: &[u8], at: usize) -> Found
     ensures { λ r. ⌜ r ≡ nameOf (name (now (line .entry)) at) ⌝ }
 {
     let i = skip(line, at);
-    if is_letter(byte_at(line, i)) {
-        return Found::At(i, name_end(line, i));
+    if tokens::is_letter(tokens::byte_at(line, i)) {
+        return Found::At(i, tokens::name_end(line, i));
     }
     Found::Nothing
 }
 
-// 2 ^ 63, a number past it, and a tenth of it.
+// 2 ^ 63.
 const LIMIT: u64 = 9223372036854775808;
-
-const ABOVE_LIMIT: u64 = 9223372036854775809;
-
-const TENTH_OF_LIMIT: u64 = 922337203685477580;
-
-// The end of the digits, and their value or ABOVE_LIMIT where it is greater than LIMIT.
-struct Digits {
-    end: usize,
-    value: u64,
-}
-
-fn digit_value(b: u8) -> u64
-    ensures { λ r. ⌜ r ≡ b - 48 ⌝ }
-{
-    if b'0' <= b { (b as u64) - 48 } else { 0 }
-}
-
-// v followed by one more digit, or ABOVE_LIMIT where that is greater than LIMIT.
-fn push(v: u64, digit: u8) -> u64
-    ensures { λ r. ⌜ r ≡ min (v * 10 + (digit - 48)) 9223372036854775809 ⌝ }
-{
-    if TENTH_OF_LIMIT < v {
-        return ABOVE_LIMIT;
-    }
-    let w = v * 10 + digit_value(digit);
-    if LIMIT < w { ABOVE_LIMIT } else { w }
-}
-
-// The digits that start at `at`, gone over once.
-fn read_digits(line: &[u8], at: usize) -> Digits
-    ensures end { λ r. ⌜ r .end ≡ at + run isDigit (drop at (now (line .entry))) ⌝ }
-    ensures value { λ r. ⌜ r .value ≡ min (decimal 0 (drop at (now (line .entry)))) 9223372036854775809 ⌝ }
-{
-    let mut i = at;
-    let mut v: u64 = 0;
-    while i < line.len() {
-        let b = line[i];
-        if is_digit(b) {
-            v = push(v, b);
-            i += 1;
-        } else {
-            return Digits { end: i, value: v };
-        }
-    }
-    Digits { end: i, value: v }
-}
 
 // A number from 0 on that ends at `end`, if it is below LIMIT.
 fn natural(n: u64, end: usize) -> Whole
@@ -279,8 +176,8 @@ fn negative(n: u64, end: usize) -> Whole
 fn positive_at(line: &[u8], i: usize) -> Whole
     ensures { λ r. ⌜ r ≡ wholeOf (digits (now (line .entry)) (λ z. z) i) ⌝ }
 {
-    if is_digit(byte_at(line, i)) {
-        let d = read_digits(line, i);
+    if tokens::is_digit(tokens::byte_at(line, i)) {
+        let d = tokens::read_digits(line, i);
         return natural(d.value, d.end);
     }
     Whole::Nothing
@@ -290,8 +187,8 @@ fn positive_at(line: &[u8], i: usize) -> Whole
 fn negative_at(line: &[u8], i: usize) -> Whole
     ensures { λ r. ⌜ r ≡ wholeOf (digits (now (line .entry)) negℤ i) ⌝ }
 {
-    if is_digit(byte_at(line, i)) {
-        let d = read_digits(line, i);
+    if tokens::is_digit(tokens::byte_at(line, i)) {
+        let d = tokens::read_digits(line, i);
         return negative(d.value, d.end);
     }
     Whole::Nothing
@@ -310,26 +207,11 @@ fn integer(line: &[u8], at: usize) -> Whole
     Whole::Nothing
 }
 
-// The bytes from a up to, not including, e; none where they are not all in the line.
-fn between(line: &[u8], a: usize, e: usize) -> &[u8]
-    ensures { λ r. ⌜ now r ≡ between (now (line .entry)) a e ⌝ }
-{
-    if a <= e {
-        if e <= line.len() {
-            &line[a..e]
-        } else {
-            &line[..0]
-        }
-    } else {
-        &line[..0]
-    }
-}
-
 // Whether a name is this fixed word, byte by byte.
 fn is_word(line: &[u8], start: usize, end: usize, which: u8) -> bool
     ensures { λ r. ⌜ r ≡ sameBytes (between (now (line .entry)) start end) (spelled which) ⌝ }
 {
-    words::is_word(between(line, start, end), which)
+    words::is_word(tokens::between(line, start, end), which)
 }
 
 // A verb: 0 for SET, 1 for OK, and its end.

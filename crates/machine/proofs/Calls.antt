@@ -14,7 +14,7 @@ use Rattle.numbers.specs.declared.Truth.{Truth}
 use Rattle.numbers.specs.declared.Truth.the-variants as truth
 use Rattle.contract.specs.Tree.{Contract, Function}
 use Rattle.contract.specs.Decode.{conditionAt, preconditionAt, functionAt, contractOf}
-use Rattle.contract.specs.Fits.{every}
+use Rattle.laws.specs.Lists.{every}
 use Rattle.evaluation.specs.Memory.{Memory}
 use Rattle.evaluation.specs.Meaning.{truthOf}
 use Rattle.state.specs.declared.State.{State}
@@ -24,8 +24,10 @@ use Rattle.statements.specs.declared.Work.{Work}
 use Rattle.statements.specs.Running.{memoryIn, ran}
 use Rattle.machine.specs.declared.Found.{Found}
 use Rattle.machine.specs.declared.Found.the-variants as found
-use Rattle.machine.specs.Steps.{refused, begun, amounts, Invocation, preconditionHolds, schedule, withScheduled, finished, byPrecondition, invoked, byChosen, callByDue, called}
-use Rattle.machine.specs.Parts.{naming, arguments, chosenIn, FoundIn}
+use Rattle.outcomes.specs.Outcomes.{refused}
+use Rattle.holdings.specs.Holdings.{amounts}
+use Rattle.machine.specs.Steps.{begun, Invocation, preconditionHolds, schedule, withScheduled, finished, byPrecondition, invoked, byChosen, callByDue, called}
+use Rattle.machine.specs.Private.{naming, arguments, chosenIn, FoundIn}
 use Rattle.machine.proofs.Functions.{choose-named}
 
 module _ (w : List ℕ) (m : Memory) (first n : ℕ) where

@@ -12,12 +12,14 @@ use Rattle.contract.specs.Tree.{Event}
 use Rattle.evaluation.specs.Memory.{Memory}
 use Rattle.state.specs.declared.State.{State}
 use Rattle.state.specs.declared.Pending.{Pending}
-use Rattle.state.specs.States.{maxPending, repeated, blank, live, withPending, removed, joinedBy}
+use Rattle.state.specs.States.{maxPending, blank, live, withPending, removed, joinedBy}
+use Rattle.laws.specs.Lists.{repeated}
 use Rattle.state.proofs.Kept.{Holds, holds-more}
 use Rattle.statements.specs.declared.Work.{Work}
-use Rattle.machine.specs.declared.Rule.the-variants.{Call}
-use Rattle.machine.specs.Steps.{refused, accepted, ended, Scheduled, times, withScheduled}
-use Rattle.machine.specs.Parts.{reached}
+use Rattle.outcomes.specs.declared.Rule.the-variants.{Call}
+use Rattle.outcomes.specs.Outcomes.{refused}
+use Rattle.machine.specs.Steps.{accepted, ended, Scheduled, times, withScheduled}
+use Rattle.holdings.specs.Holdings.{reached}
 use Rattle.machine.proofs.Firings.{with-reached}
 use Rattle.machine.proofs.Schedules.{joinedAll, Joined, joined-none}
 

@@ -8,7 +8,7 @@ use Rattle.contract.specs.Table.{wordAt, functionWord, eventWord, argumentAt}
 use Rattle.contract.specs.Tree as tree
 use Rattle.contract.specs.Decode.{expressionAt, blockWithin, blockBetween, eventAt, contractOf}
 use Rattle.contract.specs.Rows.{headOf, functionRowOf, eventRowOf, nodeOf}
-use Rattle.contract.specs.declared.Contract.{Contract}
+use Rattle.contract.specs.declared.TableHead.{TableHead}
 use Rattle.contract.specs.declared.Function.{Function}
 use Rattle.contract.specs.declared.Event.{Event}
 use Rattle.contract.specs.declared.Node.{Node}
@@ -17,7 +17,7 @@ use Rattle.evaluation.specs.Meaning.{valueOf}
 use Rattle.state.specs.declared.Pending.{Pending}
 use Rattle.state.specs.States.{noEvent, eventOf}
 use Rattle.state.proofs.Decoded.{event-of, event-unfounded, event-past, event-word-past}
-use Rattle.machine.specs.Parts.{HandlerOf}
+use Rattle.machine.specs.Private.{HandlerOf}
 
 -- a row past the table's end holds zeros
 pub zero-row : (w : List ℕ) (i : ℕ) → length w ≤ i → record { state = 0; last = 0; node = 0 } ≡ eventRowOf w i
@@ -28,13 +28,13 @@ no-handler : (w : List ℕ) (e : tree.Event) → e ≡ noEvent → HandlerOf w e
 unfolding blockWithin
 no-handler w e q = record { block = sym (ap (λ (x : tree.Event). x .handler) q); last = sym (ap (λ (x : tree.Event). x .last) q) }
 
-module _ (w : List ℕ) (p : Pending) (c : Contract) (h : c ≡ headOf w) where
+module _ (w : List ℕ) (p : Pending) (c : TableHead) (h : c ≡ headOf w) where
   pub no-function : c .functions ≤ p .function → HandlerOf w (eventOf (contractOf w) p) (record { from = 0; end = 0; last = 0 })
-  no-function l = no-handler w _ (event-unfounded w p (omega (arith, ap (λ (x : Contract). x .functions) h)))
+  no-function l = no-handler w _ (event-unfounded w p (omega (arith, ap (λ (x : TableHead). x .functions) h)))
 
   module _ (l : p .function < c .functions) (row : Function) (r : row ≡ functionRowOf w (p .function)) where
     known : p .function < wordAt w 6
-    known = omega (arith, ap (λ (x : Contract). x .functions) h)
+    known = omega (arith, ap (λ (x : TableHead). x .functions) h)
 
     pub no-event : row .events ≤ p .event → HandlerOf w (eventOf (contractOf w) p) (record { from = 0; end = 0; last = 0 })
     no-event m = no-handler w _ (event-past w p known (omega (arith, ap (λ (x : Function). x .events) r)))

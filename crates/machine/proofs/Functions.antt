@@ -10,20 +10,22 @@ use borrow.Author.Tests.{ltb-true, leb-true, eq-eqb, ne-eqb}
 use Rattle.laws.specs.Choice.{pick}
 use Rattle.laws.specs.Bytes.{sameBytes}
 use Rattle.contract.specs.Limits.{maxValues, maxParameters, maxNodes, maxEvents}
-use Rattle.contract.specs.Tree.{Word, Contract, Function}
+use Rattle.contract.specs.Tree.{Contract, Function}
 use Rattle.contract.specs.Fits.{Scope}
+use Rattle.laws.proofs.Truths.{link}
+use Rattle.laws.specs.Lists.{allBelow}
 use Rattle.contract.specs.Table.{wordAt, functionWord, functionsStart, functionWords, partiesStart, nameWords}
 use Rattle.contract.specs.Rows.{functionRowOf}
 use Rattle.contract.specs.declared.Function as rows
 use Rattle.contract.specs.Decode.{eachFrom, wordOf, preconditionAt, blockBetween, eventAt, functionAt, contractOf}
-use Rattle.contract.specs.Check.{allBelow, nameOk, scopeAt, preconditionOk, bodyOk, eventOk, eventFirst, firstNode, firstEvent, functionNodesOk, functionOk, passes}
-use Rattle.contract.proofs.Fitting.{link}
-use Rattle.contract.proofs.Sound.{passed}
+use Rattle.contract.specs.Check.{nameOk, scopeAt, preconditionOk, bodyOk, eventOk, eventFirst, firstNode, firstEvent, functionNodesOk, functionOk, passes}
+use Rattle.contract_laws.proofs.Sound.{passed}
 use Rattle.state.specs.States.{noEvent}
 use Rattle.state.proofs.Decoded.{each-length, each-at}
+use Rattle.agreements.proofs.Clauses.{party-name}
 use Rattle.machine.specs.declared.Found.the-variants as found
 use Rattle.machine.specs.Steps.{Invocation, Chosen, chosen, unknown, choose, answersTo}
-use Rattle.machine.specs.Parts.{naming, FoundIn}
+use Rattle.machine.specs.Private.{naming, FoundIn}
 
 -- ---- what passing says of function i
 pub record Placed (w : List ℕ) (i : ℕ) : Type 0 where
@@ -77,13 +79,6 @@ placed w e i h =
     }
 
 -- ---- whether a function is called
-pub party-name : (w : List ℕ) (k : ℕ) → k < wordAt w 0 → getD (contractOf w .parties) k [] ≡ wordOf w (partiesStart + k * nameWords)
-unfolding contractOf
-party-name w k h =
-    let f : ℕ → Word = λ i. wordOf w (partiesStart + i * nameWords) in
-    let e : 0 + k ≡ k = omega arith in
-    each-at 0 (wordAt w 0) f k [] h ∙ ap f e
-
 module _ (w : List ℕ) (i q : ℕ) (a b : List ℕ) where
   pub other-state : (functionWord w i 0 ≡ q → ⊥) → false ≡ answersTo (contractOf w) q (naming a b) (functionAt w i)
   unfolding answersTo functionAt

@@ -12,9 +12,10 @@ use Rattle.contract.specs.Decode.{contractOf}
 use Rattle.contract.specs.Check.{passes}
 use Rattle.state.specs.declared.State.{State}
 use Rattle.state.specs.States.{stateOk}
-use Rattle.machine.specs.declared.Stepped.{Stepped}
-use Rattle.machine.specs.Steps.{refused, step}
-use Rattle.machine.specs.Parts.{firstNo}
+use Rattle.outcomes.specs.declared.Stepped.{Stepped}
+use Rattle.outcomes.specs.Outcomes.{refused}
+use Rattle.machine.specs.Steps.{step}
+use Rattle.machine.specs.Private.{firstNo}
 
 module _ (w : List ℕ) (room : ℕ) (s : State) where
   pub no-table : passes w ≡ false → 3 ≡ firstNo w room s

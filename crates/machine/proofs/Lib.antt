@@ -1,7 +1,5 @@
-pub mod Copies
 pub mod Ticks
 pub mod Events
-pub mod Names
 pub mod Tests
 pub mod Firings
 pub mod Gates
@@ -10,9 +8,6 @@ pub mod Schedules
 pub mod Concluded
 pub mod Calls
 pub mod Performed
-pub mod Clauses
-pub mod Agreements
-pub mod Lines
 pub mod Columns
 pub mod Taken
 pub mod Pendings

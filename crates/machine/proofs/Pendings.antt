@@ -1,8 +1,8 @@
 -- Steps keep the number of pending events within its bound, and the arrays of a state and of an answer at their lengths. Assumes nothing.
-use mathlib.Core.Path.{_≡_, refl, ap, _∙_}
+use mathlib.Core.Path.{_≡_, _∙_}
 use mathlib.Core.Bool.{true, false, not}
 use mathlib.Core.List.{List, [], _∷_, _++_}
-use Prim.Native.Nat.{ℕ, zero, suc, _+_, _-_, _≤_}
+use Prim.Native.Nat.{ℕ, suc, _+_, _-_, _≤_}
 use native.Mathlib.Omega.{arith}
 use lib.ListN.{length, getD, length-set, length-append, length-take}
 use lib.Dec.{eqb}
@@ -22,19 +22,24 @@ use Rattle.state.specs.declared.State.{State}
 use Rattle.state.specs.declared.Pending.{Pending}
 use Rattle.state.specs.declared.Due.{Due}
 use Rattle.state.specs.declared.Due.the-variants as due
-use Rattle.state.specs.States.{repeated, blank, live, eventOf, dueIn, keep, withPending, lapsed, removed}
-use Rattle.state.proofs.Each.{keep-length, without-length}
+use Rattle.state.specs.States.{blank, live, eventOf, dueIn, withPending, lapsed, removed}
+use Rattle.laws.proofs.Members.{keep-length}
+use Rattle.laws.specs.Lists.{repeated, keep}
+use Rattle.state.proofs.Each.{without-length}
 use Rattle.state.proofs.Kept.{without}
 use Rattle.statements.specs.declared.Work.{Work}
 use Rattle.statements.specs.Running.{integerLabel, stringLabel, assetLabel, memoryIn, onward, stored, labelled, sent, place, moved, paid, withValue, withAmount, performed, byTruth, ran}
 use Rattle.lines.specs.Lines.{Asked, asked}
 use Rattle.lines.specs.Lines as lines
-use Rattle.machine.specs.declared.Rule.the-variants.{Agree, Call, EventMatch, Tick}
-use Rattle.machine.specs.declared.Outcome.the-variants.{Accepted, Failed}
-use Rattle.machine.specs.declared.Stepped.{Stepped}
-use Rattle.machine.specs.Steps.{noLabel, answered, refused, accepted, begun, ended, Invocation, amounts, Chosen, chosen, answersTo, choose, preconditionHolds, Scheduled, times, no, schedule, withScheduled, finished, byPrecondition, invoked, byChosen, callByDue, called, handled, fireByDue, fired, later, tickByDue, ticked}
-use Rattle.machine.specs.Agreement.{Part, withInteger, setFields, setClause, setClauses, opened, agreedOn}
+use Rattle.outcomes.specs.declared.Rule.the-variants.{Agree, Call, EventMatch, Tick}
+use Rattle.outcomes.specs.declared.Outcome.the-variants.{Accepted, Failed}
+use Rattle.outcomes.specs.declared.Stepped.{Stepped}
+use Rattle.outcomes.specs.Outcomes.{noLabel, answered, refused}
+use Rattle.holdings.specs.Holdings.{amounts}
+use Rattle.machine.specs.Steps.{accepted, begun, ended, Invocation, Chosen, chosen, answersTo, choose, preconditionHolds, Scheduled, times, no, schedule, withScheduled, finished, byPrecondition, invoked, byChosen, callByDue, called, handled, fireByDue, fired, later, tickByDue, ticked}
+use Rattle.agreements.specs.Agreement.{Part, withInteger, setFields, setClause, setClauses, opened, agreedOn}
 use Rattle.machine.specs.Sessions.{partsSaid, invocationIn, takenBy, taken}
+use Rattle.laws.proofs.Members.{repeated-length}
 
 -- ---- how a step can come out
 
@@ -132,11 +137,6 @@ module _ (c : Contract) (s : State) where
 pub record Slotted (s : State) : Type 0 where
   pub events : length (s .events) ≡ 64
   pub pending : s .pending ≤ 64
-
-repeated-length : {A : Type 0} (n : ℕ) (x : A) → length (repeated n x) ≡ n
-unfolding repeated
-repeated-length zero x = refl
-repeated-length (suc n) x = ap suc (repeated-length n x)
 
 -- few pending events in 64 slots
 with-slotted : (s : State) (ps : List Pending) → length ps ≤ 64 → Slotted (withPending s ps)
@@ -273,12 +273,6 @@ module _ (c : Contract) (s : State) where
 
   pub slotted-taken : (line : List ℕ) → Slotted s → Slotted (taken c s line .state)
   slotted-taken line h = outcome-slotted h (taken-outcomes c s line (asked line))
-
-  pub pending-fired : length (s .events) ≡ 64 → s .pending ≤ 64 → fired c s .state .pending ≤ 64
-  pending-fired e h = slotted-fired (record { events = e; pending = h }) .pending
-
-  pub pending-taken : (line : List ℕ) → length (s .events) ≡ 64 → s .pending ≤ 64 → taken c s line .state .pending ≤ 64
-  pending-taken line e h = slotted-taken line (record { events = e; pending = h }) .pending
 
   pub labels-fired : length (fired c s .labels) ≡ 64
   labels-fired = outcome-labels (fired-outcomes c s)

@@ -8,25 +8,29 @@ use Rattle.laws.specs.Choice.{pick}
 use Rattle.laws.proofs.Choice.{true-false}
 use Rattle.contract.specs.Tree.{Function, Contract}
 use Rattle.state.specs.declared.State.{State}
-use Rattle.state.specs.States.{repeated, stateOk}
+use Rattle.state.specs.States.{stateOk}
+use Rattle.laws.specs.Lists.{repeated}
 use Rattle.state.proofs.Within.{within}
 use Rattle.statements.specs.declared.Label.{Label}
 use Rattle.statements.specs.declared.Work.{Work}
 use Rattle.statements.specs.Running.{memoryIn, labelsFrom, workFrom}
-use Rattle.machine.specs.declared.Rule.the-variants.{Call}
-use Rattle.machine.specs.declared.Stepped.{Stepped}
-use Rattle.machine.specs.declared.Came.{Came}
-use Rattle.machine.specs.Steps.{noLabel, noLabels, refused, accepted, begun, amounts, Scheduled, times, no, schedule, withScheduled, finished}
-use Rattle.machine.specs.Parts.{cameOf, isAccepted, holdingsOf}
+use Rattle.outcomes.specs.declared.Rule.the-variants.{Call}
+use Rattle.outcomes.specs.declared.Stepped.{Stepped}
+use Rattle.machine.specs.declared.Reply.{Reply}
+use Rattle.outcomes.specs.Outcomes.{noLabel, noLabels, refused}
+use Rattle.holdings.specs.Holdings.{amounts}
+use Rattle.machine.specs.Steps.{accepted, begun, Scheduled, times, no, schedule, withScheduled, finished}
+use Rattle.holdings.specs.Holdings.{holdingsOf}
+use Rattle.machine.specs.Private.{replyOf, isAccepted}
 
 -- ---- answers
 
 -- an answer and its labels, where the step is known by another name
-pub by-answer : (x t : Stepped) → x ≡ t → (r : Came) → r ≡ cameOf x → (ls : List Label) → ls ≡ x .labels → (r ≡ cameOf t) × (ls ≡ t .labels)
-by-answer x t e r f ls g = (f ∙ ap (λ (y : Stepped). cameOf y) e, g ∙ ap (λ (y : Stepped). y .labels) e)
+pub by-answer : (x t : Stepped) → x ≡ t → (r : Reply) → r ≡ replyOf x → (ls : List Label) → ls ≡ x .labels → (r ≡ replyOf t) × (ls ≡ t .labels)
+by-answer x t e r f ls g = (f ∙ ap (λ (y : Stepped). replyOf y) e, g ∙ ap (λ (y : Stepped). y .labels) e)
 
 -- an answer with the labels that stood beside it
-pub with-its-labels : (x : Stepped) (r : Came) → r ≡ cameOf x → (ls : List Label) → ls ≡ x .labels → _≡_ {A = Stepped} (record { outcome = r .outcome; state = r .state; labels = ls; count = r .count }) x
+pub with-its-labels : (x : Stepped) (r : Reply) → r ≡ replyOf x → (ls : List Label) → ls ≡ x .labels → _≡_ {A = Stepped} (record { outcome = r .outcome; state = r .state; labels = ls; count = r .count }) x
 with-its-labels x r e ls g = λ i. record { outcome = e i .outcome; state = e i .state; labels = g i; count = e i .count }
 
 -- columns of zeros
@@ -55,7 +59,7 @@ unlabelled w = workFrom (w .kinds) (w .numbers) (w .texts) (w .holdings) [] (w .
 
 -- t ends a call with work w, and u one with the same work without its labels
 record Ends (w : Work) (t u : Stepped) : Type 0 where
-  came : cameOf u ≡ cameOf t
+  came : replyOf u ≡ replyOf t
   sent : isAccepted (t .outcome) ≡ true → w .labels ≡ t .labels
   none : isAccepted (t .outcome) ≡ false → noLabels ≡ t .labels
 
@@ -84,15 +88,15 @@ module _ (s : State) (w : Work) where
         (ends-refused w s (w .refusal))
 
 -- the body has run and gave x; r answers for the work without its labels
-module _ (s : State) (n : ℕ) (f : Function) (v : List ℤ) (w x : Work) (q : w ≡ x) (r : Came) (g : r ≡ cameOf (finished s n f v (unlabelled w))) where
-  answers : r ≡ cameOf (finished s n f v w)
+module _ (s : State) (n : ℕ) (f : Function) (v : List ℤ) (w x : Work) (q : w ≡ x) (r : Reply) (g : r ≡ replyOf (finished s n f v (unlabelled w))) where
+  answers : r ≡ replyOf (finished s n f v w)
   answers = g ∙ ends s w n f v .came
 
-  by-work : (ls : List Label) → ls ≡ finished s n f v w .labels → (r ≡ cameOf (finished s n f v x)) × (ls ≡ finished s n f v x .labels)
+  by-work : (ls : List Label) → ls ≡ finished s n f v w .labels → (r ≡ replyOf (finished s n f v x)) × (ls ≡ finished s n f v x .labels)
   by-work ls h = by-answer _ _ (ap (finished s n f v) q) r answers ls h
 
-  pub performed-sends : isAccepted (r .outcome) ≡ true → (r ≡ cameOf (finished s n f v x)) × (w .labels ≡ finished s n f v x .labels)
-  performed-sends h = by-work (w .labels) (ends s w n f v .sent (ap (λ (y : Came). isAccepted (y .outcome)) (sym answers) ∙ h))
+  pub performed-sends : isAccepted (r .outcome) ≡ true → (r ≡ replyOf (finished s n f v x)) × (w .labels ≡ finished s n f v x .labels)
+  performed-sends h = by-work (w .labels) (ends s w n f v .sent (ap (λ (y : Reply). isAccepted (y .outcome)) (sym answers) ∙ h))
 
-  pub performed-nothing : isAccepted (r .outcome) ≡ false → (ls : List Label) → ls ≡ noLabels → (r ≡ cameOf (finished s n f v x)) × (ls ≡ finished s n f v x .labels)
-  performed-nothing h ls e = by-work ls (e ∙ ends s w n f v .none (ap (λ (y : Came). isAccepted (y .outcome)) (sym answers) ∙ h))
+  pub performed-nothing : isAccepted (r .outcome) ≡ false → (ls : List Label) → ls ≡ noLabels → (r ≡ replyOf (finished s n f v x)) × (ls ≡ finished s n f v x .labels)
+  performed-nothing h ls e = by-work ls (e ∙ ends s w n f v .none (ap (λ (y : Reply). isAccepted (y .outcome)) (sym answers) ∙ h))

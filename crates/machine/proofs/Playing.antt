@@ -3,14 +3,12 @@ use mathlib.Core.Path.{_≡_, refl, sym, ap, subst, _∙_}
 use mathlib.Core.Bool.{Bool, true, false}
 use mathlib.Core.List.{List, [], _∷_, _++_, append-assoc, append-nil}
 use Prim.Native.Nat.{ℕ, zero, suc, _+_, _-_, _*_, _≤_, _<_, min}
-use native.Mathlib.Nat.{add-zero}
-use native.Mathlib.Numerals.{add-one}
 use native.Mathlib.Omega.{arith}
-use lib.Dec.{leb, ltb}
-use lib.IntN.{ℤ, pos}
-use lib.ListN.{length, getD, set, take, length-append}
-use lib.Seq.{sets, length-sets, take-suc, take-all, length-take-le}
-use borrow.Author.Tests.{ltb-true, ltb-false, lt-ltb, le-ltb, le-leb, lt-leb, leb-true, leb-false}
+use lib.Dec.{leb}
+use lib.IntN.{ℤ}
+use lib.ListN.{length, take, length-append}
+use lib.Seq.{sets}
+use borrow.Author.Tests.{lt-ltb, le-ltb, le-leb, lt-leb, leb-true, leb-false}
 use Rattle.laws.specs.Choice.{pick}
 use Rattle.laws.proofs.Choice.{pick-true, pick-false, by-cases, true-false}
 use Rattle.tokens.specs.Tokens.{between}
@@ -24,193 +22,29 @@ use Rattle.state.specs.States.{stateOk, dueIn}
 use Rattle.statements.specs.declared.Label.{Label}
 use Rattle.statements.specs.Running.{labelsFrom}
 use Rattle.results.specs.declared.Report.{Report}
-use Rattle.results.specs.declared.Report.the-variants as report
-use Rattle.results.specs.Coded.{coded, integerOf, codedAll, integersOf}
-use Rattle.machine.specs.declared.Rule.{Rule}
-use Rattle.machine.specs.declared.Outcome.{Outcome}
-use Rattle.machine.specs.declared.Outcome.the-variants as outcome
-use Rattle.machine.specs.declared.Stepped.{Stepped}
-use Rattle.machine.specs.declared.Came.{Came}
+use Rattle.results.specs.Coded.{codedAll, integersOf}
+use Rattle.outcomes.specs.declared.Stepped.{Stepped}
+use Rattle.machine.specs.declared.Reply.{Reply}
 use Rattle.machine.specs.declared.Next.{Next}
 use Rattle.machine.specs.declared.Played.{Played}
-use Rattle.machine.specs.Steps.{noLabel, fired}
-use Rattle.machine.specs.Sessions.{taken, ruleNumber, reportOf, labelReport, labelReports, told as linesTold, endOfLine, Turn, makes, wait, turnByDue, turnAt, Session, here, before, onTurn, sessionFor, roomIn, session, notPlayed, played, reportsOf}
-use Rattle.machine.specs.Parts.{firstNo, cameOf, TurnIs, stepped, waits, PlayedIs}
+use Rattle.machine.specs.Steps.{fired}
+use Rattle.machine.specs.Sessions.{taken, endOfLine, Turn, makes, wait, turnByDue, turnAt, Session, here, before, onTurn, sessionFor, session, notPlayed, played, reportsOf}
+use Rattle.machine.specs.Private.{firstNo, replyOf, TurnIs, stepped, waits, PlayedIs}
+use Rattle.step_reports.specs.Reports.{reportOf, labelReports, told as linesTold, roomIn, hasRoom, stepReports}
+use Rattle.step_reports.proofs.Reports.{Told, told-none, told-more, numbers-kept, integers-kept, sent-length, columns-told}
 use Rattle.machine.proofs.Gates.{stops, goes}
 use Rattle.machine.proofs.Pendings.{Slotted, slotted-fired, slotted-taken, labels-fired, labels-taken}
 
--- ---- stores after stores
-
-sets-append : {A : Type 0} (a b l : List A) (i : ℕ) → sets (sets l i a) (i + length a) b ≡ sets l i (a ++ b)
-sets-append [] b l i = ap (λ k. sets l k b) (add-zero i)
-sets-append (x ∷ a) b l i =
-    let e : i + suc (length a) ≡ suc i + length a = omega arith in
-    ap (λ k. sets (sets (set l i x) (suc i) a) k b) e ∙ sets-append a b (set l i x) (suc i)
-
-pub stored-four : (l : List ℕ) (i w a b c : ℕ) → set (set (set (set l i w) (i + 1) a) (i + 2) b) (i + 3) c ≡ sets l i (w ∷ a ∷ b ∷ c ∷ [])
-stored-four l i w a b c =
-    let e : i + 1 ≡ suc i = omega arith in
-    let f : i + 2 ≡ suc (suc i) = omega arith in
-    let g : i + 3 ≡ suc (suc (suc i)) = omega arith in
-    λ t. set (set (set (set l i w) (e t) a) (f t) b) (g t) c
-
--- ---- reports as numbers
-
-coded-length : (r : Report) → length (coded r) ≡ 4
-coded-length (report.Ruled a b c) = refl
-coded-length (report.Sent a b c) = refl
-coded-length (report.Held a b) = refl
-coded-length (report.Refused n) = refl
-coded-length (report.Failed n) = refl
-
-coded-all-length : (rs : List Report) → length (codedAll rs) ≡ 4 * length rs
-unfolding codedAll
-coded-all-length [] = refl
-coded-all-length (r ∷ rs) =
-    let a = length-append (coded r) (codedAll rs) in
-    let b = coded-length r in
-    let c = coded-all-length rs in
-    omega arith
-
-coded-append : (a b : List Report) → codedAll (a ++ b) ≡ codedAll a ++ codedAll b
-unfolding codedAll
-coded-append [] b = refl
-coded-append (r ∷ a) b = ap (λ l. coded r ++ l) (coded-append a b) ∙ sym (append-assoc (coded r) (codedAll a) (codedAll b))
-
-integers-length : (rs : List Report) → length (integersOf rs) ≡ length rs
-unfolding integersOf
-integers-length [] = refl
-integers-length (r ∷ rs) = ap suc (integers-length rs)
-
-integers-append : (a b : List Report) → integersOf (a ++ b) ≡ integersOf a ++ integersOf b
-unfolding integersOf
-integers-append [] b = refl
-integers-append (r ∷ a) b = ap (λ l. integerOf r ∷ l) (integers-append a b)
-
--- these reports stand from report n on, all else is as it was
-pub record Told (numbers : List ℕ) (integers : List ℤ) (n : ℕ) (rs : List Report) (told : List ℕ) (values : List ℤ) : Type 0 where
-  pub numbers-after : told ≡ sets numbers (4 * n) (codedAll rs)
-  pub integers-after : values ≡ sets integers n (integersOf rs)
-
-module _ {numbers : List ℕ} {integers : List ℤ} {n : ℕ} where
-  pub told-none : Told numbers integers n [] numbers integers
-  unfolding codedAll integersOf
-  told-none = record { numbers-after = refl; integers-after = refl }
-
-  pub told-one : (r : Report) (told : List ℕ) (values : List ℤ) → told ≡ sets numbers (4 * n) (coded r) → values ≡ sets integers n (integerOf r ∷ []) → Told numbers integers n (r ∷ []) told values
-  unfolding codedAll integersOf
-  told-one r told values a b =
-      record { numbers-after = a ∙ ap (sets numbers (4 * n)) (sym (append-nil (coded r))); integers-after = b }
-
-  pub told-more : {a b : List Report} {told more : List ℕ} {values others : List ℤ} {m : ℕ} → Told numbers integers n a told values → m ≡ n + length a → Told told values m b more others → Told numbers integers n (a ++ b) more others
-  told-more {a} {b} {told} {more} {values} {others} {m} x e y =
-      let l = coded-all-length a in
-      let k = integers-length a in
-      let i : 4 * m ≡ 4 * n + length (codedAll a) = omega arith in
-      let j : m ≡ n + length (integersOf a) = omega arith in
-      record {
-        numbers-after = y .numbers-after ∙ ap (λ z. sets z (4 * m) (codedAll b)) (x .numbers-after) ∙ ap (λ z. sets (sets numbers (4 * n) (codedAll a)) z (codedAll b)) i ∙ sets-append (codedAll a) (codedAll b) numbers (4 * n) ∙ ap (sets numbers (4 * n)) (sym (coded-append a b));
-        integers-after = y .integers-after ∙ ap (λ z. sets z m (integersOf b)) (x .integers-after) ∙ ap (λ z. sets (sets integers n (integersOf a)) z (integersOf b)) j ∙ sets-append (integersOf a) (integersOf b) integers n ∙ ap (sets integers n) (sym (integers-append a b));
-      }
-
-  pub numbers-kept : {rs : List Report} {told : List ℕ} {values : List ℤ} → Told numbers integers n rs told values → length told ≡ length numbers
-  numbers-kept {rs} t = ap length (t .numbers-after) ∙ length-sets numbers (4 * n) (codedAll rs)
-
-  pub integers-kept : {rs : List Report} {told : List ℕ} {values : List ℤ} → Told numbers integers n rs told values → length values ≡ length integers
-  integers-kept {rs} t = ap length (t .integers-after) ∙ length-sets integers n (integersOf rs)
-
--- ---- labels
-
-reports-append : (a b : List Label) → labelReports (a ++ b) ≡ labelReports a ++ labelReports b
-unfolding labelReports
-reports-append [] b = refl
-reports-append (l ∷ a) b = ap (λ r. labelReport l ∷ r) (reports-append a b)
-
-pub reports-length : (a : List Label) → length (labelReports a) ≡ length a
-unfolding labelReports
-reports-length [] = refl
-reports-length (l ∷ a) = ap suc (reports-length a)
-
-label-at : (ks ps : List ℕ) (vs : List ℤ) (i : ℕ) → i < length (labelsFrom ks ps vs) → getD (labelsFrom ks ps vs) i noLabel ≡ record { kind = getD ks i 0; party = getD ps i 0; value = getD vs i (pos 0) }
-unfolding labelsFrom
-label-at [] ps vs i h = absurd (omega arith)
-label-at (k ∷ ks) [] vs i h = absurd (omega arith)
-label-at (k ∷ ks) (p ∷ ps) [] i h = absurd (omega arith)
-label-at (k ∷ ks) (p ∷ ps) (v ∷ vs) zero h = refl
-label-at (k ∷ ks) (p ∷ ps) (v ∷ vs) (suc i) h = label-at ks ps vs i (omega arith)
-
--- label i after those before it
-pub label-told : {numbers more : List ℕ} {integers others : List ℤ} {n : ℕ} {told : List ℕ} {values : List ℤ} (ks ps : List ℕ) (vs : List ℤ) (i : ℕ) → i < length (labelsFrom ks ps vs) → Told numbers integers n (labelReports (take i (labelsFrom ks ps vs))) told values → {k : ℕ} → k ≡ getD ks i 0 → more ≡ sets told (4 * (n + i)) (2 ∷ k ∷ getD ps i 0 ∷ 0 ∷ []) → {v : ℤ} → v ≡ getD vs i (pos 0) → others ≡ sets values (n + i) (v ∷ []) → Told numbers integers n (labelReports (take (i + 1) (labelsFrom ks ps vs))) more others
-unfolding labelReports
-label-told {numbers} {more} {integers} {others} {n} {told} {values} ks ps vs i h t {k = kind} e p {v = value} f q =
-    let l : List Label = labelsFrom ks ps vs in
-    let r : Report = report.Sent (getD ks i 0) (getD ps i 0) (getD vs i (pos 0)) in
-    let u : take (i + 1) l ≡ take i l ++ (record { kind = getD ks i 0; party = getD ps i 0; value = getD vs i (pos 0) } ∷ []) = ap (λ k. take k l) (add-one i) ∙ take-suc l i noLabel h ∙ ap (λ x. take i l ++ (x ∷ [])) (label-at ks ps vs i h) in
-    let m = reports-length (take i l) in
-    let k : length (take i l) ≡ i = length-take-le i l (omega arith) in
-    let g : labelReports (take i l) ++ (r ∷ []) ≡ labelReports (take (i + 1) l) = sym (ap labelReports u ∙ reports-append (take i l) _) in
-    subst (λ z. Told numbers integers n z more others) g (told-more t (omega arith) (told-one r more others (p ∙ ap (λ (z : ℕ). sets told (4 * (n + i)) (2 ∷ z ∷ getD ps i 0 ∷ 0 ∷ [])) e) (q ∙ ap (λ (z : ℤ). sets values (n + i) (z ∷ [])) f)))
-
--- no more labels than there are
-take-least : (l : List Label) (k n : ℕ) (b : Bool) → ltb k n ≡ b → length l ≡ n → take (min k n) l ≡ take k l
-take-least l k n true e h =
-    let x = ltb-true k n e in
-    let m : min k n ≡ k = omega arith in
-    ap (λ z. take z l) m
-take-least l k n false e h =
-    let x = ltb-false k n e in
-    let m : min k n ≡ n = omega arith in
-    ap (λ z. take z l) m ∙ take-all n l (omega arith) ∙ sym (take-all k l (omega arith))
-
--- ---- a step's result lines
-
-told-length : (t : Stepped) → length (t .labels) ≡ 64 → length (linesTold t) ≡ suc (min (t .count) 64)
-unfolding linesTold
-told-length t h =
-    let a = reports-length (take (t .count) (t .labels)) in
-    let b : length (take (t .count) (t .labels)) ≡ length (take (min (t .count) 64) (t .labels)) = ap length (sym (take-least (t .labels) (t .count) 64 (ltb (t .count) 64) refl h)) in
-    let d = length-take-le (min (t .count) 64) (t .labels) (omega arith) in
-    omega arith
-
--- what came of a step, and its labels after it
-step-told : {numbers told more : List ℕ} {integers values others : List ℤ} {n : ℕ} (t : Stepped) (m : ℕ) → length (t .labels) ≡ 64 → m ≡ min (t .count) 64 → told ≡ sets numbers (4 * n) (coded (reportOf (t .outcome) (t .state .state) (t .state .clock))) → values ≡ sets integers n (integerOf (reportOf (t .outcome) (t .state .state) (t .state .clock)) ∷ []) → more ≡ sets told (4 * (n + 1)) (codedAll (labelReports (take m (t .labels)))) → others ≡ sets values (n + 1) (integersOf (labelReports (take m (t .labels)))) → Told numbers integers n (linesTold t) more others
-unfolding linesTold
-step-told {numbers} {told} {more} {integers} {values} {others} {n} t m h e a b p q =
-    let r : Report = reportOf (t .outcome) (t .state .state) (t .state .clock) in
-    let u : take m (t .labels) ≡ take (t .count) (t .labels) = ap (λ z. take z (t .labels)) e ∙ take-least (t .labels) (t .count) 64 (ltb (t .count) 64) refl h in
-    let x : Told told values (n + 1) (labelReports (take m (t .labels))) more others = record { numbers-after = p; integers-after = q } in
-    subst (λ (z : List Label). Told numbers integers n (r ∷ labelReports z) more others) u (told-more (told-one r told values a b) refl x)
-
--- ---- what came of a step, as a report
-
-module _ (o : Outcome) (state clock : ℕ) where
-  pub ruled : (r : Rule) (k : ℕ) → o ≡ outcome.Accepted r → k ≡ ruleNumber r → report.Ruled k state clock ≡ reportOf o state clock
-  unfolding reportOf
-  ruled r k e f = ap (λ (x : ℕ). report.Ruled x state clock) f ∙ ap (λ (x : Outcome). reportOf x state clock) (sym e)
-
-  pub failed : (q : ℕ) → o ≡ outcome.Failed q → report.Failed q ≡ reportOf o state clock
-  unfolding reportOf
-  failed q e = ap (λ (x : Outcome). reportOf x state clock) (sym e)
-
-  pub turned-down : (q : ℕ) → o ≡ outcome.Refused q → report.Refused q ≡ reportOf o state clock
-  unfolding reportOf
-  turned-down q e = ap (λ (x : Outcome). reportOf x state clock) (sym e)
-
--- the numbers of a report are those of an equal one
-pub same-report : (numbers told : List ℕ) (integers values : List ℤ) (n : ℕ) (r u : Report) → r ≡ u → told ≡ sets numbers (4 * n) (coded r) → values ≡ sets integers n (integerOf r ∷ []) → (told ≡ sets numbers (4 * n) (coded u)) × (values ≡ sets integers n (integerOf u ∷ []))
-same-report numbers told integers values n r u e a b =
-    (a ∙ ap (λ (x : Report). sets numbers (4 * n) (coded x)) e, b ∙ ap (λ (x : Report). sets integers n (integerOf x ∷ [])) e)
-
 -- ---- how a turn comes out
 
-module _ (c : Contract) (bytes : List ℕ) (s : State) (at : ℕ) (labels : List Label) (came : Came) where
-  pub turn-fired : (k : ℕ) → dueIn c s ≡ due.At k → came ≡ cameOf (fired c s) → labels ≡ fired c s .labels → TurnIs (record { more = true; at = at; came = came }) labels (turnAt c bytes s at)
+module _ (c : Contract) (bytes : List ℕ) (s : State) (at : ℕ) (labels : List Label) (came : Reply) where
+  pub turn-fired : (k : ℕ) → dueIn c s ≡ due.At k → came ≡ replyOf (fired c s) → labels ≡ fired c s .labels → TurnIs (record { more = true; at = at; came = came }) labels (turnAt c bytes s at)
   unfolding turnAt
   turn-fired k e a b =
       subst (TurnIs (record { more = true; at = at; came = came }) labels) (sym (ap (turnByDue c bytes s at) e)) (stepped refl refl a b)
 
   module _ (end : ℕ) (e : dueIn c s ≡ due.Nothing) (f : end ≡ endOfLine bytes at) where
-    pub turn-taken : (line : List ℕ) → line ≡ between bytes at end → end < length bytes → came ≡ cameOf (taken c s line) → labels ≡ taken c s line .labels → TurnIs (record { more = true; at = end + 1; came = came }) labels (turnAt c bytes s at)
+    pub turn-taken : (line : List ℕ) → line ≡ between bytes at end → end < length bytes → came ≡ replyOf (taken c s line) → labels ≡ taken c s line .labels → TurnIs (record { more = true; at = end + 1; came = came }) labels (turnAt c bytes s at)
     unfolding turnAt
     turn-taken line g h a b =
         let w : line ≡ between bytes at (endOfLine bytes at) = g ∙ ap (between bytes at) f in
@@ -218,7 +52,7 @@ module _ (c : Contract) (bytes : List ℕ) (s : State) (at : ℕ) (labels : List
         let l : endOfLine bytes at < length bytes = omega arith in
         subst (TurnIs (record { more = true; at = end + 1; came = came }) labels)
         (sym (ap (turnByDue c bytes s at) e ∙ pick-true _ _ _ (lt-ltb _ _ l)))
-        (stepped refl n (a ∙ ap (λ (x : List ℕ). cameOf (taken c s x)) w) (b ∙ ap (λ (x : List ℕ). taken c s x .labels) w))
+        (stepped refl n (a ∙ ap (λ (x : List ℕ). replyOf (taken c s x)) w) (b ∙ ap (λ (x : List ℕ). taken c s x .labels) w))
 
     pub turn-waits : (next : ℕ) → length bytes ≤ end → TurnIs (record { more = false; at = next; came = came }) labels (turnAt c bytes s at)
     unfolding turnAt
@@ -248,7 +82,7 @@ module _ (c : Contract) (bytes : List ℕ) (s : State) (at : ℕ) (h : Slotted s
 pub record Made (r : Next) (labels : List Label) (turn : Turn) : Type 0 where
   pub answer : Stepped
   pub turned : turn ≡ makes answer (r .at)
-  pub came : r .came ≡ cameOf answer
+  pub came : r .came ≡ replyOf answer
   pub labelled : labels ≡ answer .labels
 
 made : {r : Next} {labels : List Label} {turn : Turn} → TurnIs r labels turn → r .more ≡ true → Made r labels turn
@@ -280,6 +114,10 @@ module _ (c : Contract) (bytes : List ℕ) (room : ℕ) (s : State) (at : ℕ) w
 
 before-before : (a b : List Report) (e : Session) → before a (before b e) ≡ before (a ++ b) e
 before-before a b e = ap (λ l. record { state = e .state; at = e .at; reports = l }) (sym (append-assoc a b (e .reports)))
+
+-- the result lines of an answer whose labels stand in three columns
+abbrev pub repliesOf : Reply → List ℕ → List ℕ → List ℤ → List Report
+repliesOf r ks ps vs = stepReports (r .outcome) (r .state .state) (r .state .clock) (r .count) ks ps vs
 
 -- what is told so far, followed by the session from here on, is the whole session
 pub record Going (c : Contract) (bytes : List ℕ) (room : ℕ) (e : Session) (numbers : List ℕ) (integers : List ℤ) (told : List ℕ) (values : List ℤ) (s : State) (at n : ℕ) : Type 0 where
@@ -328,58 +166,53 @@ module _ {c : Contract} {bytes : List ℕ} {room : ℕ} {numbers : List ℕ} {in
         ended (g .same ∙ ap (before (g .so)) (session-wait c bytes (room - n) s at (g .turns) (waited t h)))
 
     -- there is room for the result lines of a step
-    pub room-left : room ≡ roomIn (length numbers) (length integers) → 65 ≤ room - n → (4 * (n + 65) ≤ length told) × ((n + 65 ≤ length values) × (n + 65 ≤ length integers))
-    room-left e h =
-        let a = numbers-kept (g .written) in
-        let b = integers-kept (g .written) in
-        omega arith
+    module _ (enough : 65 ≤ room - n) (whole : room ≡ roomIn (length numbers) (length integers)) where
+      fit : hasRoom told values n ≡ true
+      fit =
+          let a = numbers-kept (g .written) in
+          let b = integers-kept (g .written) in
+          le-leb (n + 65) (roomIn (length told) (length values)) (omega arith)
 
-    -- the columns have the labels that are told
-    pub turn-labels : (r : Next) (labels : List Label) → TurnIs r labels (turnAt c bytes s at) → r .more ≡ true → length labels ≡ 64
-    turn-labels r labels t h =
-        let w = made t h in
-        ap length (w .labelled) ∙ subst Kept (w .turned) (kept c bytes s at (g .slotted)) .0
+      pub goes-up : (k m : ℕ) → m ≡ pick (hasRoom told values n) (n + 1 + k) n → room - m < room - n
+      goes-up k m e = let d : m ≡ n + 1 + k = e ∙ pick-true _ _ _ fit in omega arith
 
-    pub going-on : (r : Next) (labels : List Label) → TurnIs r labels (turnAt c bytes s at) → r .more ≡ true → 65 ≤ room - n
-        → (m : ℕ) → m ≡ min (r .came .count) 64
-        → {first more : List ℕ} {one others : List ℤ}
-        → first ≡ sets told (4 * n) (coded (reportOf (r .came .outcome) (r .came .state .state) (r .came .state .clock)))
-        → one ≡ sets values n (integerOf (reportOf (r .came .outcome) (r .came .state .state) (r .came .state .clock)) ∷ [])
-        → more ≡ sets first (4 * (n + 1)) (codedAll (labelReports (take m labels)))
-        → others ≡ sets one (n + 1) (integersOf (labelReports (take m labels)))
-        → Going c bytes room e numbers integers more others (r .came .state) (r .at) (n + 1 + m)
-    going-on r labels turn h enough m u {first} {more} {one} {others} a b p q =
-        let w = made turn h in
-        let t : Stepped = w .answer in
-        let k = subst Kept (w .turned) (kept c bytes s at (g .slotted)) in
-        let z = ap (λ (x : Came). x .count) (w .came) in
-        let m-is : m ≡ min (t .count) 64 = u ∙ ap (λ (x : ℕ). min x 64) z in
-        let len = told-length t (k .0) in
-        let report : Came → Report = λ x. reportOf (x .outcome) (x .state .state) (x .state .clock) in
-        let y : Told told values n (linesTold t) more others =
-        step-told t m (k .0) m-is
-        (a ∙ ap (λ (x : Came). sets told (4 * n) (coded (report x))) (w .came))
-        (b ∙ ap (λ (x : Came). sets values n (integerOf (report x) ∷ [])) (w .came))
-        (p ∙ ap (λ (x : List Label). sets first (4 * (n + 1)) (codedAll (labelReports (take m x)))) (w .labelled))
-        (q ∙ ap (λ (x : List Label). sets one (n + 1) (integersOf (labelReports (take m x)))) (w .labelled)) in
-        let i : 0 + length (g .so) ≡ n = omega (arith, g .counted) in
-        let j : room - n - length (linesTold t) ≡ room - (n + 1 + m) = omega arith in
-        let f : g .turns ≡ suc (g .turns - 1) = omega (arith, g .enough) in
-        record {
-          so = g .so ++ linesTold t;
-          turns = g .turns - 1;
-          counted = sym (length-append (g .so) (linesTold t) ∙ omega (arith, g .counted));
-          within = omega arith;
-          enough = omega (arith, g .enough);
-          same =
-              g .same
-              ∙ ap (before (g .so)) (session-step c bytes (room - n) s at (g .turns) (g .turns - 1) t (r .at) f enough (w .turned))
-              ∙ before-before (g .so) (linesTold t) _
-              ∙ ap (λ d. before (g .so ++ linesTold t) (sessionFor (g .turns - 1) c bytes d (t .state) (r .at))) j
-              ∙ ap (λ (d : Came). before (g .so ++ linesTold t) (sessionFor (g .turns - 1) c bytes (room - (n + 1 + m)) (d .state) (r .at))) (sym (w .came));
-          written = told-more (g .written) (sym i) y;
-          slotted = subst (λ (x : Came). Slotted (x .state)) (sym (w .came)) (k .1);
-        }
+      pub going-on : (r : Next) (ks ps : List ℕ) (vs : List ℤ) → TurnIs r (labelsFrom ks ps vs) (turnAt c bytes s at) → r .more ≡ true
+          → {m : ℕ} {more : List ℕ} {others : List ℤ}
+          → m ≡ pick (hasRoom told values n) (n + 1 + min (r .came .count) 64) n
+          → more ≡ pick (hasRoom told values n) (sets told (4 * n) (codedAll (repliesOf (r .came) ks ps vs))) told
+          → others ≡ pick (hasRoom told values n) (sets values n (integersOf (repliesOf (r .came) ks ps vs))) values
+          → Going c bytes room e numbers integers more others (r .came .state) (r .at) m
+      unfolding linesTold
+      going-on r ks ps vs turn h {m} {more} {others} up a b =
+          let w = made turn h in
+          let t : Stepped = w .answer in
+          let k = subst Kept (w .turned) (kept c bytes s at (g .slotted)) in
+          let l : length (labelsFrom ks ps vs) ≡ 64 = ap length (w .labelled) ∙ k .0 in
+          let f : repliesOf (r .came) ks ps vs ≡ linesTold t =
+          ap (λ (z : List Report). reportOf (r .came .outcome) (r .came .state .state) (r .came .state .clock) ∷ z) (columns-told (r .came .count) ks ps vs l)
+          ∙ (λ i. reportOf (w .came i .outcome) (w .came i .state .state) (w .came i .state .clock) ∷ labelReports (take (w .came i .count) (w .labelled i))) in
+          let y : Told told values n (linesTold t) more others =
+          subst (λ (z : List Report). Told told values n z more others) f (record { numbers-after = a ∙ pick-true _ _ _ fit; integers-after = b ∙ pick-true _ _ _ fit }) in
+          let len : length (linesTold t) ≡ suc (min (r .came .count) 64) = ap length (sym f) ∙ ap suc (sent-length (min (r .came .count) 64) ks ps vs) in
+          let d : m ≡ n + 1 + min (r .came .count) 64 = up ∙ pick-true _ _ _ fit in
+          let i : 0 + length (g .so) ≡ n = omega (arith, g .counted) in
+          let j : room - n - length (linesTold t) ≡ room - m = omega arith in
+          let o : g .turns ≡ suc (g .turns - 1) = omega (arith, g .enough) in
+          record {
+            so = g .so ++ linesTold t;
+            turns = g .turns - 1;
+            counted = sym (length-append (g .so) (linesTold t) ∙ omega (arith, g .counted));
+            within = omega arith;
+            enough = omega (arith, g .enough);
+            same =
+                g .same
+                ∙ ap (before (g .so)) (session-step c bytes (room - n) s at (g .turns) (g .turns - 1) t (r .at) o enough (w .turned))
+                ∙ before-before (g .so) (linesTold t) _
+                ∙ ap (λ x. before (g .so ++ linesTold t) (sessionFor (g .turns - 1) c bytes x (t .state) (r .at))) j
+                ∙ ap (λ (x : Reply). before (g .so ++ linesTold t) (sessionFor (g .turns - 1) c bytes (room - m) (x .state) (r .at))) (sym (w .came));
+            written = told-more (g .written) (sym i) y;
+            slotted = subst (λ (x : Reply). Slotted (x .state)) (sym (w .came)) (k .1);
+          }
 
 -- ---- the first questions of a session
 

@@ -1,6 +1,6 @@
 -- What a line that was read does, by what was told of it. Assumes nothing.
 use mathlib.Core.Path.{_≡_, refl, sym, ap, subst, _∙_}
-use mathlib.Core.Bool.{not}
+use mathlib.Core.Bool.{true, not}
 use mathlib.Core.List.{List, [], _∷_, _++_}
 use Prim.Native.Nat.{ℕ, _+_, _*_, _/_, _<_, _≤_}
 use native.Mathlib.Omega.{arith}
@@ -12,7 +12,7 @@ use mir.Val.{Val}
 use denote.Laws.{Is}
 use borrow.Author.Tests.{eq-eqb, ne-eqb}
 use Rattle.laws.specs.Choice.{pick}
-use Rattle.laws.proofs.Choice.{by-cases}
+use Rattle.laws.proofs.Choice.{pick-true, by-cases}
 use Rattle.laws.proofs.Lists.{past}
 use Rattle.contract.specs.Tree.{Word, Verb, Contract}
 use Rattle.contract.specs.Tree as tree
@@ -33,10 +33,11 @@ use Rattle.lines.proofs.Line as line
 use Rattle.lines.proofs.Agreement as agreement
 use Rattle.lines.proofs.Flat.{spans-append, values-append, spans-length, values-length, heads-length}
 use Rattle.lines.proofs.Told.{told-refused, told-tick, told-call, told-agreement, padded-room, padded-front, padded-first, padded-second}
-use Rattle.machine.specs.declared.Stepped.{Stepped}
-use Rattle.machine.specs.Steps.{noLabels, answered, refused, tickByDue, ticked}
-use Rattle.machine.specs.Agreement.{Part, wordsIn, partsIn, agreedOn}
-use Rattle.machine.specs.Parts.{cameOf, calledBy}
+use Rattle.outcomes.specs.declared.Stepped.{Stepped}
+use Rattle.outcomes.specs.Outcomes.{noLabels, answered, refused}
+use Rattle.machine.specs.Steps.{tickByDue, ticked}
+use Rattle.agreements.specs.Agreement.{Part, wordsIn, partsIn, agreedOn}
+use Rattle.machine.specs.Private.{replyOf, calledBy}
 use Rattle.machine.specs.Sessions.{nameIn, verbIn, namesIn, partsSaid, takenBy, endOfLine}
 
 -- ---- the lengths of the arrays in structs that are lent by value
@@ -133,7 +134,7 @@ silent-agreed c s ps =
     (λ _. silent-refused s 23)
 
 -- its outcome and its state are all that it answers
-silent-came : (t : Stepped) → Silent t → cameOf (answered (t .outcome) (t .state)) ≡ cameOf t
+silent-came : (t : Stepped) → Silent t → replyOf (answered (t .outcome) (t .state)) ≡ replyOf t
 silent-came t h = ap (λ (n : ℕ). record { outcome = t .outcome; state = t .state; count = n }) (sym (h .count))
 
 module _ (c : Contract) (s : State) (line : List ℕ) where
@@ -158,8 +159,14 @@ module _ (c : Contract) (s : State) (line : List ℕ) where
       let k = told-agreement a e in
       subst (λ (x : Asked). Silent (takenBy c s line x)) (sym (k .is)) (silent-agreed c s (partsSaid line (k .asks)))
 
-  pub agreement-came : (a : Asked) (t : Stepped) → lineOf a .request ≡ request.Agreement → t ≡ takenBy c s line a → cameOf (answered (t .outcome) (t .state)) ≡ cameOf (takenBy c s line a)
-  agreement-came a t f e = silent-came t (subst Silent (sym e) (silent-agreement a f)) ∙ ap cameOf e
+  pub agreement-came : (a : Asked) (t : Stepped) → lineOf a .request ≡ request.Agreement → t ≡ takenBy c s line a → replyOf (answered (t .outcome) (t .state)) ≡ replyOf (takenBy c s line a)
+  agreement-came a t f e = silent-came t (subst Silent (sym e) (silent-agreement a f)) ∙ ap replyOf e
+
+  pub agreed-before : (a : Asked) → lineOf a .request ≡ request.Agreement → s .agreed ≡ true → replyOf (refused s 21) ≡ replyOf (takenBy c s line a)
+  unfolding takenBy agreedOn
+  agreed-before a f e =
+      let k = told-agreement a f in
+      ap replyOf (sym (pick-true (s .agreed) _ _ e) ∙ ap (takenBy c s line) (sym (k .is)))
 
   -- ---- a call
 

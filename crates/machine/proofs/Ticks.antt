@@ -10,9 +10,10 @@ use Rattle.contract.specs.Tree.{Contract}
 use Rattle.state.specs.declared.State.{State}
 use Rattle.state.specs.declared.Due.the-variants as due
 use Rattle.state.specs.States.{dueIn, withPending, lapsed}
-use Rattle.machine.specs.declared.Rule.the-variants.{Tick}
-use Rattle.machine.specs.declared.Outcome.the-variants.{Accepted}
-use Rattle.machine.specs.Steps.{answered, refused, tickByDue, ticked}
+use Rattle.outcomes.specs.declared.Rule.the-variants.{Tick}
+use Rattle.outcomes.specs.declared.Outcome.the-variants.{Accepted}
+use Rattle.outcomes.specs.Outcomes.{answered, refused}
+use Rattle.machine.specs.Steps.{tickByDue, ticked}
 
 module _ (c : Contract) (s : State) where
   pub tick-unagreed : s .agreed ≡ false → refused s 22 ≡ ticked c s

@@ -1,4 +1,3 @@
 pub mod Steps
-pub mod Agreement
-pub mod Parts
+pub mod Private
 pub mod Sessions

@@ -1,8 +1,8 @@
 -- A session: whenever an event is due it is fired, else the next whole line is taken; and the result lines of these steps.
-use Prim.Native.Nat.{ℕ, zero, suc, _+_, _-_, _/_, min}
+use Prim.Native.Nat.{ℕ, zero, suc, _+_, _-_}
 use mathlib.Core.Bool.{not}
 use mathlib.Core.List.{List, [], _∷_, _++_}
-use lib.ListN.{length, take, drop}
+use lib.ListN.{length, drop}
 use lib.Dec.{eqb, leb, ltb}
 use Rattle.laws.specs.Choice.{pick}
 use Rattle.contract.specs.Tree.{Word, Verb, Contract}
@@ -15,21 +15,17 @@ use Rattle.state.specs.declared.State.{State}
 use Rattle.state.specs.declared.Due.{Due}
 use Rattle.state.specs.declared.Due.the-variants as due
 use Rattle.state.specs.States.{stateOk, dueIn}
-use Rattle.statements.specs.declared.Label.{Label}
-use Rattle.statements.specs.Running.{maxLabels}
 use Rattle.lines.specs.Lines.{Span, Field, Asked, asked}
 use Rattle.lines.specs.Lines as lines
 use Rattle.lines.specs.Answers.{valuesOf}
 use Rattle.results.specs.declared.Report.{Report}
-use Rattle.results.specs.declared.Report.the-variants as report
-use Rattle.machine.specs.declared.Rule.{Rule}
-use Rattle.machine.specs.declared.Rule.the-variants.{Agree, Call, EventMatch, Tick}
-use Rattle.machine.specs.declared.Outcome.{Outcome}
-use Rattle.machine.specs.declared.Outcome.the-variants as outcome
-use Rattle.machine.specs.declared.Stepped.{Stepped}
+use Rattle.outcomes.specs.declared.Rule.the-variants.{Call}
+use Rattle.outcomes.specs.declared.Stepped.{Stepped}
+use Rattle.step_reports.specs.Reports.{told, maxTold}
 use Rattle.machine.specs.declared.Played.{Played}
-use Rattle.machine.specs.Steps.{refused, Invocation, called, fired, ticked}
-use Rattle.machine.specs.Agreement.{Part, agreedOn}
+use Rattle.outcomes.specs.Outcomes.{refused}
+use Rattle.machine.specs.Steps.{Invocation, called, fired, ticked}
+use Rattle.agreements.specs.Agreement.{Part, agreedOn}
 
 -- ---- what a line says, in the machine's terms
 
@@ -77,36 +73,6 @@ takenBy c s line (lines.agreement ps) = agreedOn c s (partsSaid line ps)
 
 abbrev pub taken : Contract → State → List ℕ → Stepped
 taken c s line = takenBy c s line (asked line)
-
--- ---- the result lines of a step
-
--- a rule's number in a result line
-abbrev pub ruleNumber : Rule → ℕ
-ruleNumber Agree = 0
-ruleNumber Call = 1
-ruleNumber EventMatch = 2
-ruleNumber Tick = 3
-
--- what came of a step, with the state's number and the clock after it
-unfoldable pub reportOf : Outcome → ℕ → ℕ → Report
-reportOf (outcome.Accepted r) state clock = report.Ruled (ruleNumber r) state clock
-reportOf (outcome.Failed q) state clock = report.Failed q
-reportOf (outcome.Refused q) state clock = report.Refused q
-
-abbrev pub labelReport : Label → Report
-labelReport l = report.Sent (l .kind) (l .party) (l .value)
-
-unfoldable pub labelReports : List Label → List Report
-labelReports [] = []
-labelReports (l ∷ ls) = labelReport l ∷ labelReports ls
-
--- what came of it, then its labels
-unfoldable pub told : Stepped → List Report
-told t = reportOf (t .outcome) (t .state .state) (t .state .clock) ∷ labelReports (take (t .count) (t .labels))
-
--- a step has at most so many result lines: what came of it, and 64 labels
-abbrev pub maxTold : ℕ
-maxTold = suc maxLabels
 
 -- ---- turns
 
@@ -158,10 +124,6 @@ sessionFor (suc turns) c bytes room s at =
     pick (leb maxTold room)
     (onTurn (here s at) (λ t next. sessionFor turns c bytes (room - length (told t)) (t .state) next) (turnAt c bytes s at))
     (here s at)
-
--- how many result lines go into so many numbers, four each, and integers, one each
-abbrev pub roomIn : ℕ → ℕ → ℕ
-roomIn numbers integers = min (numbers / 4) integers
 
 -- each turn has a result line, so there are no more turns than result lines
 abbrev pub session : Contract → List ℕ → ℕ → State → Session

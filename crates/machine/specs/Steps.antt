@@ -17,38 +17,24 @@ use Rattle.contract.specs.Limits.{top, maxAssets, maxParameters}
 use Rattle.contract.specs.Tree.{Word, Precondition, omitted, given, Event, Function, Contract}
 use Rattle.contract.specs.Decode.{contractOf}
 use Rattle.contract.specs.Check.{passes}
-use Rattle.contract.specs.Fits.{every}
+use Rattle.laws.specs.Lists.{every, repeated}
 use Rattle.evaluation.specs.Memory.{Memory}
 use Rattle.evaluation.specs.Meaning.{valueOf, truthOf}
 use Rattle.state.specs.declared.State.{State}
 use Rattle.state.specs.declared.Pending.{Pending}
 use Rattle.state.specs.declared.Due.{Due}
 use Rattle.state.specs.declared.Due.the-variants as due
-use Rattle.state.specs.States.{repeated, blank, eventOf, live, stateOk, dueIn, withPending, lapsed, removed, maxPending}
-use Rattle.statements.specs.declared.Label.{Label}
+use Rattle.state.specs.States.{blank, eventOf, live, stateOk, dueIn, withPending, lapsed, removed, maxPending}
 use Rattle.statements.specs.declared.Work.{Work}
 use Rattle.statements.specs.Running.{maxLabels, memoryIn, ran}
-use Rattle.machine.specs.declared.Rule.{Rule}
-use Rattle.machine.specs.declared.Rule.the-variants.{Call, EventMatch, Tick}
-use Rattle.machine.specs.declared.Outcome.{Outcome}
-use Rattle.machine.specs.declared.Outcome.the-variants.{Accepted, Failed, Refused}
-use Rattle.machine.specs.declared.Stepped.{Stepped}
+use Rattle.outcomes.specs.declared.Rule.{Rule}
+use Rattle.outcomes.specs.declared.Rule.the-variants.{Call, EventMatch, Tick}
+use Rattle.outcomes.specs.declared.Outcome.the-variants.{Accepted, Failed, Refused}
+use Rattle.outcomes.specs.declared.Stepped.{Stepped}
+use Rattle.outcomes.specs.Outcomes.{noLabels, answered, refused}
+use Rattle.holdings.specs.Holdings.{amounts}
 
 -- ---- answers
-
-abbrev pub noLabel : Label
-noLabel = record { kind = 0; party = 0; value = pos 0 }
-
-abbrev pub noLabels : List Label
-noLabels = repeated maxLabels noLabel
-
--- an answer without labels
-abbrev pub answered : Outcome → State → Stepped
-answered o s = record { outcome = o; state = s; labels = noLabels; count = 0 }
-
--- a refused step hands back the state it was given
-abbrev pub refused : State → ℕ → Stepped
-refused s n = answered (Refused n) s
 
 -- an accepted step with the labels that its statements sent
 abbrev pub accepted : Rule → State → Work → Stepped
@@ -94,11 +80,6 @@ pub record Invocation : Type 0 where
   pub function : Word
   pub values : List ℤ
   pub assets : List ℤ
-
--- asset arguments as amounts
-unfoldable pub amounts : List ℤ → List ℕ
-amounts [] = []
-amounts (z ∷ zs) = natAbs z ∷ amounts zs
 
 -- the function is called by this party, by this name, in this state
 unfoldable pub answersTo : Contract → ℕ → Invocation → Function → Bool

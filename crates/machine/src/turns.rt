@@ -1,25 +1,21 @@
 // A session: due events are fired, lines are taken, and the result lines of it are handed on as numbers.
 ghost use mathlib.Core.Path.{_≡_};
 ghost use mathlib.Core.Bool.{true};
-ghost use Prim.Native.Nat.{_+_, _-_, _*_, _≤_, _<_, min};
-ghost use mathlib.Core.List.{[], _∷_};
+ghost use Prim.Native.Nat.{_+_, _-_, _*_, _≤_, _<_};
 ghost use lib.ListN.{length, take, drop};
-ghost use lib.Seq.{sets};
 ghost use Rattle.contract.specs.Decode.{contractOf};
 ghost use Rattle.contract.specs.Check.{passes};
 ghost use Rattle.statements.specs.Running.{labelsFrom};
 ghost use Rattle.lines.specs.Lines.{asked};
 ghost use Rattle.lines.specs.Answers.{lineOf};
 ghost use Rattle.lines.specs.declared.Request.the-variants as request;
-ghost use Rattle.results.specs.Coded.{coded, codedAll, integerOf, integersOf};
-ghost use Rattle.machine.specs.Steps.{noLabels};
-ghost use Rattle.machine.specs.Parts.{cameOf, calledBy, TurnIs, PlayedIs};
-ghost use Rattle.machine.specs.Sessions.{taken, ruleNumber, reportOf, labelReports, endOfLine, turnAt, session, roomIn};
-use crate::Came;
+ghost use Rattle.outcomes.specs.Outcomes.{noLabels};
+ghost use Rattle.machine.specs.Private.{replyOf, calledBy, TurnIs, PlayedIs};
+ghost use Rattle.step_reports.specs.Reports.{roomIn};
+ghost use Rattle.machine.specs.Sessions.{taken, endOfLine, turnAt, session};
 use crate::Next;
-use crate::Outcome;
 use crate::Played;
-use crate::Rule;
+use crate::Reply;
 use lines::Line;
 use lines::Request;
 use state::Due;
@@ -41,12 +37,12 @@ fn call_with(
     assets: usize,
     sorts: &mut [u8; 64],
     receivers: &mut [usize; 64],
-    sums: &mut [i64; 64],
-) -> Came
+    amounts: &mut [i64; 64],
+) -> Reply
     requires { ⌜ (passes (now table) ≡ true) × (s .pending ≤ 64) × (values + assets ≤ length (now all)) ⌝ }
-    requires { ⌜ labelsFrom (now sorts) (now receivers) (now sums) ≡ noLabels ⌝ }
-    ensures { λ r. ⌜ r ≡ cameOf (calledBy (contractOf (now (table .entry))) s (now (caller .entry)) (now (function .entry)) (take values (now (all .entry))) (take assets (drop values (now (all .entry))))) ⌝ }
-    ensures { λ _. ⌜ labelsFrom (now (sorts .exit)) (now (receivers .exit)) (now (sums .exit)) ≡ calledBy (contractOf (now (table .entry))) s (now (caller .entry)) (now (function .entry)) (take values (now (all .entry))) (take assets (drop values (now (all .entry)))) .labels ⌝ }
+    requires { ⌜ labelsFrom (now sorts) (now receivers) (now amounts) ≡ noLabels ⌝ }
+    ensures { λ r. ⌜ r ≡ replyOf (calledBy (contractOf (now (table .entry))) s (now (caller .entry)) (now (function .entry)) (take values (now (all .entry))) (take assets (drop values (now (all .entry))))) ⌝ }
+    ensures { λ _. ⌜ labelsFrom (now (sorts .exit)) (now (receivers .exit)) (now (amounts .exit)) ≡ calledBy (contractOf (now (table .entry))) s (now (caller .entry)) (now (function .entry)) (take values (now (all .entry))) (take assets (drop values (now (all .entry)))) .labels ⌝ }
 {
     let end = values + assets;
     crate::call_on(
@@ -58,7 +54,7 @@ fn call_with(
         &all[values..end],
         sorts,
         receivers,
-        sums,
+        amounts,
     )
 }
 
@@ -70,14 +66,14 @@ fn take_call(
     read: Line,
     sorts: &mut [u8; 64],
     receivers: &mut [usize; 64],
-    sums: &mut [i64; 64],
-) -> Came
+    amounts: &mut [i64; 64],
+) -> Reply
     requires { ⌜ (passes (now table) ≡ true) × (s .pending ≤ 64) ⌝ }
-    requires { ⌜ labelsFrom (now sorts) (now receivers) (now sums) ≡ noLabels ⌝ }
+    requires { ⌜ labelsFrom (now sorts) (now receivers) (now amounts) ≡ noLabels ⌝ }
     requires { ⌜ read ≡ lineOf (asked (now line)) ⌝ }
     requires { ⌜ read .request ≡ request.Call ⌝ }
-    ensures { λ r. ⌜ r ≡ cameOf (taken (contractOf (now (table .entry))) s (now (line .entry))) ⌝ }
-    ensures { λ _. ⌜ labelsFrom (now (sorts .exit)) (now (receivers .exit)) (now (sums .exit)) ≡ taken (contractOf (now (table .entry))) s (now (line .entry)) .labels ⌝ }
+    ensures { λ r. ⌜ r ≡ replyOf (taken (contractOf (now (table .entry))) s (now (line .entry))) ⌝ }
+    ensures { λ _. ⌜ labelsFrom (now (sorts .exit)) (now (receivers .exit)) (now (amounts .exit)) ≡ taken (contractOf (now (table .entry))) s (now (line .entry)) .labels ⌝ }
 {
     let caller = tokens::between(line, read.party_start, read.party_end);
     let function = tokens::between(line, read.function_start, read.function_end);
@@ -92,16 +88,19 @@ fn take_call(
         read.assets,
         sorts,
         receivers,
-        sums,
+        amounts,
     )
 }
 
-// A line that agrees.
-fn take_agreement(table: &[u64], s: State, line: &[u8]) -> Came
+// A line that agrees, on a state that is not agreed yet.
+fn take_agreement(table: &[u64], s: State, line: &[u8]) -> Reply
     requires { ⌜ passes (now table) ≡ true ⌝ }
     requires { ⌜ lineOf (asked (now line)) .request ≡ request.Agreement ⌝ }
-    ensures { λ r. ⌜ r ≡ cameOf (taken (contractOf (now (table .entry))) s (now (line .entry))) ⌝ }
+    ensures { λ r. ⌜ r ≡ replyOf (taken (contractOf (now (table .entry))) s (now (line .entry))) ⌝ }
 {
+    if s.agreed {
+        return crate::turn_down(s, questions::NOT_AGREED);
+    }
     let a = lines::agreement_of(line);
     let heads = a.heads;
     let spans = a.spans;
@@ -109,7 +108,7 @@ fn take_agreement(table: &[u64], s: State, line: &[u8]) -> Came
     let parts = 4 * a.parts;
     let ends = 2 * a.fields;
     let fields = a.fields;
-    let t = crate::agree_on(
+    let t = agreements::agree_on(
         table,
         s,
         line,
@@ -129,19 +128,19 @@ fn take_line(
     line: &[u8],
     sorts: &mut [u8; 64],
     receivers: &mut [usize; 64],
-    sums: &mut [i64; 64],
-) -> Came
+    amounts: &mut [i64; 64],
+) -> Reply
     requires { ⌜ (passes (now table) ≡ true) × (s .pending ≤ 64) ⌝ }
-    requires { ⌜ labelsFrom (now sorts) (now receivers) (now sums) ≡ noLabels ⌝ }
-    ensures { λ r. ⌜ r ≡ cameOf (taken (contractOf (now (table .entry))) s (now (line .entry))) ⌝ }
-    ensures { λ _. ⌜ labelsFrom (now (sorts .exit)) (now (receivers .exit)) (now (sums .exit)) ≡ taken (contractOf (now (table .entry))) s (now (line .entry)) .labels ⌝ }
+    requires { ⌜ labelsFrom (now sorts) (now receivers) (now amounts) ≡ noLabels ⌝ }
+    ensures { λ r. ⌜ r ≡ replyOf (taken (contractOf (now (table .entry))) s (now (line .entry))) ⌝ }
+    ensures { λ _. ⌜ labelsFrom (now (sorts .exit)) (now (receivers .exit)) (now (amounts .exit)) ≡ taken (contractOf (now (table .entry))) s (now (line .entry)) .labels ⌝ }
 {
     let read = lines::read(line);
     let request = read.request;
     match request {
         Request::Refused(n) => crate::turn_down(s, n),
         Request::Tick => crate::tick_on(table, s),
-        Request::Call => take_call(table, s, line, read, sorts, receivers, sums),
+        Request::Call => take_call(table, s, line, read, sorts, receivers, amounts),
         Request::Agreement => take_agreement(table, s, line),
     }
 }
@@ -170,15 +169,15 @@ fn turn(
     at: usize,
     sorts: &mut [u8; 64],
     receivers: &mut [usize; 64],
-    sums: &mut [i64; 64],
+    amounts: &mut [i64; 64],
 ) -> Next
     requires { ⌜ (passes (now table) ≡ true) × (s .pending ≤ 64) ⌝ }
-    ensures { λ r. ⌜ TurnIs r (labelsFrom (now (sorts .exit)) (now (receivers .exit)) (now (sums .exit))) (turnAt (contractOf (now (table .entry))) (now (input .entry)) s at) ⌝ }
+    ensures { λ r. ⌜ TurnIs r (labelsFrom (now (sorts .exit)) (now (receivers .exit)) (now (amounts .exit))) (turnAt (contractOf (now (table .entry))) (now (input .entry)) s at) ⌝ }
 {
-    crate::clear(sorts, receivers, sums);
+    crate::clear(sorts, receivers, amounts);
     let due = state::first_due(table, s);
     if let Due::At(_) = due {
-        let came = crate::fire_on(table, s, sorts, receivers, sums);
+        let came = crate::fire_on(table, s, sorts, receivers, amounts);
         return Next {
             more: true,
             at,
@@ -188,7 +187,7 @@ fn turn(
     let end = line_end(input, at);
     if end < input.len() {
         let line = tokens::between(input, at, end);
-        let came = take_line(table, s, line, sorts, receivers, sums);
+        let came = take_line(table, s, line, sorts, receivers, amounts);
         return Next {
             more: true,
             at: end + 1,
@@ -202,117 +201,13 @@ fn turn(
     }
 }
 
-// ---- Result lines as numbers.
-
-// Result line n is told: its four numbers and its integer.
-fn tell(
-    numbers: &mut [u64],
-    integers: &mut [i64],
-    n: usize,
-    which: u64,
-    a: u64,
-    b: u64,
-    c: u64,
-    value: i64,
-)
-    requires { ⌜ (4 * n + 4 ≤ length (now numbers)) × (n < length (now integers)) ⌝ }
-    ensures { λ _. ⌜ now (numbers .exit) ≡ sets (now (numbers .entry)) (4 * n) (which ∷ a ∷ b ∷ c ∷ []) ⌝ }
-    ensures { λ _. ⌜ now (integers .exit) ≡ sets (now (integers .entry)) n (value ∷ []) ⌝ }
-{
-    let at = 4 * n;
-    numbers[at] = which;
-    numbers[at + 1] = a;
-    numbers[at + 2] = b;
-    numbers[at + 3] = c;
-    integers[n] = value;
-}
-
-// A rule's number in a result line.
-fn rule_number(rule: Rule) -> u64
-    ensures { λ r. ⌜ r ≡ ruleNumber rule ⌝ }
-{
-    match rule {
-        Rule::Agree => 0,
-        Rule::Call => 1,
-        Rule::EventMatch => 2,
-        Rule::Tick => 3,
-    }
-}
-
-// What came of a step, as result line n.
-fn tell_outcome(
-    numbers: &mut [u64],
-    integers: &mut [i64],
-    n: usize,
-    outcome: Outcome,
-    state: usize,
-    clock: u64,
-)
-    requires { ⌜ (4 * n + 4 ≤ length (now numbers)) × (n < length (now integers)) ⌝ }
-    ensures { λ _. ⌜ now (numbers .exit) ≡ sets (now (numbers .entry)) (4 * n) (coded (reportOf outcome state clock)) ⌝ }
-    ensures { λ _. ⌜ now (integers .exit) ≡ sets (now (integers .entry)) n (integerOf (reportOf outcome state clock) ∷ []) ⌝ }
-{
-    match outcome {
-        Outcome::Accepted(rule) => {
-            let r = rule_number(rule);
-            tell(numbers, integers, n, 1, r, state as u64, clock, 0);
-        }
-        Outcome::Failed(q) => tell(numbers, integers, n, 5, q as u64, 0, 0, 0),
-        Outcome::Refused(q) => tell(numbers, integers, n, 4, q as u64, 0, 0, 0),
-    }
-}
-
-// The first labels of three columns, as result lines from n on.
-fn tell_labels(
-    numbers: &mut [u64],
-    integers: &mut [i64],
-    n: usize,
-    sorts: &[u8; 64],
-    receivers: &[usize; 64],
-    sums: &[i64; 64],
-    count: usize,
-)
-    requires { ⌜ (count ≤ 64) × (count ≤ length (labelsFrom (now sorts) (now receivers) (now sums))) × (4 * (n + count) ≤ length (now numbers)) × (n + count ≤ length (now integers)) ⌝ }
-    ensures { λ _. ⌜ now (numbers .exit) ≡ sets (now (numbers .entry)) (4 * n) (codedAll (labelReports (take count (labelsFrom (now (sorts .entry)) (now (receivers .entry)) (now (sums .entry)))))) ⌝ }
-    ensures { λ _. ⌜ now (integers .exit) ≡ sets (now (integers .entry)) n (integersOf (labelReports (take count (labelsFrom (now (sorts .entry)) (now (receivers .entry)) (now (sums .entry)))))) ⌝ }
-{
-    let mut i: usize = 0;
-    while i < count {
-        tell(
-            numbers,
-            integers,
-            n + i,
-            2,
-            crate::wide(sorts[i]),
-            receivers[i] as u64,
-            0,
-            sums[i],
-        );
-        i += 1;
-    }
-}
-
-// How many labels of a step are told: no more than there are.
-fn labels_told(count: usize) -> usize
-    ensures { λ r. ⌜ r ≡ min count 64 ⌝ }
-{
-    if count < 64 { count } else { 64 }
-}
-
-// How many result lines there is room for.
-fn room_in(numbers: &[u64], integers: &[i64]) -> usize
-    ensures { λ r. ⌜ r ≡ roomIn (length (now (numbers .entry))) (length (now (integers .entry))) ⌝ }
-{
-    let a = numbers.len() / 4;
-    let b = integers.len();
-    if a < b { a } else { b }
-}
+// ---- A session.
 
 // How many labels there is room for after what came of a step.
 pub(crate) fn label_room(numbers: &[u64], integers: &[i64]) -> usize
     ensures { λ r. ⌜ r ≡ roomIn (length (now (numbers .entry))) (length (now (integers .entry))) - 1 ⌝ }
 {
-    let room = room_in(numbers, integers);
+    let room = step_reports::room_in(numbers, integers);
     if 0 < room { room - 1 } else { 0 }
 }
 
@@ -328,33 +223,33 @@ pub(crate) fn play_on(
     ensures { λ r. ⌜ PlayedIs (session (contractOf (now (table .entry))) (now (input .entry)) (roomIn (length (now (numbers .entry))) (length (now (integers .entry)))) s) r (now (numbers .entry)) (now (integers .entry)) (now (numbers .exit)) (now (integers .exit)) ⌝ }
 {
     let mut sorts = [0u8; 64];
-    let mut receivers = [0usize; 64];
-    let mut sums = [0i64; 64];
-    let room = room_in(numbers, integers);
+    let mut to = [0usize; 64];
+    let mut amounts = [0i64; 64];
+    let room = step_reports::room_in(numbers, integers);
     let mut state = s;
     let mut at: usize = 0;
     let mut n: usize = 0;
     while TOLD <= room - n {
-        let t = turn(
-            table,
-            state,
-            input,
-            at,
-            &mut sorts,
-            &mut receivers,
-            &mut sums,
-        );
+        let t = turn(table, state, input, at, &mut sorts, &mut to, &mut amounts);
         if !t.more {
             break;
         }
         let r = t.came;
         let outcome = r.outcome;
-        let count = labels_told(r.count);
         at = t.at;
         state = r.state;
-        tell_outcome(numbers, integers, n, outcome, state.state, state.clock);
-        tell_labels(numbers, integers, n + 1, &sorts, &receivers, &sums, count);
-        n = n + 1 + count;
+        n = step_reports::report(
+            numbers,
+            integers,
+            n,
+            outcome,
+            state.state,
+            state.clock,
+            &sorts,
+            &to,
+            &amounts,
+            r.count,
+        );
     }
     Played {
         question: 0,

@@ -1,5 +1,5 @@
 -- Whole numbers for `omega`, which reads ℕ alone: z is  up z - down z,  one of which is 0. Each law states a fact of ℤ as a linear one of these two.
---     lt-true, lt-false, le-true, le-false     a test's flag
+--     lt-true, lt-false                        a test's flag
 --     sum, diff                                the sum and the difference
 --     fits-of, fits-up, fits-down              the range of 64 bits, both ways
 -- Assumes nothing.
@@ -7,10 +7,10 @@ use mathlib.Core.Path.{_≡_, refl, sym, ap, subst}
 use mathlib.Core.Bool.{Bool, true, false, cond}
 use Prim.Native.Nat.{ℕ, zero, suc, _+_, _-_, _^_, _<_, _≤_}
 use native.Mathlib.Omega.{arith}
-use lib.Dec.{T, ltb, eqb}
+use lib.Dec.{ltb, eqb}
 use lib.IntN.{ℤ, pos, negsuc, negℤ, natAbs, subℕ, _+ℤ_, _-ℤ_}
-use lib.Signed.{ltZ, leZ, nonNeg}
-use borrow.Author.Tests.{ltb-true, ltb-false, leb-true, leb-false, eqb-true, eqb-false, eq-eqb, ne-eqb}
+use lib.Signed.{ltZ}
+use borrow.Author.Tests.{ltb-true, ltb-false, eqb-true, eqb-false, eq-eqb, ne-eqb}
 use mir.Syntax.{w64}
 use mir.Val.{SFits, toZ, ofZ}
 use mir.ValLaws.{toZ-ofZ}
@@ -44,18 +44,6 @@ lt-false (pos a) (pos b) e = omega (arith, ltb-false a b e)
 lt-false (pos a) (negsuc b) e = omega arith
 lt-false (negsuc a) (pos b) e = true-false e
 lt-false (negsuc a) (negsuc b) e = omega (arith, ltb-false b a e)
-
-pub le-true : (a b : ℤ) → leZ a b ≡ true → up a + down b ≤ up b + down a
-le-true (pos a) (pos b) e = omega (arith, leb-true a b e)
-le-true (pos a) (negsuc b) e = true-false (sym e)
-le-true (negsuc a) (pos b) e = omega arith
-le-true (negsuc a) (negsuc b) e = omega (arith, leb-true b a e)
-
-pub le-false : (a b : ℤ) → leZ a b ≡ false → up b + down a < up a + down b
-le-false (pos a) (pos b) e = omega (arith, leb-false a b e)
-le-false (pos a) (negsuc b) e = omega arith
-le-false (negsuc a) (pos b) e = true-false e
-le-false (negsuc a) (negsuc b) e = omega (arith, leb-false b a e)
 
 -- ---- sums
 -- z is p - n
@@ -104,21 +92,9 @@ fits-down (pos n) f = omega arith
 fits-down (negsuc n) f = f .sfits
 
 -- ---- the two parts
-pub up-none : (z : ℤ) → up z ≤ down z → up z ≡ 0
-up-none (pos n) h = omega arith
-up-none (negsuc n) h = refl
-
-pub down-none : (z : ℤ) → down z ≤ up z → down z ≡ 0
-down-none (pos n) h = refl
-down-none (negsuc n) h = omega arith
-
 pub abs : (z : ℤ) → natAbs z ≡ up z + down z
 abs (pos n) = omega arith
 abs (negsuc n) = omega arith
-
-pub nonneg-of : (z : ℤ) → down z ≤ up z → T (nonNeg z)
-nonneg-of (pos n) h = tt
-nonneg-of (negsuc n) h = absurd (omega arith)
 
 -- two whole numbers that are the same difference
 pub same-of : (x y : ℤ) → up x + down y ≡ up y + down x → x ≡ y

@@ -15,7 +15,7 @@ use Rattle.numbers.specs.declared.Answer.{Answer}
 use Rattle.numbers.specs.declared.Answer.the-variants as answer
 use Rattle.contract.specs.Limits.{top, maxAssets, maxParameters}
 use Rattle.contract.specs.Fits.{Scope, holderIn, expressionIn, actionIn}
-use Rattle.contract.proofs.Fitting.{both-left, both-right}
+use Rattle.laws.proofs.Truths.{both-left, both-right}
 use Rattle.contract.specs.Tree.{Holder, asset, assetParameter, Expression, held, Action, assign, send, move, pay, moveAll, payAll}
 use Rattle.evaluation.specs.Memory.{Memory, placeOf}
 use Rattle.evaluation.specs.Meaning.{valueOf}

@@ -18,20 +18,20 @@ use Rattle.numbers.specs.declared.Value.the-variants.{Integer, Text}
 use Rattle.numbers.specs.declared.Answer.the-variants.{Is, Refused}
 use Rattle.contract.specs.Tree as tree
 use Rattle.contract.specs.Tree.{Word, Verb, Clause, Contract}
-use Rattle.contract.proofs.Fitting.{both-left, both-right, both-true}
+use Rattle.laws.proofs.Members.{below-at}
+use Rattle.laws.proofs.Truths.{both-left, both-right, both-true}
 use Rattle.evaluation.specs.Memory.{Memory}
 use Rattle.evaluation.specs.Meaning.{fieldValue, valueOf}
 use Rattle.state.specs.declared.State.{State}
 use Rattle.state.specs.declared.Pending.{Pending}
 use Rattle.state.specs.States.{live, used, fieldOk, fieldSlotOk, assetSlotOk, stateOk}
-use Rattle.state.proofs.Below.{below-at}
-use Rattle.state.proofs.Within.{within}
+use Rattle.state.proofs.Within.{within, unagreed}
 use Rattle.contract.specs.Limits.{maxFields, maxAssets}
-use Rattle.machine.specs.declared.Rule.the-variants.{Agree}
-use Rattle.machine.specs.declared.Outcome.the-variants.{Accepted}
-use Rattle.machine.specs.declared.Stepped.{Stepped}
-use Rattle.machine.specs.Steps.{answered, refused}
-use Rattle.machine.specs.Agreement.{Part, sameVerb, sameFields, sameClause, sameClauses, setFields, setClause, setClauses, agreedFields, agreedClause, agreedClauses, opened, agreedOn}
+use Rattle.outcomes.specs.declared.Rule.the-variants.{Agree}
+use Rattle.outcomes.specs.declared.Outcome.the-variants.{Accepted}
+use Rattle.outcomes.specs.declared.Stepped.{Stepped}
+use Rattle.outcomes.specs.Outcomes.{answered, refused}
+use Rattle.agreements.specs.Agreement.{Part, sameVerb, sameFields, sameClause, sameClauses, setFields, setClause, setClauses, agreedFields, agreedClause, agreedClauses, opened, agreedOn}
 use Rattle.published.specs.Published.{Configuration, runtime, noState, inState, nothing, fieldNames, Empty, Says, Parts, nobody, party, withIntegers, withClause, withClauses, Values, no-field, a-field, Agreed, no-clause, set-by, agreed-by, agreement, Table2, agree, phaseOf, memoryAt, idle, Comes}
 use Rattle.published.proofs.Idle.{comes-by}
 
@@ -232,9 +232,7 @@ module _ (c : Contract) (s : State) (o : stateOk c s ≡ true) (a : s .agreed �
       }
 
   pub unagreed-nothing : live s ≡ []
-  unagreed-nothing =
-      let e = both-right (eqb (s .state) 0) (eqb (s .pending) 0) (sym (pick-false (s .agreed) _ _ a) ∙ within c s o .name) in
-      ap (λ (n : ℕ). take n (s .events)) (eqb-true (s .pending) 0 e)
+  unagreed-nothing = ap (λ (n : ℕ). take n (s .events)) (unagreed c s (within c s o) a)
 
 -- ---- the step
 

@@ -11,7 +11,7 @@ use Rattle.numbers.specs.declared.Truth.{Truth}
 use Rattle.numbers.specs.declared.Truth.the-variants as truth
 use Rattle.contract.specs.Limits.{maxAssets, maxParameters}
 use Rattle.contract.specs.Fits.{Scope, conditionIn, actionIn, blockIn}
-use Rattle.contract.proofs.Fitting.{both-left, both-right}
+use Rattle.laws.proofs.Truths.{both-left, both-right}
 use Rattle.contract.specs.Tree.{Condition, Block, none, perform, conditional, brokenBlock}
 use Rattle.contract.specs.Sizes.{statements}
 use Rattle.evaluation.specs.Memory.{Memory}

@@ -7,6 +7,7 @@ use native.Mathlib.Omega.{arith}
 use lib.IntN.{ℤ}
 use Rattle.contract.specs.Limits.{maxAssets, maxParameters}
 use Rattle.contract.specs.Fits.{Scope, blockIn}
+use Rattle.laws.proofs.Members.{repeated-length}
 use Rattle.contract.specs.Tree.{Block}
 use Rattle.contract.specs.Sizes.{statements}
 use Rattle.evaluation.specs.Memory.{Memory}
@@ -14,8 +15,8 @@ use Rattle.state.specs.declared.State.{State}
 use Rattle.statements.specs.declared.Label.{Label}
 use Rattle.statements.specs.declared.Work.{Work}
 use Rattle.statements.specs.Running.{maxLabels, memoryIn, ran}
-use Rattle.machine.specs.Steps.{noLabel, begun}
-use Rattle.history.proofs.Sums.{length-repeated}
+use Rattle.outcomes.specs.Outcomes.{noLabel}
+use Rattle.machine.specs.Steps.{begun}
 use Rattle.published.specs.Published.{Statement, inOrder, bound, memoryAt, Statements}
 use Rattle.published.proofs.Runs.{one-run, not-stuck}
 use Rattle.published.proofs.Actions.{labelsOf}
@@ -35,7 +36,7 @@ pub record Fit (b : Block) : Type 0 where
 
 module _ (s : State) (v : List ℤ) (ps : List ℕ) (b : Block) (f : Fit b) where
   body-ends : Ends v (s .clock) (begun s ps) (inOrder b) (0 + statements b) (ranIn s v ps b)
-  body-ends = ran-ends v (s .clock) (f .scope) (f .assets) (f .parameters) b (f .inside) (omega (arith, f .few)) (record { labels-length = length-repeated maxLabels noLabel; few = omega arith }) refl
+  body-ends = ran-ends v (s .clock) (f .scope) (f .assets) (f .parameters) b (f .inside) (omega (arith, f .few)) (record { labels-length = repeated-length maxLabels noLabel; few = omega arith }) refl
 
   pub body-runs : ranIn s v ps b .refusal ≡ 0
       → Statements (bound (memoryAt s) v ps) (inOrder b) (labelsOf (ranIn s v ps b)) (memoryIn v (s .clock) (ranIn s v ps b)) []

@@ -14,8 +14,11 @@ use Rattle.numbers.specs.declared.Truth.{Truth}
 use Rattle.numbers.specs.declared.Truth.the-variants as truth
 use Rattle.contract.specs.Limits.{maxAssets}
 use Rattle.contract.specs.Tree.{Function, Contract}
-use Rattle.contract.specs.Fits.{every, scopeOf, functionIn}
-use Rattle.contract.proofs.Fitting.{both-left, both-right, both-true, every-head, every-tail, FitsContract, fits-function}
+use Rattle.contract.specs.Fits.{scopeOf, functionIn}
+use Rattle.laws.proofs.Members.{every-head, every-tail}
+use Rattle.laws.proofs.Truths.{both-left, both-right, both-true}
+use Rattle.laws.specs.Lists.{every}
+use Rattle.contract.proofs.Fitting.{FitsContract, fits-function}
 use Rattle.evaluation.specs.Memory.{Memory}
 use Rattle.state.specs.declared.State.{State}
 use Rattle.state.specs.declared.Pending.{Pending}
@@ -24,10 +27,12 @@ use Rattle.state.specs.declared.Due.the-variants as due
 use Rattle.state.specs.States.{maxPending, live, dueIn}
 use Rattle.statements.specs.declared.Label.{Label}
 use Rattle.statements.specs.Running.{memoryIn}
-use Rattle.machine.specs.declared.Rule.the-variants.{Call}
-use Rattle.machine.specs.declared.Outcome.the-variants.{Accepted}
-use Rattle.machine.specs.declared.Stepped.{Stepped}
-use Rattle.machine.specs.Steps.{refused, accepted, begun, ended, Invocation, amounts, Chosen, chosen, unknown, choose, preconditionHolds, Scheduled, times, no, schedule, withScheduled, finished, byPrecondition, invoked, byChosen, callByDue, called}
+use Rattle.outcomes.specs.declared.Rule.the-variants.{Call}
+use Rattle.outcomes.specs.declared.Outcome.the-variants.{Accepted}
+use Rattle.outcomes.specs.declared.Stepped.{Stepped}
+use Rattle.outcomes.specs.Outcomes.{refused}
+use Rattle.holdings.specs.Holdings.{amounts}
+use Rattle.machine.specs.Steps.{accepted, begun, ended, Invocation, Chosen, chosen, unknown, choose, preconditionHolds, Scheduled, times, no, schedule, withScheduled, finished, byPrecondition, invoked, byChosen, callByDue, called}
 use Rattle.history.proofs.Cases.{bodyRan}
 use Rattle.published.specs.Published.{here, there, Configuration, runtime, inState, nothing, inOrder, bound, unbound, Statements, First, Called, Times, integers, call, function, stateChange, Whole, whole, phaseOf, memoryAt, idle, Comes}
 use Rattle.published.proofs.Bodies.{Fit, body-runs, run-is}

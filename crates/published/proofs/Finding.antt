@@ -12,7 +12,7 @@ use Rattle.laws.specs.Bytes.{sameBytes}
 use Rattle.laws.proofs.Choice.{pick-true, pick-false, true-false}
 use Rattle.laws.proofs.Bytes.{same-refl, same-equal}
 use Rattle.contract.specs.Tree.{Function, Contract}
-use Rattle.contract.proofs.Fitting.{both-left, both-right, both-true}
+use Rattle.laws.proofs.Truths.{both-left, both-right, both-true}
 use Rattle.state.specs.declared.State.{State}
 use Rattle.state.specs.declared.Pending.{Pending}
 use Rattle.state.specs.declared.Due.the-variants.{At, Nothing}

@@ -11,7 +11,8 @@ use borrow.Author.Tests.{eq-eqb, ne-eqb}
 use Rattle.laws.proofs.Choice.{pick-true, pick-false}
 use Rattle.contract.specs.Limits.{maxAssets}
 use Rattle.contract.specs.Tree.{Contract}
-use Rattle.contract.specs.Fits.{every, scopeOf}
+use Rattle.contract.specs.Fits.{scopeOf}
+use Rattle.laws.specs.Lists.{every}
 use Rattle.state.specs.declared.State.{State}
 use Rattle.state.specs.declared.Pending.{Pending}
 use Rattle.state.specs.declared.Due.the-variants as due
@@ -20,14 +21,14 @@ use Rattle.state.proofs.Each.{without-length}
 use Rattle.state.proofs.Within.{live-removed}
 use Rattle.statements.specs.declared.Label.{Label}
 use Rattle.statements.specs.Running.{memoryIn}
-use Rattle.machine.specs.declared.Rule.the-variants.{EventMatch}
-use Rattle.machine.specs.declared.Outcome.the-variants.{Accepted, Failed}
-use Rattle.machine.specs.declared.Stepped.{Stepped}
+use Rattle.outcomes.specs.declared.Rule.the-variants.{EventMatch}
+use Rattle.outcomes.specs.declared.Outcome.the-variants.{Accepted, Failed}
+use Rattle.outcomes.specs.declared.Stepped.{Stepped}
 use Rattle.machine.specs.Steps.{begun, ended, handled, fireByDue, fired}
 use Rattle.history.specs.Histories as history
 use Rattle.history.proofs.Parameters.{Parameters, ran-same}
-use Rattle.history.proofs.Bounded.{Bounded, BoundedEvent}
-use Rattle.history.proofs.Cases.{eventAt, handlerRan, Came, refusal, fires, fails, firing-came}
+use Rattle.history.proofs.ContractBounds.{Bounded, BoundedEvent}
+use Rattle.history.proofs.Cases.{eventAt, handlerRan, ComesOut, refusal, fires, fails, firing-came}
 use Rattle.published.specs.Published.{Configuration, runtime, inState, nothing, inOrder, bound, unbound, without, Statements, First, Ready, no-event, match, failure, Table2, stateChange, eventMatch, eventFailed, Whole, whole, phaseOf, memoryAt, idle, Comes}
 use Rattle.published.proofs.Blocks.{Sticks, at}
 use Rattle.published.proofs.Bodies.{Fit, body-runs, body-sticks, run-is, stick-is}
@@ -84,7 +85,7 @@ module _ (c : Contract) (b : Bounded c) (s : State) where
   -- ---- from the machine to the rules
 
   module _ (few : length (live s) ≤ maxPending) where
-    fired-derives : {r : Stepped} {ls : List Label} {C : Configuration} → Came c s history.firing r → Comes r (Accepted EventMatch) ls C → Whole c (idle s) match ls C
+    fired-derives : {r : Stepped} {ls : List Label} {C : Configuration} → ComesOut c s history.firing r → Comes r (Accepted EventMatch) ls C → Whole c (idle s) match ls C
     fired-derives (refusal n) o = let z : _≡_ {A = ℕ} 0 1 = cc (o .outcome-is) in absurd (omega arith)
     fired-derives (fails k a d h) o = let z : _≡_ {A = ℕ} 0 1 = cc (o .outcome-is) in absurd (omega arith)
     fired-derives {ls = ls} {C = C} (fires k a d h) o =
@@ -95,7 +96,7 @@ module _ (c : Contract) (b : Bounded c) (s : State) where
     pub firing-derives : {ls : List Label} {C : Configuration} → Comes (fired c s) (Accepted EventMatch) ls C → Whole c (idle s) match ls C
     firing-derives o = fired-derives (firing-came c s) o
 
-  failed-derives : {r : Stepped} {n : ℕ} {ls : List Label} {C : Configuration} → Came c s history.firing r → Comes r (Failed n) ls C → Table2 c (idle s) failure C
+  failed-derives : {r : Stepped} {n : ℕ} {ls : List Label} {C : Configuration} → ComesOut c s history.firing r → Comes r (Failed n) ls C → Table2 c (idle s) failure C
   failed-derives (refusal n) o = let z : _≡_ {A = ℕ} 0 1 = cc (o .outcome-is) in absurd (omega arith)
   failed-derives (fires k a d h) o = let z : _≡_ {A = ℕ} 0 1 = cc (o .outcome-is) in absurd (omega arith)
   failed-derives {C = C} (fails k a d h) o =

@@ -9,18 +9,18 @@ use lib.Seq.{take-all}
 use lib.Dec.{eqb}
 use lib.IntN.{ℤ}
 use Rattle.contract.specs.Limits.{maxAssets, maxParameters}
-use Rattle.contract.specs.Fits.{every}
+use Rattle.laws.proofs.Members.{every-tail}
+use Rattle.laws.specs.Lists.{every, repeated}
 use Rattle.contract.specs.Tree.{Contract}
-use Rattle.contract.proofs.Fitting.{every-tail}
 use Rattle.state.specs.declared.State.{State}
 use Rattle.state.specs.declared.Pending.{Pending}
-use Rattle.state.specs.States.{repeated, live, withPending}
+use Rattle.state.specs.States.{live, withPending}
 use Rattle.state.proofs.Within.{live-with}
 use Rattle.statements.specs.declared.Label.{Label}
 use Rattle.statements.specs.declared.Work.{Work}
 use Rattle.statements.specs.Running.{memoryIn}
-use Rattle.machine.specs.declared.Outcome.{Outcome}
-use Rattle.machine.specs.declared.Stepped.{Stepped}
+use Rattle.outcomes.specs.declared.Outcome.{Outcome}
+use Rattle.outcomes.specs.declared.Stepped.{Stepped}
 use Rattle.machine.specs.Steps.{begun, ended}
 use Rattle.published.specs.Published.{Configuration, runtime, noState, inState, nothing, unbound, Mark, agreement, call, change, match, failure, time, Table2, agree, function, stateChange, eventMatch, eventFailed, tick, Whole, phaseOf, memoryAt, idle, Comes}
 

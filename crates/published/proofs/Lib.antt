@@ -12,4 +12,4 @@ pub mod Firings
 pub mod Calls
 pub mod Agreements
 pub mod Theorem
-pub mod Told
+pub mod IdleDetermines

@@ -11,25 +11,25 @@ use Rattle.laws.proofs.Choice.{pick-true}
 use Rattle.contract.specs.Check.{passes}
 use Rattle.contract.specs.Decode.{contractOf}
 use Rattle.contract.proofs.Fitting.{FitsContract, fits-contract}
-use Rattle.contract.proofs.Sound.{sound}
+use Rattle.contract_laws.proofs.Sound.{sound}
 use Rattle.state.specs.declared.State.{State}
 use Rattle.state.specs.States.{maxPending, live, stateOk}
 use Rattle.state.proofs.Within.{within}
 use Rattle.statements.specs.declared.Label.{Label}
 use Rattle.statements.specs.Running.{maxLabels}
-use Rattle.machine.specs.declared.Outcome.{Outcome}
+use Rattle.outcomes.specs.declared.Outcome.{Outcome}
 use Rattle.machine.specs.Steps.{step}
 use Rattle.history.specs.Histories.{Request, requested, answerTo, within64}
-use Rattle.history.proofs.Bounded.{Bounded, bounded}
-use Rattle.history.proofs.Good.{Good}
-use Rattle.history.proofs.Kept.{step-good}
+use Rattle.history.proofs.ContractBounds.{Bounded, bounded}
+use Rattle.history.proofs.GoodState.{Good}
+use Rattle.history.proofs.StepsKeepGood.{step-good}
 use Rattle.published.specs.Published.{Configuration, idle, Comes}
 use Rattle.published.specs.Exactly.{answer, Exactly}
 use Rattle.published.proofs.Idle.{comes-by}
 use Rattle.published.proofs.Agreements.{agreement-derives, agreement-comes}
 use Rattle.published.proofs.Calls.{call-derives, call-comes}
 use Rattle.published.proofs.Firings.{firing-derives, firing-comes, failure-derives, failure-comes}
-use Rattle.published.proofs.Told.{idle-tells}
+use Rattle.published.proofs.IdleDetermines.{idle-tells}
 use Rattle.published.proofs.Ticks.{tick-derives, tick-comes}
 
 module _ (w : List ℕ) (s : State) (room : ℕ) (p : passes w ≡ true) (o : stateOk (contractOf w) s ≡ true) (h : maxLabels ≤ room) where

@@ -11,14 +11,16 @@ use Rattle.contract.specs.Limits.{top}
 use Rattle.contract.specs.Tree.{Contract}
 use Rattle.state.specs.declared.State.{State}
 use Rattle.state.specs.declared.Due.the-variants as due
-use Rattle.state.specs.States.{live, dueIn, keep, withPending, lapsed}
+use Rattle.state.specs.States.{live, dueIn, withPending, lapsed}
+use Rattle.laws.specs.Lists.{keep}
 use Rattle.state.proofs.Within.{live-lapsed}
-use Rattle.machine.specs.declared.Rule.the-variants.{Tick}
-use Rattle.machine.specs.declared.Outcome.the-variants.{Accepted}
-use Rattle.machine.specs.declared.Stepped.{Stepped}
-use Rattle.machine.specs.Steps.{answered, later, tickByDue, ticked}
+use Rattle.outcomes.specs.declared.Rule.the-variants.{Tick}
+use Rattle.outcomes.specs.declared.Outcome.the-variants.{Accepted}
+use Rattle.outcomes.specs.declared.Stepped.{Stepped}
+use Rattle.outcomes.specs.Outcomes.{answered}
+use Rattle.machine.specs.Steps.{later, tickByDue, ticked}
 use Rattle.history.specs.Histories as history
-use Rattle.history.proofs.Cases.{Came, refusal, ticks, tick-came}
+use Rattle.history.proofs.Cases.{ComesOut, refusal, ticks, tick-came}
 use Rattle.published.specs.Published.{Configuration, runtime, inState, nothing, afterTick, phaseOf, memoryAt, idle, time, Table2, tick, Comes}
 use Rattle.published.proofs.Finding.{none-ready, ready-none}
 use Rattle.published.proofs.Idle.{standing, idle-standing, comes-by, starts}
@@ -30,7 +32,7 @@ module _ (c : Contract) (s : State) where
   unfolding withPending lapsed
   idle-later a = λ i. runtime (phaseOf (a i) (s .state)) (afterTick (memoryAt s)) nothing (live-lapsed s i)
 
-  came-derives : {r : Stepped} {C : Configuration} → Came c s history.tick r → Comes r (Accepted Tick) [] C → Table2 c (idle s) time C
+  came-derives : {r : Stepped} {C : Configuration} → ComesOut c s history.tick r → Comes r (Accepted Tick) [] C → Table2 c (idle s) time C
   unfolding dueIn
   came-derives (refusal n) o = let z : _≡_ {A = ℕ} 0 1 = cc (o .outcome-is) in absurd (omega arith)
   came-derives {C = C} (ticks a d l) o =

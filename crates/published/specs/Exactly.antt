@@ -7,11 +7,11 @@ use mathlib.Core.List.{List, []}
 use Rattle.contract.specs.Decode.{contractOf}
 use Rattle.state.specs.declared.State.{State}
 use Rattle.statements.specs.declared.Label.{Label}
-use Rattle.machine.specs.declared.Rule.the-variants.{Agree, Call, EventMatch, Tick}
-use Rattle.machine.specs.declared.Outcome.the-variants.{Accepted, Failed}
-use Rattle.machine.specs.declared.Stepped.{Stepped}
+use Rattle.outcomes.specs.declared.Rule.the-variants.{Agree, Call, EventMatch, Tick}
+use Rattle.outcomes.specs.declared.Outcome.the-variants.{Accepted, Failed}
+use Rattle.outcomes.specs.declared.Stepped.{Stepped}
 use Rattle.machine.specs.Steps.{Invocation}
-use Rattle.machine.specs.Agreement.{Part}
+use Rattle.agreements.specs.Agreement.{Part}
 use Rattle.history.specs.Histories as history
 use Rattle.history.specs.Histories.{Request, answerTo}
 use Rattle.published.specs.Published.{Configuration, agreement, call, match, failure, time, Table2, Whole, idle, Comes}

@@ -13,20 +13,20 @@ use Rattle.numbers.specs.declared.Value.the-variants.{Integer, Text}
 use Rattle.numbers.specs.declared.Answer.the-variants.{Is, Refused}
 use Rattle.numbers.specs.declared.Truth.the-variants.{Holds}
 use Rattle.contract.specs.Limits.{top, maxFields, maxAssets, maxParameters}
-use Rattle.contract.specs.Fits.{every}
+use Rattle.laws.specs.Lists.{every, repeated, keep}
 use Rattle.contract.specs.Tree as tree
 use Rattle.contract.specs.Tree.{Word, Holder, Expression, held, field, Condition, Action, assign, send, move, pay, moveAll, payAll, Block, none, perform, conditional, brokenBlock, Event, Function, Verb, Clause, Contract}
 use Rattle.evaluation.specs.Memory.{Memory, memoryOf, placeOf}
 use Rattle.evaluation.specs.Meaning.{valueOf, truthOf}
 use Rattle.state.specs.declared.State.{State}
 use Rattle.state.specs.declared.Pending.{Pending}
-use Rattle.state.specs.States.{repeated, eventOf, keep, live, maxPending}
+use Rattle.state.specs.States.{eventOf, live, maxPending}
 use Rattle.statements.specs.declared.Label.{Label}
 use Rattle.statements.specs.Running.{integerLabel, stringLabel, assetLabel}
-use Rattle.machine.specs.declared.Outcome.{Outcome}
-use Rattle.machine.specs.declared.Stepped.{Stepped}
+use Rattle.outcomes.specs.declared.Outcome.{Outcome}
+use Rattle.outcomes.specs.declared.Stepped.{Stepped}
 use Rattle.machine.specs.Steps.{Invocation, preconditionHolds}
-use Rattle.machine.specs.Agreement.{Part}
+use Rattle.agreements.specs.Agreement.{Part}
 
 -- ---- runtime contracts: C(Φ, ℓ, Σ, Ψ), t
 

@@ -1,9 +1,8 @@
 // The agreement's three rules, question 14, tested by masks over the clause rows of a table.
 ghost use mathlib.Core.Path.{_≡_};
 ghost use Prim.Native.Nat.{min};
-ghost use Rattle.contract.specs.Fits.{every};
-ghost use Rattle.contract.specs.Check.{allBelow};
-ghost use Rattle.reader.specs.Masks.{rowOf, rowsOf, holds, with, withAll, fieldMask, partyMask, partOf, agreesByMask, keptByMasks};
+ghost use Rattle.laws.specs.Lists.{every, allBelow};
+ghost use Rattle.reading_laws.specs.Masks.{rowOf, rowsOf, holds, with, withAll, fieldMask, partyMask, partOf, agreesByMask, keptByMasks};
 
 // A party's number is at most 8 and a field's at most 32: an unknown name has the number of how many are known. So a mask
 // needs 33 bits, and a u64 has bits to spare. The last one says that a number was put in twice.

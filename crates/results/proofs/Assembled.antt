@@ -11,14 +11,15 @@ use mir.Syntax.{w64}
 use mir.Val.{SFits, toZ, ofZ}
 use mir.Facts.{toZ-ofZ}
 use Rattle.laws.specs.Bytes.{bytes}
+use Rattle.laws.specs.Choice.{pick}
 use Rattle.laws.proofs.Choice.{pick-true, pick-false, by-cases}
-use Rattle.words.specs.Words.{spelled, eventMatch, lineEnd}
+use Rattle.words.specs.Words.{spelled, eventMatch, refused, lineEnd}
 use Rattle.contract.specs.Decode.{contractOf, wordOf}
 use Rattle.contract.specs.Check.{passes}
 use Rattle.results.specs.Decimal.{decimal, signed}
 use Rattle.results.specs.Lines.{valueOk, reportOk, ruleName, valueText, arrow, refusedText, lineOf, textRefusal, textLine}
 use Rattle.results.specs.Results.{written, textWritten, after, bufferAfter, textBufferAfter}
-use Rattle.results.specs.Stores.{Put, Ready, ReadyValue}
+use Rattle.results.specs.Private.{Put, Ready, ReadyValue}
 use Rattle.results.specs.declared.Report.{Report}
 use Rattle.results.specs.declared.Report.the-variants.{Ruled, Sent, Held}
 use Rattle.results.specs.declared.Report.the-variants as report
@@ -127,9 +128,9 @@ module _ {old new : List ℕ} {n : ℕ} where
   unfolding spelled
   refused-line k p1 p2 = then p1 p2
 
-  pub failed-line : (k : ℕ) {l1 l2 : List ℕ} {a b : ℕ} → Put old 0 (bytes "[EVENT MATCH] ") a l1 → Put l1 a (refusedText k) b l2 → Put l2 b (bytes "\n") n new
-      → Put old 0 (bytes "[" ++ (spelled eventMatch ++ (bytes "] " ++ (refusedText k ++ spelled lineEnd)))) n new
-  unfolding spelled
+  pub failed-line : (k : ℕ) {l1 l2 : List ℕ} {a b : ℕ} → Put old 0 (bytes "[" ++ (ruleName 2 ++ bytes "] ")) a l1 → Put l1 a (refusedText k) b l2
+      → Put l2 b (bytes "\n") n new → Put old 0 (bytes "[" ++ (spelled eventMatch ++ (bytes "] " ++ (refusedText k ++ spelled lineEnd)))) n new
+  unfolding ruleName spelled pick
   failed-line k p1 p2 p3 = then p1 (then p2 p3)
 
   pub refused-as : (w : List ℕ) (k : ℕ) {r : Report} → r ≡ report.Refused k → Put old 0 (refusedText k ++ spelled lineEnd) n new → Put old 0 (lineOf (contractOf w) r) n new
@@ -157,9 +158,10 @@ module _ {old new : List ℕ} {n : ℕ} where
   unfolding valueText
   number-value w kind k q p = same (ap signed q ∙ sym (pick-false _ _ _ (ne-eqb kind 2 k))) p
 
-  pub refused-piece : (at k : ℕ) {l1 : List ℕ} {a : ℕ} → Put old at (bytes "refused ") a l1 → Put l1 a (decimal k) n new → Put old at (refusedText k) n new
-  unfolding refusedText spelled
-  refused-piece at k p1 p2 = then p1 p2
+  pub refused-piece : (at k : ℕ) {l1 l2 : List ℕ} {a b : ℕ} → Put old at (spelled refused) a l1 → Put l1 a (bytes " ") b l2 → Put l2 b (decimal k) n new
+      → Put old at (refusedText k) n new
+  unfolding refusedText
+  refused-piece at k p1 p2 p3 = then p1 (then p2 p3)
 
 -- ---- the answers
 

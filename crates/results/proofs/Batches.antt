@@ -10,11 +10,11 @@ use lib.Dec.{eqb, leb}
 use borrow.Author.Tests.{eqb-true, leb-true}
 use Rattle.contract.specs.Tree.{Contract}
 use Rattle.contract.specs.Decode.{contractOf}
-use Rattle.contract.specs.Fits.{every}
+use Rattle.laws.proofs.Truths.{both-left, both-right}
+use Rattle.laws.specs.Lists.{every}
 use Rattle.contract.specs.Check.{ranges, passes}
-use Rattle.contract.proofs.Fitting.{both-left, both-right}
-use Rattle.contract.proofs.Inversions.{of-either, ranges-of}
-use Rattle.contract.proofs.Sound.{passed, counts}
+use Rattle.contract_laws.proofs.Inversions.{of-either, ranges-of}
+use Rattle.contract_laws.proofs.Sound.{passed, counts}
 use Rattle.results.specs.Coded.{coded, integerOf, codedAll, integersOf, reportFrom, reportAt, reportsFrom}
 use Rattle.results.specs.Lines.{refusal, reportOk}
 use Rattle.results.specs.declared.Report.{Report}
@@ -54,8 +54,8 @@ ok-byte c h (Refused n) k = refusal-byte n k
 ok-byte c h (Failed n) k = omega (arith, ranges-of 30 n 36 k .1)
 
 -- a report in range reads as itself
-pub read-back : (c : Contract) → length (c .assets) ≤ 256 → (r : Report) → reportOk c r ≡ true → decoded r ≡ r
-read-back c h r k = byte-back r (ok-byte c h r k)
+pub report-read : (c : Contract) → length (c .assets) ≤ 256 → (r : Report) → reportOk c r ≡ true → decoded r ≡ r
+report-read c h r k = byte-back r (ok-byte c h r k)
 
 -- a second number of more than a byte is refused by question 53
 pub wide-refused : (c : Contract) (which a b d : ℕ) (z : ℤ) → 256 ≤ a → reportOk c (reportFrom which a b d z) ≡ false
@@ -92,14 +92,14 @@ coded-first (Refused k) ns zs n = four-first _ _ _ _ ns _ zs n
 coded-first (Failed k) ns zs n = four-first _ _ _ _ ns _ zs n
 
 -- reports in range read as themselves, whatever follows their numbers
-pub reports-back : (c : Contract) → length (c .assets) ≤ 256 → (rs : List Report) (ns : List ℕ) (zs : List ℤ) → every (reportOk c) rs ≡ true
+pub reports-read : (c : Contract) → length (c .assets) ≤ 256 → (rs : List Report) (ns : List ℕ) (zs : List ℤ) → every (reportOk c) rs ≡ true
     → reportsFrom (codedAll rs ++ ns) (integersOf rs ++ zs) 0 (length rs) ≡ rs
 unfolding reportsFrom codedAll integersOf every
-reports-back c h [] ns zs k = refl
-reports-back c h (r ∷ rs) ns zs k =
+reports-read c h [] ns zs k = refl
+reports-read c h (r ∷ rs) ns zs k =
     ap (λ (l : List ℕ). reportsFrom l (integerOf r ∷ (integersOf rs ++ zs)) 0 (suc (length rs))) (append-assoc (coded r) (codedAll rs) ns)
     ∙ coded-first r (codedAll rs ++ ns) (integersOf rs ++ zs) (length rs)
-    ∙ λ j. read-back c h r (both-left (reportOk c r) _ k) j ∷ reports-back c h rs ns zs (both-right (reportOk c r) _ k) j
+    ∙ λ j. report-read c h r (both-left (reportOk c r) _ k) j ∷ reports-read c h rs ns zs (both-right (reportOk c r) _ k) j
 
 -- ---- a table that passes has few assets
 

@@ -15,10 +15,10 @@ use borrow.Author.Tests.{ltb-true, ltb-false, lt-ltb, le-ltb}
 use Rattle.laws.specs.Bytes.{bytes}
 use Rattle.laws.proofs.Choice.{pick-true, pick-false, true-false}
 use Rattle.numbers.proofs.Whole.{lt-true}
-use Rattle.contract.proofs.Levels.{pick-same}
-use Rattle.contract.proofs.Inversions.{by-test}
+use Rattle.contract_laws.proofs.Levels.{pick-same}
+use Rattle.contract_laws.proofs.Inversions.{by-test}
 use Rattle.results.specs.Decimal.{digit, decimalWithin, decimal, signed}
-use Rattle.results.specs.Stores.{Put}
+use Rattle.results.specs.Private.{Put}
 use Rattle.results.proofs.Puts.{sets-last}
 
 enough : (f g n : ℕ) → n < f → n < g → decimalWithin f n ≡ decimalWithin g n

@@ -8,5 +8,5 @@ pub mod Assembled
 pub mod Turns
 -- What holds of the definitions.
 pub mod Worked
-pub mod ReadBack
+pub mod DecimalRead
 pub mod Batches

@@ -7,7 +7,7 @@ use native.Mathlib.Nat.{add-zero, zero-add}
 use lib.ListN.{length, set, drop, getD, length-append, drop-of-length-le}
 use lib.Seq.{sets, sets-eq, set-comm, length-sets}
 use Rattle.laws.proofs.Lists.{cons-at}
-use Rattle.results.specs.Stores.{Put}
+use Rattle.results.specs.Private.{Put}
 
 -- ---- stores
 
@@ -48,9 +48,6 @@ stored {old} {new} w at i n e l h r =
     }
 
 -- ---- pieces of a line
-
-pub one-byte : (old : List ℕ) (at b : ℕ) → at + 1 ≤ length old → Put old at (b ∷ []) (at + 1) (set old at b)
-one-byte old at b h = record { place = refl; list = refl; room = h }
 
 -- stores keep the length
 pub kept : {old w new : List ℕ} {at n : ℕ} → Put old at w n new → length new ≡ length old

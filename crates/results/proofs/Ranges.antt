@@ -18,9 +18,9 @@ use Rattle.contract.specs.Tree.{Contract}
 use Rattle.contract.specs.Table.{wordAt}
 use Rattle.contract.specs.Decode.{contractOf}
 use Rattle.contract.specs.Check.{ranges}
-use Rattle.contract.proofs.Fitting.{link}
-use Rattle.contract.proofs.Inversions.{by-test}
-use Rattle.contract.proofs.Sound.{counts}
+use Rattle.laws.proofs.Truths.{link}
+use Rattle.contract_laws.proofs.Inversions.{by-test}
+use Rattle.contract_laws.proofs.Sound.{counts}
 use Rattle.results.specs.Lines.{valueOk, refusal, reportOk}
 use Rattle.results.specs.declared.Report.{Report}
 use Rattle.results.specs.declared.Report.the-variants.{Ruled, Sent, Held, Refused, Failed}

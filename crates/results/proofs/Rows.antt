@@ -14,12 +14,14 @@ use Rattle.laws.proofs.Choice.{true-false}
 use Rattle.tokens.specs.Classes.{within, isLetter, isDigit, isNameByte, isPrintable, isStringByte}
 use Rattle.contract.specs.Table.{wordAt}
 use Rattle.contract.specs.Decode.{wordOf, contractOf}
-use Rattle.contract.specs.Check.{allBelow, ranges, nameOk, stringOk, namesOk, passes}
-use Rattle.contract.proofs.Fitting.{link}
-use Rattle.contract.proofs.Inversions.{by-test, ranges-of, below-at}
-use Rattle.contract.proofs.Members.{getD-each}
-use Rattle.contract.proofs.Sound.{passed, counts}
-use Rattle.results.specs.Stores.{Put, NameAt}
+use Rattle.contract.specs.Check.{ranges, nameOk, stringOk, namesOk, passes}
+use Rattle.laws.proofs.Truths.{link}
+use Rattle.laws.specs.Lists.{allBelow}
+use Rattle.contract_laws.proofs.Inversions.{by-test, ranges-of}
+use Rattle.laws.proofs.Members.{below-at}
+use Rattle.contract_laws.proofs.Members.{getD-each}
+use Rattle.contract_laws.proofs.Sound.{passed, counts}
+use Rattle.results.specs.Private.{Put, NameAt}
 use Rattle.results.proofs.Puts.{store-next, stored}
 
 -- ---- bytes
@@ -53,7 +55,7 @@ name-word w o e h =
         whole = omega arith;
         byte = λ i l. by-place i l
             (below isLetter no-letter (wordAt w (o + 1)) (t 1))
-            (λ j m. below isNameByte no-name-byte (wordAt w (o + 2 + j)) (below-at (n - 1) (λ j. isNameByte (wordAt w (o + 2 + j))) (t 2) j m));
+            (λ j m. below isNameByte no-name-byte (wordAt w (o + 2 + j)) (below-at (λ j. isNameByte (wordAt w (o + 2 + j))) (n - 1) (t 2) j m));
       },
       few,
     )
@@ -71,7 +73,7 @@ string-word w o e h =
     let few : n ≤ 64 = leb-true n 64 (t 0) in (
       record {
         whole = omega arith;
-        byte = λ i l. below isStringByte no-string-byte (wordAt w (o + 1 + i)) (below-at n p (t 1) i l);
+        byte = λ i l. below isStringByte no-string-byte (wordAt w (o + 1 + i)) (below-at p n (t 1) i l);
       },
       few,
     )
@@ -127,7 +129,7 @@ module _ (w : List ℕ) (e : passes w ≡ true) (i : ℕ) where
       → (l : List (List ℕ)) → getD l i [] ≡ wordOf w (start + i * 33) → Row w l i (start + i * 33) 32
   row-of n start limit a b c h l q =
       let long : length w ≡ 20819 = passed w e .long in
-      let r = name-word w (start + i * 33) (below-at n (λ i. nameOk w (start + i * 33)) a i h) (omega arith) in
+      let r = name-word w (start + i * 33) (below-at (λ i. nameOk w (start + i * 33)) n a i h) (omega arith) in
       record { word = r .0; few = r .1; name = q; low = omega arith }
 
   pub party-row : i < length (contractOf w .parties) → Row w (contractOf w .parties) i (43 + i * 33) 32
@@ -157,7 +159,7 @@ module _ (w : List ℕ) (e : passes w ≡ true) (i : ℕ) where
       let k : i < wordAt w 4 = omega (arith, counts w .strings) in
       let long : length w ≡ 20819 = passed w e .long in
       let few : wordAt w 4 ≤ 32 = passed w e .head .strings in
-      let r = string-word w (2947 + i * 65) (below-at (wordAt w 4) (λ i. stringOk w (2947 + i * 65)) (names w (passed w e .names) .strings) i k) (omega arith) in
+      let r = string-word w (2947 + i * 65) (below-at (λ i. stringOk w (2947 + i * 65)) (wordAt w 4) (names w (passed w e .names) .strings) i k) (omega arith) in
       record {
         word = r .0;
         few = r .1;

@@ -19,7 +19,7 @@ use Rattle.contract.specs.Check.{passes}
 use Rattle.results.specs.Coded.{noReport, reportFrom, reportAt, reportsFrom}
 use Rattle.results.specs.Lines.{reportOk, lineOf}
 use Rattle.results.specs.Results.{nothing, oneMore, batchOf, batch, linesOf, batchAfter}
-use Rattle.results.specs.Stores.{Put}
+use Rattle.results.specs.Private.{Put}
 use Rattle.results.specs.declared.Batch.{Batch}
 use Rattle.results.specs.declared.Report.{Report}
 use Rattle.results.specs.declared.Report.the-variants.{Ruled, Sent, Held, Refused, Failed}

@@ -3,4 +3,4 @@ pub mod Lines
 pub mod Coded
 pub mod Results
 pub mod Cases
-pub mod Stores
+pub mod Private

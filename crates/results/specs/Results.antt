@@ -13,7 +13,7 @@ use Rattle.results.specs.declared.Written.{Written}
 use Rattle.results.specs.declared.Batch.{Batch}
 use Rattle.results.specs.declared.Written.the-variants.{Wrote, Refused}
 
--- questions 52, 3 and 53, then how many bytes the line has; for a table, a report and the buffer's length
+-- what writing answers, for a table, a report and the buffer's length: questions 52, 3 and 53, else how many bytes the line has (`bufferAfter` has the bytes)
 unfoldable pub written : List ℕ → Report → ℕ → Written
 written w report size =
     pick (ltb size 128) (Refused 52)
@@ -21,7 +21,7 @@ written w report size =
     (pick (reportOk (contractOf w) report) (Wrote (length (lineOf (contractOf w) report))) (Refused 53))
     (Refused 3))
 
--- questions 52 and 53, then how many bytes the line has
+-- the same of a refused text: questions 52 and 53, else how many bytes its line has
 unfoldable pub textWritten : ℕ → ℕ → ℕ → Written
 textWritten n place size = pick (ltb size 128) (Refused 52) (pick (textRefusal n) (Wrote (length (textLine n place))) (Refused 53))
 

@@ -49,7 +49,7 @@ pub fn write(table: &[u64], report: Report, buffer: &mut [u8]) -> Written
     if buffer.len() < ROOM {
         return Written::Refused(questions::RESULT_ROOM);
     }
-    if contract::table_passes(table) {
+    if tables::table_passes(table) {
         if reports::report_ok(table, report) {
             return Written::Wrote(reports::write_line(table, report, buffer));
         }
@@ -95,7 +95,7 @@ pub fn write_batch(
             used: 0,
         };
     }
-    if contract::table_passes(table) {
+    if tables::table_passes(table) {
         return many::write_lines(table, numbers, integers, from, to, buffer);
     }
     Batch {

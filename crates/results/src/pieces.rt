@@ -3,11 +3,12 @@ ghost use mathlib.Core.Path.{_≡_};
 ghost use mathlib.Core.List.{[], _∷_};
 ghost use Prim.Native.Nat.{_+_, _≤_, _<_};
 ghost use lib.ListN.{length};
+ghost use Rattle.words.specs.Words.{spelled};
 ghost use Rattle.contract.specs.Table.{wordAt};
 ghost use Rattle.contract.specs.Decode.{wordOf};
 ghost use Rattle.results.specs.Decimal.{decimal, signed};
 ghost use Rattle.results.specs.Lines.{refusedText};
-ghost use Rattle.results.specs.Stores.{Put, NameAt};
+ghost use Rattle.results.specs.Private.{Put, NameAt};
 
 pub(crate) fn put_byte(buffer: &mut [u8], at: usize, b: u8) -> usize
     requires { ⌜ at + 1 ≤ length (now buffer) ⌝ }
@@ -27,6 +28,16 @@ pub(crate) fn put_bytes(buffer: &mut [u8], at: usize, word: &[u8]) -> usize
         i += 1;
     }
     at + i
+}
+
+// A fixed word by its number.
+pub(crate) fn put_word(buffer: &mut [u8], at: usize, which: u8) -> usize
+    requires { ⌜ at + length (spelled which) ≤ length (now buffer) ⌝ }
+    ensures { λ r. ⌜ Put (now (buffer .entry)) at (spelled which) r (now (buffer .exit)) ⌝ }
+{
+    let word = words::spelling(which);
+    let bytes = word.bytes;
+    put_bytes(buffer, at, &bytes[..word.length])
 }
 
 // A name or a string of the table, its length at word o.
@@ -73,11 +84,15 @@ fn digits(n: u64) -> usize
     count + few_digits(rest)
 }
 
-// The digits of a number, the last first.
+// The digits of a number: one, or the last first.
 pub(crate) fn put_number(buffer: &mut [u8], at: usize, n: u64) -> usize
     requires { ⌜ at + length (decimal n) ≤ length (now buffer) ⌝ }
     ensures { λ r. ⌜ Put (now (buffer .entry)) at (decimal n) r (now (buffer .exit)) ⌝ }
 {
+    if n < 10 {
+        buffer[at] = b'0' + n as u8;
+        return at + 1;
+    }
     let end = at + digits(n);
     let mut rest = n;
     let mut i = end;
@@ -106,6 +121,7 @@ pub(crate) fn put_refused(buffer: &mut [u8], at: usize, n: u8) -> usize
     requires { ⌜ at + 28 ≤ length (now buffer) ⌝ }
     ensures { λ r. ⌜ Put (now (buffer .entry)) at (refusedText n) r (now (buffer .exit)) ⌝ }
 {
-    let first = put_bytes(buffer, at, b"refused ");
+    let space = put_word(buffer, at, words::REFUSED);
+    let first = put_byte(buffer, space, b' ');
     put_number(buffer, first, n as u64)
 }

@@ -8,7 +8,7 @@ ghost use Rattle.words.specs.Words.{spelled, eventMatch, lineEnd};
 ghost use Rattle.contract.specs.Decode.{contractOf};
 ghost use Rattle.contract.specs.Check.{ranges};
 ghost use Rattle.results.specs.Lines.{valueOk, refusal, textRefusal, reportOk, ruleName, valueText, arrow, refusedText, lineOf};
-ghost use Rattle.results.specs.Stores.{Put, Ready, ReadyValue};
+ghost use Rattle.results.specs.Private.{Put, Ready, ReadyValue};
 ghost use Rattle.results.specs.declared.Report.the-variants.{Ruled, Sent, Held};
 use crate::Report;
 use crate::pieces::put_byte;
@@ -17,22 +17,10 @@ use crate::pieces::put_integer;
 use crate::pieces::put_name;
 use crate::pieces::put_number;
 use crate::pieces::put_refused;
+use crate::pieces::put_word;
 
 // The greatest amount and clock.
 const TOP: u64 = 9223372036854775807;
-
-// Where the rows of names start in a table, and their widths (docs/TABLE.md).
-const PARTIES: usize = 43;
-
-const ASSETS: usize = 307;
-
-const STATES: usize = 1891;
-
-const STRINGS: usize = 2947;
-
-const NAME: usize = 33;
-
-const STRING: usize = 65;
 
 fn between(lo: u8, n: u8, hi: u8) -> bool
     ensures { λ r. ⌜ r ≡ ranges lo n hi ⌝ }
@@ -91,21 +79,31 @@ pub(crate) fn report_ok(table: &[u64], report: Report) -> bool
     }
 }
 
+// The name of a rule.
+fn put_rule_name(buffer: &mut [u8], at: usize, rule: u8) -> usize
+    requires { ⌜ at + 11 ≤ length (now buffer) ⌝ }
+    ensures { λ r. ⌜ Put (now (buffer .entry)) at (ruleName rule) r (now (buffer .exit)) ⌝ }
+{
+    if rule == 0 {
+        return put_word(buffer, at, words::AGREE);
+    }
+    if rule == 1 {
+        return put_word(buffer, at, words::FUNCTION);
+    }
+    if rule == 2 {
+        return put_word(buffer, at, words::EVENT_MATCH);
+    }
+    put_word(buffer, at, words::TICK)
+}
+
 // The name of a rule in its brackets, and a space.
 fn put_rule(buffer: &mut [u8], rule: u8) -> usize
     requires { ⌜ 128 ≤ length (now buffer) ⌝ }
     ensures { λ r. ⌜ Put (now (buffer .entry)) 0 (bytes "[" ++ (ruleName rule ++ bytes "] ")) r (now (buffer .exit)) ⌝ }
 {
-    if rule == 0 {
-        return put_bytes(buffer, 0, b"[AGREE] ");
-    }
-    if rule == 1 {
-        return put_bytes(buffer, 0, b"[FUNCTION] ");
-    }
-    if rule == 2 {
-        return put_bytes(buffer, 0, b"[EVENT MATCH] ");
-    }
-    put_bytes(buffer, 0, b"[TICK] ")
+    let name = put_byte(buffer, 0, b'[');
+    let end = put_rule_name(buffer, name, rule);
+    put_bytes(buffer, end, b"] ")
 }
 
 fn write_ruled(table: &[u64], rule: u8, state: usize, clock: u64, buffer: &mut [u8]) -> usize
@@ -113,7 +111,12 @@ fn write_ruled(table: &[u64], rule: u8, state: usize, clock: u64, buffer: &mut [
     ensures { λ r. ⌜ Put (now (buffer .entry)) 0 (lineOf (contractOf (now (table .entry))) (Ruled rule state clock)) r (now (buffer .exit)) ⌝ }
 {
     let name = put_rule(buffer, rule);
-    let comma = put_name(table, STATES + state * NAME, buffer, name);
+    let comma = put_name(
+        table,
+        contract::STATES + state * contract::NAME_WORDS,
+        buffer,
+        name,
+    );
     let number = put_bytes(buffer, comma, b", ");
     let end = put_number(buffer, number, clock);
     put_byte(buffer, end, b'\n')
@@ -126,11 +129,22 @@ fn put_value(table: &[u64], kind: u8, value: i64, buffer: &mut [u8]) -> usize
 {
     if kind == 2 {
         let string = put_byte(buffer, 0, b'"');
-        let row = STRINGS + (numbers::magnitude(value) as usize) * STRING;
+        let row = contract::STRINGS + (numbers::magnitude(value) as usize) * contract::STRING_WORDS;
         let quote = put_name(table, row, buffer, string);
         return put_byte(buffer, quote, b'"');
     }
     put_integer(buffer, 0, value)
+}
+
+// The arrow of a label.
+fn put_mark(buffer: &mut [u8], at: usize, kind: u8) -> usize
+    requires { ⌜ at + 2 ≤ length (now buffer) ⌝ }
+    ensures { λ r. ⌜ Put (now (buffer .entry)) at (arrow kind) r (now (buffer .exit)) ⌝ }
+{
+    if kind == 3 {
+        return put_word(buffer, at, words::ASSET_ARROW);
+    }
+    put_word(buffer, at, words::VALUE_ARROW)
 }
 
 // The arrow of a label, between spaces.
@@ -138,10 +152,9 @@ fn put_arrow(buffer: &mut [u8], at: usize, kind: u8) -> usize
     requires { ⌜ at + 4 ≤ length (now buffer) ⌝ }
     ensures { λ r. ⌜ Put (now (buffer .entry)) at (bytes " " ++ (arrow kind ++ bytes " ")) r (now (buffer .exit)) ⌝ }
 {
-    if kind == 3 {
-        return put_bytes(buffer, at, b" -o ");
-    }
-    put_bytes(buffer, at, b" -> ")
+    let mark = put_byte(buffer, at, b' ');
+    let end = put_mark(buffer, mark, kind);
+    put_byte(buffer, end, b' ')
 }
 
 fn write_sent(table: &[u64], kind: u8, party: usize, value: i64, buffer: &mut [u8]) -> usize
@@ -150,7 +163,12 @@ fn write_sent(table: &[u64], kind: u8, party: usize, value: i64, buffer: &mut [u
 {
     let mark = put_value(table, kind, value, buffer);
     let name = put_arrow(buffer, mark, kind);
-    let end = put_name(table, PARTIES + party * NAME, buffer, name);
+    let end = put_name(
+        table,
+        contract::PARTIES + party * contract::NAME_WORDS,
+        buffer,
+        name,
+    );
     put_byte(buffer, end, b'\n')
 }
 
@@ -158,7 +176,12 @@ fn write_held(table: &[u64], asset: usize, amount: u64, buffer: &mut [u8]) -> us
     requires { ⌜ Ready (now table) (Held asset amount) (length (now buffer)) ⌝ }
     ensures { λ r. ⌜ Put (now (buffer .entry)) 0 (lineOf (contractOf (now (table .entry))) (Held asset amount)) r (now (buffer .exit)) ⌝ }
 {
-    let mark = put_name(table, ASSETS + asset * NAME, buffer, 0);
+    let mark = put_name(
+        table,
+        contract::ASSETS + asset * contract::NAME_WORDS,
+        buffer,
+        0,
+    );
     let number = put_bytes(buffer, mark, b" = ");
     let end = put_number(buffer, number, amount);
     put_byte(buffer, end, b'\n')
@@ -176,7 +199,7 @@ fn write_failed(n: u8, buffer: &mut [u8]) -> usize
     requires { ⌜ 128 ≤ length (now buffer) ⌝ }
     ensures { λ r. ⌜ Put (now (buffer .entry)) 0 (bytes "[" ++ (spelled eventMatch ++ (bytes "] " ++ (refusedText n ++ spelled lineEnd)))) r (now (buffer .exit)) ⌝ }
 {
-    let number = put_bytes(buffer, 0, b"[EVENT MATCH] ");
+    let number = put_rule(buffer, 2);
     let end = put_refused(buffer, number, n);
     put_byte(buffer, end, b'\n')
 }

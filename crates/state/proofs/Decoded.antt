@@ -32,10 +32,6 @@ module _ {A : Type 0} where
 
 -- ---- the contract of a table
 module _ (w : List ℕ) where
-  pub parties-count : length (contractOf w .parties) ≡ wordAt w 0
-  unfolding contractOf
-  parties-count = each-length 0 (wordAt w 0) _
-
   pub assets-count : length (contractOf w .assets) ≡ wordAt w 1
   unfolding contractOf
   assets-count = each-length 0 (wordAt w 1) _

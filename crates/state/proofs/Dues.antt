@@ -11,9 +11,8 @@ use Rattle.contract.specs.Tree.{Contract}
 use Rattle.state.specs.States.{blank, live, isDue, dueIn}
 use Rattle.state.specs.declared.State.{State}
 use Rattle.state.specs.declared.Pending.{Pending}
-use Rattle.state.specs.declared.Due.the-variants.{At, Nothing}
+use Rattle.state.specs.declared.Due.the-variants.{At}
 use Rattle.state.proofs.First.{dueAt, firstOf, first-due-of}
-use Rattle.state.proofs.Each.{Each, none, more}
 
 pub first-found : (p : Pending → Bool) (i : ℕ) (l : List Pending) (j : ℕ) (d : Pending) → firstOf p i l ≡ At j → (i ≤ j) × (j - i < length l) × (p (getD l (j - i) d) ≡ true)
 unfolding firstOf
@@ -37,17 +36,3 @@ due-found c s i e =
     let f = first-found (dueAt c (s .clock) (s .state)) 0 (live s) i blank (sym (first-due-of c s 0 (live s)) ∙ e) in
     let z : i - 0 ≡ i = omega arith in
     (omega arith, rw z at (f .2))
-
-first-none : (p : Pending → Bool) (i : ℕ) (l : List Pending) → firstOf p i l ≡ Nothing → Each (λ x. p x ≡ false) l
-unfolding firstOf
-first-none p i [] e = none
-first-none p i (x ∷ xs) e = go (p x) refl e (first-none p (suc i) xs)
-  where
-    go : (t : Bool) → p x ≡ t → pick t (At i) (firstOf p (suc i) xs) ≡ Nothing → (firstOf p (suc i) xs ≡ Nothing → Each (λ x. p x ≡ false) xs) → Each (λ x. p x ≡ false) (x ∷ xs)
-    go true q f r = let z : _≡_ {A = ℕ} 0 1 = cc (pick-true true (At i) (firstOf p (suc i) xs) refl) in absurd (omega arith)
-    go false q f r = more q (r (sym (pick-false false (At i) (firstOf p (suc i) xs) refl) ∙ f))
-
--- where none is found, no pending event is due
-pub due-none : (c : Contract) (s : State) → dueIn c s ≡ Nothing → Each (λ p. isDue c s p ≡ false) (live s)
-unfolding dueIn isDue dueAt
-due-none c s e = first-none (dueAt c (s .clock) (s .state)) 0 (live s) (sym (first-due-of c s 0 (live s)) ∙ e)

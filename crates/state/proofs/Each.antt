@@ -6,7 +6,7 @@ use Prim.Native.Nat.{ℕ, zero, suc, _<_, _≤_}
 use native.Mathlib.Omega.{arith}
 use lib.ListN.{length, getD, take, drop, length-append, length-take, length-drop}
 use Rattle.laws.specs.Choice.{pick}
-use Rattle.state.specs.States.{keep}
+use Rattle.laws.specs.Lists.{keep}
 use Rattle.state.proofs.Kept.{without}
 
 pub data Each {A : Type 0} (P : A → Type 0) : List A → Type 0 where
@@ -46,15 +46,6 @@ each-keep {A} {P} {Q} p f (more {x} {xs} q e) = go (p x) refl (each-keep p f e)
     go : (t : Bool) → p x ≡ t → Each Q (keep p xs) → Each Q (pick t (x ∷ keep p xs) (keep p xs))
     go true r k = more (f x q r) k
     go false r k = k
-
-pub keep-length : {A : Type 0} (p : A → Bool) (l : List A) → length (keep p l) ≤ length l
-unfolding keep pick
-keep-length p [] = omega arith
-keep-length p (x ∷ xs) = go (p x) (keep-length p xs)
-  where
-    go : (t : Bool) → length (keep p xs) ≤ length xs → length (pick t (x ∷ keep p xs) (keep p xs)) ≤ suc (length xs)
-    go true h = omega arith
-    go false h = omega arith
 
 pub without-length : {A : Type 0} (i : ℕ) (l : List A) → length (without i l) ≤ length l
 without-length i l = simp (length-append, length-take, length-drop) (omega arith)

@@ -1,23 +1,17 @@
 -- A fresh state is within its ranges, whatever the contract. Assumes nothing.
-use mathlib.Core.Path.{_≡_, refl}
+use mathlib.Core.Path.{_≡_}
 use mathlib.Core.Bool.{true}
-use Prim.Native.Nat.{ℕ, zero, suc, _≤_}
+use Prim.Native.Nat.{ℕ, _≤_}
 use lib.IntN.{pos}
-use lib.ListN.{length, getD}
+use lib.ListN.{length}
 use lib.Dec.{leb·suc-zero}
 use borrow.Author.Tests.{le-leb}
 use Rattle.laws.specs.Choice.{pick}
 use Rattle.contract.specs.Limits.{top, maxFields, maxAssets}
 use Rattle.contract.specs.Tree.{Contract}
-use Rattle.state.specs.States.{maxPending, repeated, blank, freshAt, fieldOk, fieldSlotOk, assetSlotOk, isBlank, pendingSlotOk, stateOk}
-use Rattle.state.proofs.Below.{all-below}
-
--- n times the same, and the same past the end
-pub repeated-at : {A : Type 0} (n : ℕ) (x : A) (i : ℕ) → getD (repeated n x) i x ≡ x
-unfolding repeated
-repeated-at zero x i = refl
-repeated-at (suc n) x zero = refl
-repeated-at (suc n) x (suc i) = repeated-at n x i
+use Rattle.state.specs.States.{maxPending, blank, freshAt, fieldOk, fieldSlotOk, assetSlotOk, isBlank, pendingSlotOk, stateOk}
+use Rattle.laws.proofs.Members.{all-below}
+use Rattle.laws.proofs.Members.{repeated-at}
 
 module _ (clock : ℕ) (i : ℕ) where
   fields-fresh : (strings : ℕ) → fieldSlotOk strings 0 (freshAt clock) i ≡ true

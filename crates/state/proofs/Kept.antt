@@ -10,8 +10,9 @@ use lib.Seq.{length-take-le, take-nil, getD-take, take-suc, take-all, take-appen
 use lib.Dec.{ltb}
 use borrow.Author.Tests.{ltb-true, ltb-false}
 use Rattle.laws.specs.Choice.{pick}
-use Rattle.state.specs.States.{maxPending, repeated, blank, keep}
-use Rattle.state.specs.Slots.{slotsOf}
+use Rattle.state.specs.States.{maxPending, blank}
+use Rattle.laws.specs.Lists.{repeated, keep}
+use Rattle.state.specs.Private.{slotsOf}
 use Rattle.state.specs.declared.Pending.{Pending}
 use Rattle.state.specs.declared.Slots.{Slots}
 use Rattle.state.proofs.First.{in-take}

@@ -1,5 +1,4 @@
 pub mod Decoded
-pub mod Below
 pub mod Lengths
 pub mod Parts
 pub mod Rows

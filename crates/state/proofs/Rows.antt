@@ -11,9 +11,9 @@ use Rattle.laws.specs.Choice.{pick}
 use Rattle.contract.specs.Limits.{top, maxFields, maxAssets}
 use Rattle.contract.specs.Table.{wordAt, functionWord, eventWord}
 use Rattle.contract.specs.Rows.{headOf, functionRowOf, eventRowOf}
-use Rattle.contract.specs.Check.{allBelow}
+use Rattle.laws.specs.Lists.{allBelow}
 use Rattle.contract.specs.Decode.{contractOf}
-use Rattle.contract.specs.declared.Contract as head
+use Rattle.contract.specs.declared.TableHead as head
 use Rattle.contract.specs.declared.Function as function-row
 use Rattle.contract.specs.declared.Event as event-row
 use Rattle.state.specs.States.{eventOf, maxPending, fieldSlotOk, assetSlotOk, pendingOk, pendingSlotOk, stateOk}
@@ -21,9 +21,9 @@ use Rattle.state.specs.declared.State.{State}
 use Rattle.state.specs.declared.Pending.{Pending}
 use Rattle.state.proofs.Decoded.{assets-count, fields-count, states-count, strings-count, functions-count, events-count, event-unfounded, event-past, event-state-of, event-word-past}
 
-module _ (w : List ℕ) (p : Pending) (h : head.Contract) (eh : h ≡ headOf w) where
+module _ (w : List ℕ) (p : Pending) (h : head.TableHead) (eh : h ≡ headOf w) where
   functions-is : h .functions ≡ wordAt w 6
-  functions-is = ap (λ (c : head.Contract). c .functions) eh
+  functions-is = ap (λ (c : head.TableHead). c .functions) eh
 
   -- ---- of no function
   pub unfounded-ok : (clock : ℕ) → h .functions ≤ p .function → false ≡ pendingOk (contractOf w) clock p
@@ -89,7 +89,7 @@ module _ (w : List ℕ) (p : Pending) (h : head.Contract) (eh : h ≡ headOf w) 
           ∙ sym (event-state-of w p within has)
 
 -- ---- question 4 by its parts, in their order
-pub parts : (w : List ℕ) (s : State) (h : head.Contract) → h ≡ headOf w →
+pub parts : (w : List ℕ) (s : State) (h : head.TableHead) → h ≡ headOf w →
     stateOk (contractOf w) s ≡ (leb (s .clock) top
     && (pick (s .agreed) (ltb (s .state) (h .states)) (eqb (s .state) 0 && eqb (s .pending) 0)
     && (leb (s .pending) maxPending

@@ -8,21 +8,17 @@ use lib.IntN.{ℤ, pos}
 use Rattle.laws.specs.Choice.{pick}
 use Rattle.numbers.specs.Numbers.{eqZ}
 use Rattle.contract.specs.Limits.{top, maxAssets, maxFields}
-use Rattle.contract.specs.Check.{allBelow}
+use Rattle.laws.specs.Lists.{allBelow}
 use Rattle.contract.specs.Tree.{Contract, Function, Event, none, omitted, brokenExpression}
 use Rattle.state.specs.declared.State.{State}
 use Rattle.state.specs.declared.Pending.{Pending}
 use Rattle.state.specs.declared.Due.{Due}
 use Rattle.state.specs.declared.Due.the-variants.{At, Nothing}
+use Rattle.laws.specs.Lists.{repeated, keep}
 
 -- at most so many events are pending
 abbrev pub maxPending : ℕ
 maxPending = 64
-
--- n times the same
-unfoldable pub repeated : {A : Type 0} → ℕ → A → List A
-repeated zero x = []
-repeated (suc n) x = x ∷ repeated n x
 
 -- a slot for a pending event that is not in use
 abbrev pub blank : Pending
@@ -122,10 +118,6 @@ unfoldable pub dueIn : Contract → State → Due
 dueIn c s = firstDue c s 0 (live s)
 
 -- ---- the pending events change
-
-unfoldable pub keep : {A : Type 0} → (A → Bool) → List A → List A
-keep p [] = []
-keep p (x ∷ xs) = pick (p x) (x ∷ keep p xs) (keep p xs)
 
 -- the state with these pending events
 unfoldable pub withPending : State → List Pending → State

@@ -9,10 +9,10 @@ ghost use lib.Dec.{eqb, leb, ltb};
 ghost use Rattle.laws.specs.Choice.{pick};
 ghost use Rattle.numbers.specs.Numbers.{eqZ};
 ghost use Rattle.contract.specs.Limits.{top, maxFields, maxAssets};
-ghost use Rattle.contract.specs.Check.{allBelow};
+ghost use Rattle.laws.specs.Lists.{allBelow, keep};
 ghost use Rattle.contract.specs.Decode.{contractOf};
-ghost use Rattle.state.specs.States.{freshAt, eventOf, fieldOk, fieldSlotOk, assetSlotOk, maxPending, pendingOk, isBlank, pendingSlotOk, stateOk, dueIn, keep, lapsed, removed, joinedBy};
-ghost use Rattle.state.specs.Slots.{slotsOf};
+ghost use Rattle.state.specs.States.{freshAt, eventOf, fieldOk, fieldSlotOk, assetSlotOk, maxPending, pendingOk, isBlank, pendingSlotOk, stateOk, dueIn, lapsed, removed, joinedBy};
+ghost use Rattle.state.specs.Private.{slotsOf};
 use contract::Contract;
 
 // A pending event: its function, which of that function's events it is, and its time.

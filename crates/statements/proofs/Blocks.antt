@@ -16,11 +16,11 @@ use Rattle.contract.specs.Table.{kindAt, argumentAt, sizeAt}
 use Rattle.contract.specs.Rows.{nodeOf}
 use Rattle.contract.specs.declared.Node.{Node}
 use Rattle.contract.specs.Decode.{blockBetween, conditionAt}
-use Rattle.contract.proofs.Levels.{block-step}
+use Rattle.contract_laws.proofs.Levels.{block-step}
 use Rattle.evaluation.specs.Meaning.{truthOf}
 use Rattle.statements.specs.declared.Work.{Work}
 use Rattle.statements.specs.Running.{memoryIn, stopped, onward, performed, byTruth, ran, workFrom}
-use Rattle.statements.specs.Parts.{truthRefusal, endBefore, actionAt, statementAt, branched, performedAt}
+use Rattle.statements.specs.Private.{truthRefusal, endBefore, actionAt, statementAt, branched, performedAt}
 
 -- the block before the statement at node k ends there or before
 pub before-falls : (w : List ℕ) (k : ℕ) → endBefore w k ≤ k

@@ -15,7 +15,7 @@ use Rattle.contract.specs.Decode.{holderOf}
 use Rattle.statements.specs.declared.Work.{Work}
 use Rattle.evaluation.specs.Memory.{placeOf}
 use Rattle.statements.specs.Running.{place, stopped, withHoldings, moved}
-use Rattle.statements.specs.Parts.{takenFrom, takenRefusal}
+use Rattle.statements.specs.Private.{takenFrom, takenRefusal}
 
 module _ (kind n : ℕ) where
   pub place-far : 20 ≤ n → 20 ≡ place (holderOf kind n)

@@ -15,7 +15,7 @@ use Rattle.contract.specs.Limits.{top}
 use Rattle.statements.specs.declared.Label.{Label}
 use Rattle.statements.specs.declared.Work.{Work}
 use Rattle.statements.specs.Running.{stopped, stored, withHoldings, labelled, sent, moved, paid, withAmount, workFrom}
-use Rattle.statements.specs.Parts.{sortOf, numberOf, textOf, amountOf, labelsWith, countWith, takenFrom, takenRefusal, onlyHoldings}
+use Rattle.statements.specs.Private.{sortOf, numberOf, textOf, amountOf, labelsWith, countWith, takenFrom, takenRefusal, onlyHoldings}
 
 module _ (ks : List ℕ) (ns : List ℤ) (ts hs : List ℕ) (ls : List Label) (c : ℕ) where
   -- a label

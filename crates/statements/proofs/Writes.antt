@@ -10,7 +10,7 @@ use Rattle.laws.proofs.Choice.{pick-true, pick-false}
 use Rattle.numbers.specs.declared.Value.{Value}
 use Rattle.statements.specs.declared.Label.{Label}
 use Rattle.statements.specs.Running.{labelsFrom}
-use Rattle.statements.specs.Parts.{sortOf, amountOf, labelsWith, countWith}
+use Rattle.statements.specs.Private.{sortOf, amountOf, labelsWith, countWith}
 
 -- a store to each of the three lists is a store of a label
 pub labels-set : (ks ps : List ℕ) (vs : List ℤ) (i k p : ℕ) (v : ℤ)

@@ -1,6 +1,6 @@
 -- Statements at work: memory, the labels sent so far, and the refusal met, if any.
-use Prim.Native.Nat.{ℕ, zero, suc, _+_, _-_, min}
-use mathlib.Core.Bool.{Bool, true, false}
+use Prim.Native.Nat.{ℕ, suc, _+_, _-_, min}
+use mathlib.Core.Bool.{true, false}
 use mathlib.Core.List.{List, [], _∷_}
 use lib.ListN.{getD, set}
 use lib.Dec.{eqb, leb, ltb}
@@ -13,7 +13,7 @@ use Rattle.numbers.specs.declared.Answer.the-variants as answer
 use Rattle.numbers.specs.declared.Truth.{Truth}
 use Rattle.numbers.specs.declared.Truth.the-variants as truth
 use Rattle.contract.specs.Limits.{top}
-use Rattle.contract.specs.Tree.{Holder, Expression, held, Condition, Action, assign, send, move, pay, moveAll, payAll, Block, none, perform, conditional, brokenBlock}
+use Rattle.contract.specs.Tree.{Holder, held, Action, assign, send, move, pay, moveAll, payAll, Block, none, perform, conditional, brokenBlock}
 use Rattle.evaluation.specs.Memory.{Memory, memoryOf, placeOf}
 use Rattle.evaluation.specs.Meaning.{valueOf, truthOf}
 use Rattle.statements.specs.declared.Label.{Label}
@@ -161,3 +161,8 @@ labelsFrom (k ∷ ks) (p ∷ ps) (v ∷ vs) = record { kind = k; party = p; valu
 abbrev pub workFrom : List ℕ → List ℤ → List ℕ → List ℕ → List Label → ℕ → ℕ → Work
 workFrom kinds numbers texts holdings labels count refusal =
     record { kinds = kinds; numbers = numbers; texts = texts; holdings = holdings; labels = labels; count = count; refusal = refusal }
+
+-- the same, the labels standing in three lists
+abbrev pub workIn : List ℕ → List ℤ → List ℕ → List ℕ → List ℕ → List ℕ → List ℤ → ℕ → ℕ → Work
+workIn kinds numbers texts holdings sorts receivers amounts count refusal =
+    workFrom kinds numbers texts holdings (labelsFrom sorts receivers amounts) count refusal

@@ -1,13 +1,14 @@
 // Runs the statements of a block, which stand in a table with their parts before them.
 ghost use mathlib.Core.Path.{_≡_};
-ghost use mathlib.Core.List.{[]};
-ghost use Prim.Native.Nat.{_-_};
+ghost use mathlib.Core.List.{List, []};
+ghost use Prim.Native.Nat.{ℕ, _-_};
 ghost use lib.ListN.{getD, set};
+ghost use lib.IntN.{ℤ};
 ghost use Rattle.contract.specs.Table.{sizeAt};
 ghost use Rattle.contract.specs.Decode.{holderOf, blockBetween};
 ghost use Rattle.evaluation.specs.Memory.{memoryOf, placeOf};
-ghost use Rattle.statements.specs.Running.{place, moved, paid, withAmount, performed, ran, labelsFrom, workFrom};
-ghost use Rattle.statements.specs.Parts.{truthRefusal, endBefore, actionAt, sortOf, numberOf, textOf, amountOf, labelsWith, countWith, takenFrom, takenRefusal, onlyHoldings, applied, valueEffect, amountEffect, amountAnswer, effectAt, statementAt, branched, performedAt};
+ghost use Rattle.statements.specs.Running.{place, moved, paid, withAmount, performed, ran, labelsFrom, workIn};
+ghost use Rattle.statements.specs.Private.{truthRefusal, endBefore, actionAt, sortOf, numberOf, textOf, amountOf, labelsWith, countWith, takenFrom, takenRefusal, onlyHoldings, valueGiven, amountGiven, answerAt, statementAt, branched, performedAt};
 use contract::Node;
 use numbers::Answer;
 use numbers::Truth;
@@ -45,16 +46,6 @@ pub struct Work {
 pub struct Ran {
     pub count: usize,
     pub refusal: u8,
-}
-
-// What a statement does: a refusal; a field gets a value; a value is sent to a party; a value goes as an amount from a place to a
-// place, or to a party.
-enum Effect {
-    Stop(u8),
-    Fill(usize, Value),
-    Send(usize, Value),
-    Move(usize, usize, Value),
-    Pay(usize, usize, Value),
 }
 
 // The greatest amount.
@@ -290,7 +281,10 @@ fn pay_value(
     party: usize,
     value: Value,
 ) -> Ran
-    ensures { λ r. ⌜ workFrom [] [] [] (now (holdings .exit)) (labelsFrom (now (sorts .exit)) (now (receivers .exit)) (now (amounts .exit))) (r .count) (r .refusal) ≡ withAmount (workFrom [] [] [] (now (holdings .entry)) (labelsFrom (now (sorts .entry)) (now (receivers .entry)) (now (amounts .entry))) count 0) (Answer.Is value) (paid (workFrom [] [] [] (now (holdings .entry)) (labelsFrom (now (sorts .entry)) (now (receivers .entry)) (now (amounts .entry))) count 0) i party) ⌝ }
+    ensures { λ r.
+        ⌜ workIn [] [] [] (now (holdings .exit)) (now (sorts .exit)) (now (receivers .exit)) (now (amounts .exit)) (r .count) (r .refusal)
+        ≡ withAmount (workIn [] [] [] (now (holdings .entry)) (now (sorts .entry)) (now (receivers .entry)) (now (amounts .entry)) count 0) (Answer.Is value)
+        (paid (workIn [] [] [] (now (holdings .entry)) (now (sorts .entry)) (now (receivers .entry)) (now (amounts .entry)) count 0) i party) ⌝ }
 {
     let Value::Integer(z) = value else {
         return Ran {
@@ -312,81 +306,80 @@ fn pay_value(
     Ran { count, refusal: 0 }
 }
 
-// An effect.
-fn apply(
+// E -> t at node k, with the answer of E: a party is sent the value, or a field gets it.
+fn give_value(
+    table: &[u64],
     kinds: &mut [u8; 32],
     numbers: &mut [i64; 32],
     texts: &mut [u8; 32],
+    sorts: &mut [u8; 64],
+    receivers: &mut [usize; 64],
+    amounts: &mut [i64; 64],
+    count: usize,
+    k: usize,
+    answer: Answer,
+) -> Ran
+    ensures { λ r.
+        ⌜ ((hs : List ℕ)
+        → workIn (now (kinds .exit)) (now (numbers .exit)) (now (texts .exit)) hs (now (sorts .exit)) (now (receivers .exit)) (now (amounts .exit)) (r .count) (r .refusal)
+        ≡ valueGiven
+        (workIn (now (kinds .entry)) (now (numbers .entry)) (now (texts .entry)) hs (now (sorts .entry)) (now (receivers .entry)) (now (amounts .entry)) count 0)
+        (now (table .entry)) k answer) ⌝ }
+{
+    let Answer::Is(value) = answer else {
+        return Ran {
+            count,
+            refusal: evaluation::refusal(answer),
+        };
+    };
+    let target = contract::node_at(table, minus(k, 1));
+    let i = target.argument as usize;
+    if target.kind == Node::PARTY {
+        let count = send(sorts, receivers, amounts, count, i, value);
+        return Ran { count, refusal: 0 };
+    }
+    store(kinds, numbers, texts, i, value);
+    Ran { count, refusal: 0 }
+}
+
+// A move at node k, with the answer of its amount: it goes where the two nodes before node k say.
+fn give_amount(
+    table: &[u64],
     holdings: &mut [u64; 20],
     sorts: &mut [u8; 64],
     receivers: &mut [usize; 64],
     amounts: &mut [i64; 64],
     count: usize,
-    effect: Effect,
+    k: usize,
+    answer: Answer,
 ) -> Ran
-    ensures { λ r. ⌜ workFrom (now (kinds .exit)) (now (numbers .exit)) (now (texts .exit)) (now (holdings .exit)) (labelsFrom (now (sorts .exit)) (now (receivers .exit)) (now (amounts .exit))) (r .count) (r .refusal) ≡ applied (workFrom (now (kinds .entry)) (now (numbers .entry)) (now (texts .entry)) (now (holdings .entry)) (labelsFrom (now (sorts .entry)) (now (receivers .entry)) (now (amounts .entry))) count 0) effect ⌝ }
+    ensures { λ r.
+        ⌜ ((ks : List ℕ) (ns : List ℤ) (ts : List ℕ)
+        → workIn ks ns ts (now (holdings .exit)) (now (sorts .exit)) (now (receivers .exit)) (now (amounts .exit)) (r .count) (r .refusal)
+        ≡ amountGiven
+        (workIn ks ns ts (now (holdings .entry)) (now (sorts .entry)) (now (receivers .entry)) (now (amounts .entry)) count 0)
+        (now (table .entry)) k answer) ⌝ }
 {
-    match effect {
-        Effect::Stop(refusal) => Ran { count, refusal },
-        Effect::Fill(x, value) => {
-            store(kinds, numbers, texts, x, value);
-            Ran { count, refusal: 0 }
-        }
-        Effect::Send(party, value) => {
-            let count = send(sorts, receivers, amounts, count, party, value);
-            Ran { count, refusal: 0 }
-        }
-        Effect::Move(i, j, value) => {
-            let refusal = move_value(holdings, i, j, value);
-            Ran { count, refusal }
-        }
-        Effect::Pay(i, party, value) => pay_value(
-            holdings,
-            sorts,
-            receivers,
-            amounts,
+    let Answer::Is(value) = answer else {
+        return Ran {
             count,
-            i,
-            party,
-            value,
-        ),
-    }
-}
-
-// E -> t at node k, with the answer of E.
-fn value_effect(table: &[u64], k: usize, answer: Answer) -> Effect
-    ensures { λ r. ⌜ r ≡ valueEffect (now (table .entry)) k answer ⌝ }
-{
-    let Answer::Is(value) = answer else {
-        return Effect::Stop(evaluation::refusal(answer));
-    };
-    let target = contract::node_at(table, minus(k, 1));
-    let i = target.argument as usize;
-    if target.kind == Node::PARTY {
-        return Effect::Send(i, value);
-    }
-    Effect::Fill(i, value)
-}
-
-// A move at node k, with the answer of its amount: it goes where the two nodes before node k say.
-fn amount_effect(table: &[u64], k: usize, answer: Answer) -> Effect
-    ensures { λ r. ⌜ r ≡ amountEffect (now (table .entry)) k answer ⌝ }
-{
-    let Answer::Is(value) = answer else {
-        return Effect::Stop(evaluation::refusal(answer));
+            refusal: evaluation::refusal(answer),
+        };
     };
     let source = contract::node_at(table, minus(k, 2));
     let target = contract::node_at(table, minus(k, 1));
     let i = place_of(source.kind, source.argument);
     if target.kind == Node::PARTY {
-        return Effect::Pay(i, target.argument as usize, value);
+        let party = target.argument as usize;
+        return pay_value(holdings, sorts, receivers, amounts, count, i, party, value);
     }
     let j = place_of(target.kind, target.argument);
-    Effect::Move(i, j, value)
+    let refusal = move_value(holdings, i, j, value);
+    Ran { count, refusal }
 }
 
-// The amount of the move at node k, whose kind is given: what its expression gives, or all that its source holds.
-fn moved_amount(
+// What the statement at node k, of a kind that is no conditional's, hands on: what its expression gives, or all that its source holds.
+fn answer_of(
     table: &[u64],
     kinds: &[u8; 32],
     numbers: &[i64; 32],
@@ -397,63 +390,18 @@ fn moved_amount(
     k: usize,
     kind: u64,
 ) -> Answer
-    ensures { λ r. ⌜ r ≡ amountAnswer (memoryOf (now (kinds .entry)) (now (numbers .entry)) (now (texts .entry)) (now (holdings .entry)) (now (values .entry)) clock) (now (table .entry)) k kind ⌝ }
+    ensures { λ r. ⌜ r ≡ answerAt (memoryOf (now (kinds .entry)) (now (numbers .entry)) (now (texts .entry)) (now (holdings .entry)) (now (values .entry)) clock) (now (table .entry)) k kind ⌝ }
 {
+    if kind == Node::VALUE_MOVE {
+        let e = minus(k, 2);
+        return evaluation::value(table, kinds, numbers, texts, holdings, values, clock, e);
+    }
     if kind == Node::ASSET_MOVE {
-        return evaluation::value(
-            table,
-            kinds,
-            numbers,
-            texts,
-            holdings,
-            values,
-            clock,
-            minus(k, 3),
-        );
+        let e = minus(k, 3);
+        return evaluation::value(table, kinds, numbers, texts, holdings, values, clock, e);
     }
     let source = contract::node_at(table, minus(k, 2));
     numbers::natural(held_amount(holdings, source.kind, source.argument))
-}
-
-// The effect of the statement at node k, not a conditional.
-fn effect_of(
-    table: &[u64],
-    kinds: &[u8; 32],
-    numbers: &[i64; 32],
-    texts: &[u8; 32],
-    holdings: &[u64; 20],
-    values: &[i64],
-    clock: u64,
-    k: usize,
-) -> Effect
-    ensures { λ r. ⌜ r ≡ effectAt (memoryOf (now (kinds .entry)) (now (numbers .entry)) (now (texts .entry)) (now (holdings .entry)) (now (values .entry)) clock) (now (table .entry)) k ⌝ }
-{
-    let node = contract::node_at(table, k);
-    if node.kind == Node::VALUE_MOVE {
-        let answer = evaluation::value(
-            table,
-            kinds,
-            numbers,
-            texts,
-            holdings,
-            values,
-            clock,
-            minus(k, 2),
-        );
-        return value_effect(table, k, answer);
-    }
-    let answer = moved_amount(
-        table,
-        kinds,
-        numbers,
-        texts,
-        holdings,
-        values,
-        clock,
-        k,
-        node.kind,
-    );
-    amount_effect(table, k, answer)
 }
 
 // The statement at node k, not a conditional.
@@ -471,20 +419,38 @@ fn act(
     clock: u64,
     k: usize,
 ) -> Ran
-    ensures { λ r. ⌜ workFrom (now (kinds .exit)) (now (numbers .exit)) (now (texts .exit)) (now (holdings .exit)) (labelsFrom (now (sorts .exit)) (now (receivers .exit)) (now (amounts .exit))) (r .count) (r .refusal) ≡ performed (now (values .entry)) clock (workFrom (now (kinds .entry)) (now (numbers .entry)) (now (texts .entry)) (now (holdings .entry)) (labelsFrom (now (sorts .entry)) (now (receivers .entry)) (now (amounts .entry))) count 0) (actionAt (now (table .entry)) k) ⌝ }
+    ensures { λ r.
+        ⌜ workIn (now (kinds .exit)) (now (numbers .exit)) (now (texts .exit)) (now (holdings .exit)) (now (sorts .exit)) (now (receivers .exit)) (now (amounts .exit)) (r .count) (r .refusal)
+        ≡ performed (now (values .entry)) clock
+        (workIn (now (kinds .entry)) (now (numbers .entry)) (now (texts .entry)) (now (holdings .entry)) (now (sorts .entry)) (now (receivers .entry)) (now (amounts .entry)) count 0) (actionAt (now (table .entry)) k) ⌝ }
 {
-    let effect = effect_of(table, kinds, numbers, texts, holdings, values, clock, k);
-    apply(
+    let kind = contract::node_at(table, k).kind;
+    let answer = answer_of(
+        table,
         kinds,
         numbers,
         texts,
         holdings,
-        sorts,
-        receivers,
-        amounts,
-        count,
-        effect,
-    )
+        values,
+        clock,
+        k,
+        kind,
+    );
+    if kind == Node::VALUE_MOVE {
+        return give_value(
+            table,
+            kinds,
+            numbers,
+            texts,
+            sorts,
+            receivers,
+            amounts,
+            count,
+            k,
+            answer,
+        );
+    }
+    give_amount(table, holdings, sorts, receivers, amounts, count, k, answer)
 }
 
 // The size of node k.
@@ -551,7 +517,10 @@ fn branch(
     first: usize,
     k: usize,
 ) -> Ran
-    ensures { λ r. ⌜ workFrom (now (kinds .exit)) (now (numbers .exit)) (now (texts .exit)) (now (holdings .exit)) (labelsFrom (now (sorts .exit)) (now (receivers .exit)) (now (amounts .exit))) (r .count) (r .refusal) ≡ branched (now (values .entry)) clock (workFrom (now (kinds .entry)) (now (numbers .entry)) (now (texts .entry)) (now (holdings .entry)) (labelsFrom (now (sorts .entry)) (now (receivers .entry)) (now (amounts .entry))) count 0) (now (table .entry)) first k ⌝ }
+    ensures { λ r.
+        ⌜ workIn (now (kinds .exit)) (now (numbers .exit)) (now (texts .exit)) (now (holdings .exit)) (now (sorts .exit)) (now (receivers .exit)) (now (amounts .exit)) (r .count) (r .refusal)
+        ≡ branched (now (values .entry)) clock
+        (workIn (now (kinds .entry)) (now (numbers .entry)) (now (texts .entry)) (now (holdings .entry)) (now (sorts .entry)) (now (receivers .entry)) (now (amounts .entry)) count 0) (now (table .entry)) first k ⌝ }
 {
     let answer = evaluation::truth(
         table,
@@ -604,7 +573,10 @@ fn perform_one(
     clock: u64,
     k: usize,
 ) -> Ran
-    ensures { λ r. ⌜ workFrom (now (kinds .exit)) (now (numbers .exit)) (now (texts .exit)) (now (holdings .exit)) (labelsFrom (now (sorts .exit)) (now (receivers .exit)) (now (amounts .exit))) (r .count) (r .refusal) ≡ performedAt (now (values .entry)) clock (workFrom (now (kinds .entry)) (now (numbers .entry)) (now (texts .entry)) (now (holdings .entry)) (labelsFrom (now (sorts .entry)) (now (receivers .entry)) (now (amounts .entry))) count 0) (now (table .entry)) k ⌝ }
+    ensures { λ r.
+        ⌜ workIn (now (kinds .exit)) (now (numbers .exit)) (now (texts .exit)) (now (holdings .exit)) (now (sorts .exit)) (now (receivers .exit)) (now (amounts .exit)) (r .count) (r .refusal)
+        ≡ performedAt (now (values .entry)) clock
+        (workIn (now (kinds .entry)) (now (numbers .entry)) (now (texts .entry)) (now (holdings .entry)) (now (sorts .entry)) (now (receivers .entry)) (now (amounts .entry)) count 0) (now (table .entry)) k ⌝ }
 {
     let node = contract::node_at(table, k);
     if node.kind != Node::CONDITIONAL {
@@ -658,7 +630,10 @@ pub fn run(
     from: usize,
     end: usize,
 ) -> Ran
-    ensures { λ r. ⌜ workFrom (now (kinds .exit)) (now (numbers .exit)) (now (texts .exit)) (now (holdings .exit)) (labelsFrom (now (sorts .exit)) (now (receivers .exit)) (now (amounts .exit))) (r .count) (r .refusal) ≡ ran (now (values .entry)) clock (workFrom (now (kinds .entry)) (now (numbers .entry)) (now (texts .entry)) (now (holdings .entry)) (labelsFrom (now (sorts .entry)) (now (receivers .entry)) (now (amounts .entry))) count 0) (blockBetween (now (table .entry)) from end) ⌝ }
+    ensures { λ r.
+        ⌜ workIn (now (kinds .exit)) (now (numbers .exit)) (now (texts .exit)) (now (holdings .exit)) (now (sorts .exit)) (now (receivers .exit)) (now (amounts .exit)) (r .count) (r .refusal)
+        ≡ ran (now (values .entry)) clock
+        (workIn (now (kinds .entry)) (now (numbers .entry)) (now (texts .entry)) (now (holdings .entry)) (now (sorts .entry)) (now (receivers .entry)) (now (amounts .entry)) count 0) (blockBetween (now (table .entry)) from end) ⌝ }
 {
     if end <= from {
         return Ran { count, refusal: 0 };

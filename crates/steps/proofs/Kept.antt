@@ -8,7 +8,7 @@ use borrow.Author.Tests.{lt-ltb}
 use lib.Dec.{ltb}
 use lib.ListN.{length, take, drop}
 use Rattle.statements.specs.declared.Label.{Label}
-use Rattle.machine.specs.declared.Stepped.{Stepped}
+use Rattle.outcomes.specs.declared.Stepped.{Stepped}
 use Rattle.steps.specs.Left.{countOf, copiedOf, slotsOf}
 
 none-written : (old from : List Label) (c : ℕ) → c ≡ 0 → take c from ++ drop c old ≡ old

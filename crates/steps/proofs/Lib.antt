@@ -1,3 +1,4 @@
 pub mod Pasted
 pub mod Fields
 pub mod Kept
+pub mod Handed

@@ -1,12 +1,10 @@
 // The machine's steps with the labels in a lent slice of entries: first to last, and entries after them keep what they held.
 ghost use mathlib.Core.Path.{_≡_};
-ghost use Prim.Native.Nat.{_/_};
 ghost use lib.ListN.{length};
-ghost use Rattle.machine.specs.Agreement.{partsIn, agreedOn};
-ghost use Rattle.machine.specs.Steps.{step, called, fired, ticked};
-ghost use Rattle.steps.specs.Left.{countOf, copiedOf, outOf, leftOf, slotsOf};
-use machine::Outcome;
-use machine::Stepped;
+ghost use Rattle.machine.specs.Steps.{step, fired, ticked};
+ghost use Rattle.steps.specs.Left.{countOf, copiedOf, outOf, leftOf, slotsOf, agreeOf, callOf};
+use outcomes::Outcome;
+use outcomes::Stepped;
 use state::State;
 use statements::Label;
 
@@ -78,7 +76,7 @@ fn agree_out(
     values: &[i64],
     room: usize,
 ) -> Out
-    ensures { λ r. ⌜ r ≡ outOf (step (now (table .entry)) room s (λ c. agreedOn c s (partsIn (now (line .entry)) (length (now (parts .entry)) / 4) (now (parts .entry)) (now (spans .entry)) (now (values .entry))))) ⌝ }
+    ensures { λ r. ⌜ r ≡ outOf (agreeOf (now (table .entry)) room s (now (line .entry)) (now (parts .entry)) (now (spans .entry)) (now (values .entry))) ⌝ }
 {
     part(machine::agree(table, s, room, line, parts, spans, values))
 }
@@ -92,7 +90,7 @@ fn call_out(
     assets: &[i64],
     room: usize,
 ) -> Out
-    ensures { λ r. ⌜ r ≡ outOf (step (now (table .entry)) room s (λ c. called c s (record { caller = now (caller .entry); function = now (function .entry); values = now (values .entry); assets = now (assets .entry) }))) ⌝ }
+    ensures { λ r. ⌜ r ≡ outOf (callOf (now (table .entry)) room s (now (caller .entry)) (now (function .entry)) (now (values .entry)) (now (assets .entry))) ⌝ }
 {
     part(machine::call(table, s, room, caller, function, values, assets))
 }
@@ -119,7 +117,7 @@ pub fn agree(
     values: &[i64],
     labels: &mut [Label],
 ) -> Left
-    ensures { λ r. ⌜ (r ≡ leftOf (step (now (table .entry)) (length (now (labels .entry))) s (λ c. agreedOn c s (partsIn (now (line .entry)) (length (now (parts .entry)) / 4) (now (parts .entry)) (now (spans .entry)) (now (values .entry)))))) × (now (labels .exit) ≡ slotsOf (now (labels .entry)) (step (now (table .entry)) (length (now (labels .entry))) s (λ c. agreedOn c s (partsIn (now (line .entry)) (length (now (parts .entry)) / 4) (now (parts .entry)) (now (spans .entry)) (now (values .entry)))))) ⌝ }
+    ensures { λ r. ⌜ (r ≡ leftOf (agreeOf (now (table .entry)) (length (now (labels .entry))) s (now (line .entry)) (now (parts .entry)) (now (spans .entry)) (now (values .entry)))) × (now (labels .exit) ≡ slotsOf (now (labels .entry)) (agreeOf (now (table .entry)) (length (now (labels .entry))) s (now (line .entry)) (now (parts .entry)) (now (spans .entry)) (now (values .entry)))) ⌝ }
 {
     let out = agree_out(table, s, line, parts, spans, values, labels.len());
     let from = out.labels;
@@ -138,7 +136,7 @@ pub fn call(
     assets: &[i64],
     labels: &mut [Label],
 ) -> Left
-    ensures { λ r. ⌜ (r ≡ leftOf (step (now (table .entry)) (length (now (labels .entry))) s (λ c. called c s (record { caller = now (caller .entry); function = now (function .entry); values = now (values .entry); assets = now (assets .entry) })))) × (now (labels .exit) ≡ slotsOf (now (labels .entry)) (step (now (table .entry)) (length (now (labels .entry))) s (λ c. called c s (record { caller = now (caller .entry); function = now (function .entry); values = now (values .entry); assets = now (assets .entry) })))) ⌝ }
+    ensures { λ r. ⌜ (r ≡ leftOf (callOf (now (table .entry)) (length (now (labels .entry))) s (now (caller .entry)) (now (function .entry)) (now (values .entry)) (now (assets .entry)))) × (now (labels .exit) ≡ slotsOf (now (labels .entry)) (callOf (now (table .entry)) (length (now (labels .entry))) s (now (caller .entry)) (now (function .entry)) (now (values .entry)) (now (assets .entry)))) ⌝ }
 {
     let out = call_out(table, s, caller, function, values, assets, labels.len());
     let from = out.labels;

@@ -12,6 +12,8 @@ use Rattle.laws.specs.Bytes.{startsWith}
 use Rattle.laws.proofs.Choice.{pick-true, pick-false, true-false}
 use Rattle.laws.proofs.Lists.{cons-at, next-at}
 use Rattle.tokens.specs.Classes.{within, isLetter, isDigit, isPrintable, isBlank, isText, run, decimal, gap}
+use Rattle.tokens.specs.Tokens.{digitsAt}
+use Rattle.tokens.specs.declared.Digits.{Digits}
 
 -- a letter, a digit and a quote are text
 within-true : (b lo hi : ℕ) → within b lo hi ≡ true → (lo ≤ b) × (b ≤ hi)
@@ -157,3 +159,7 @@ decimal-min m a b (x ∷ xs) e = go (decimal-min m (a * 10 + (x - 48)) (b * 10 +
     go : min (decimal (a * 10 + (x - 48)) xs) m ≡ min (decimal (b * 10 + (x - 48)) xs) m → (t : Bool) → min (pick t (decimal (a * 10 + (x - 48)) xs) a) m ≡ min (pick t (decimal (b * 10 + (x - 48)) xs) b) m
     go r true = r
     go r false = e
+
+pub digits-are : (s : List ℕ) (at e v : ℕ) → e ≡ at + run isDigit (drop at s) → v ≡ min (decimal 0 (drop at s)) 9223372036854775809
+    → record { end = e; value = v } ≡ digitsAt s at
+digits-are s at e v p q = λ i. record { end = p i; value = q i }

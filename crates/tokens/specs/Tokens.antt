@@ -1,5 +1,5 @@
 -- The token at a place of a text, or the question that refuses it.
-use Prim.Native.Nat.{ℕ, _+_, _-_}
+use Prim.Native.Nat.{ℕ, _+_, _-_, min}
 use Prim.Native.Char.{code}
 use mathlib.Core.List.{List, [], _∷_}
 use mathlib.Core.Bool.{Bool, true, false, not}
@@ -7,9 +7,11 @@ use lib.ListN.{length, getD, take, drop}
 use lib.Dec.{ltb, leb, eqb}
 use Rattle.laws.specs.Choice.{pick}
 use Rattle.laws.specs.Bytes.{sameBytes, startsWith}
-use Rattle.words.specs.Words.{spelled, legalContract, assets, fields, agreement, nowWord, trueWord, falseWord, setArrow, okArrow, mapsTo, valueArrow, assetArrow, stateArrow, eventMark, equal, unequal, atMost, atLeast, andMark, orMark, openParen, closeParen, openBrace, closeBrace, openBracket, closeBracket, comma, colon, atSign, underscore, plusMark, minusMark, timesMark, overMark, less, greater, notMark}
+use Rattle.words.specs.Words.{spelled, legalContract, assets, fields, agreement, nowWord, trueWord, falseWord}
+use Rattle.words.specs.Words.{setArrow, okArrow, mapsTo, valueArrow, assetArrow, stateArrow, eventMark, equal, unequal, atMost, atLeast, andMark, orMark, openParen, closeParen, openBrace, closeBrace, openBracket, closeBracket, comma, colon, atSign, underscore, plusMark, minusMark, timesMark, overMark, less, greater, notMark}
 use Rattle.tokens.specs.Classes.{isLetter, isDigit, isNameByte, isText, isStringByte, run, decimal, gap}
 use Rattle.tokens.specs.declared.Token.{Token}
+use Rattle.tokens.specs.declared.Digits.{Digits}
 use Rattle.tokens.specs.declared.Lexed.{Lexed}
 use Rattle.tokens.specs.declared.Lexed.the-variants.{Found, Refused, End}
 
@@ -52,6 +54,10 @@ nameAt s i =
     pick (leb (run isNameByte (drop i s)) 32)
     (token (kindAmong reserved (take (run isNameByte (drop i s)) (drop i s))) i (i + run isNameByte (drop i s)) 0)
     (Refused 7 i)
+
+-- the digits at a place: where they end, and their value; of what is greater than 2 ^ 63 only that it is
+abbrev pub digitsAt : List ℕ → ℕ → Digits
+digitsAt s at = record { end = at + run isDigit (drop at s); value = min (decimal 0 (drop at s)) 9223372036854775809 }
 
 -- question 8
 unfoldable pub numberAt : List ℕ → ℕ → Lexed

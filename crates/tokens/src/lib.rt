@@ -7,8 +7,8 @@ ghost use lib.Dec.{eqb};
 ghost use Rattle.laws.specs.Choice.{pick};
 ghost use Rattle.laws.specs.Bytes.{sameBytes};
 ghost use Rattle.words.specs.Words.{spelled};
-ghost use Rattle.tokens.specs.Classes.{within, isLetter, isDigit, isNameByte, isPrintable, isBlank, isText, isStringByte, run, decimal, gap};
-ghost use Rattle.tokens.specs.Tokens.{token, tokenAt, partOf, between, nameAt, numberAt, stringAt, markAt, marks, startAt, kindAmong, reserved};
+ghost use Rattle.tokens.specs.Classes.{within, isLetter, isDigit, isNameByte, isPrintable, isBlank, isText, isStringByte, run, gap};
+ghost use Rattle.tokens.specs.Tokens.{token, digitsAt, tokenAt, partOf, between, nameAt, numberAt, stringAt, markAt, marks, startAt, kindAmong, reserved};
 
 pub struct Token {
     pub start: usize,
@@ -47,7 +47,7 @@ fn within(b: u8, lo: u8, hi: u8) -> bool
     if lo <= b { b <= hi } else { false }
 }
 
-fn is_letter(b: u8) -> bool
+pub fn is_letter(b: u8) -> bool
     ensures { λ r. ⌜ r ≡ isLetter b ⌝ }
 {
     if within(b, b'a', b'z') {
@@ -57,7 +57,7 @@ fn is_letter(b: u8) -> bool
     }
 }
 
-fn is_digit(b: u8) -> bool
+pub fn is_digit(b: u8) -> bool
     ensures { λ r. ⌜ r ≡ isDigit b ⌝ }
 {
     within(b, b'0', b'9')
@@ -109,7 +109,7 @@ fn is_string_byte(b: u8) -> bool
 }
 
 // The byte at i, and 0 past the end.
-fn byte_at(text: &[u8], i: usize) -> u8
+pub fn byte_at(text: &[u8], i: usize) -> u8
     ensures { λ r. ⌜ r ≡ getD (now (text .entry)) i 0 ⌝ }
 {
     if i < text.len() { text[i] } else { 0 }
@@ -135,7 +135,7 @@ fn comment_end(text: &[u8], at: usize) -> usize
 }
 
 // The end of the name bytes that start at `at`.
-fn name_end(text: &[u8], at: usize) -> usize
+pub fn name_end(text: &[u8], at: usize) -> usize
     ensures { λ r. ⌜ r ≡ at + run isNameByte (drop at (now (text .entry))) ⌝ }
 {
     let mut i = at;
@@ -164,15 +164,17 @@ fn string_end(text: &[u8], at: usize) -> usize
     i
 }
 
-// The number after the greatest, and a tenth of the greatest.
-const ABOVE_TOP: u64 = 9223372036854775808;
+// 2 ^ 63, a number past it, and a tenth of it.
+const LIMIT: u64 = 9223372036854775808;
 
-const TENTH_OF_TOP: u64 = 922337203685477580;
+const ABOVE_LIMIT: u64 = 9223372036854775809;
 
-// A number's end, and its value or ABOVE_TOP where it is greater than TOP.
-struct Digits {
-    end: usize,
-    value: u64,
+const TENTH_OF_LIMIT: u64 = 922337203685477580;
+
+// The end of digits, and their value; where that is greater than 2 ^ 63, the number after it.
+pub struct Digits {
+    pub end: usize,
+    pub value: u64,
 }
 
 fn digit_value(b: u8) -> u64
@@ -181,21 +183,20 @@ fn digit_value(b: u8) -> u64
     if b'0' <= b { (b as u64) - 48 } else { 0 }
 }
 
-// v followed by one more digit, or ABOVE_TOP where that is greater than TOP.
+// v followed by one more digit, or ABOVE_LIMIT where that is greater than LIMIT.
 fn push(v: u64, digit: u8) -> u64
-    ensures { λ r. ⌜ r ≡ min (v * 10 + (digit - 48)) 9223372036854775808 ⌝ }
+    ensures { λ r. ⌜ r ≡ min (v * 10 + (digit - 48)) 9223372036854775809 ⌝ }
 {
-    if TENTH_OF_TOP < v {
-        return ABOVE_TOP;
+    if TENTH_OF_LIMIT < v {
+        return ABOVE_LIMIT;
     }
     let w = v * 10 + digit_value(digit);
-    if Token::TOP < w { ABOVE_TOP } else { w }
+    if LIMIT < w { ABOVE_LIMIT } else { w }
 }
 
 // The digits that start at `at`, gone over once.
-fn read_digits(text: &[u8], at: usize) -> Digits
-    ensures end { λ r. ⌜ r .end ≡ at + run isDigit (drop at (now (text .entry))) ⌝ }
-    ensures value { λ r. ⌜ r .value ≡ min (decimal 0 (drop at (now (text .entry)))) 9223372036854775808 ⌝ }
+pub fn read_digits(text: &[u8], at: usize) -> Digits
+    ensures { λ r. ⌜ r ≡ digitsAt (now (text .entry)) at ⌝ }
 {
     let mut i = at;
     let mut v: u64 = 0;
@@ -211,9 +212,9 @@ fn read_digits(text: &[u8], at: usize) -> Digits
     Digits { end: i, value: v }
 }
 
-// The value of the digits at a place, or ABOVE_TOP where it is greater than TOP.
+// The value of the digits at a place; where that is greater than 2 ^ 63, the number after it.
 pub fn value_of(text: &[u8], at: usize) -> u64
-    ensures { λ r. ⌜ r ≡ min (decimal 0 (drop at (now (text .entry)))) 9223372036854775808 ⌝ }
+    ensures { λ r. ⌜ r ≡ digitsAt (now (text .entry)) at .value ⌝ }
 {
     let d = read_digits(text, at);
     d.value

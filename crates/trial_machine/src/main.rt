@@ -12,18 +12,21 @@
 //   c ROOM PARTY FUNCTION V V .. /A A ..                 call, with values and assets
 //   e ROOM               firing
 //   t ROOM               tick
+//   p NAME               question 3: print the name and whether the table passes
 //   # ..                 print the line
 // A step prints its line and what came of it, the state's number or -, clock, number of pending events | assets | fields (_ nothing,
 // "N string N, ? else), and a line a label: kind, party, value. Other lines are left out; those with a semicolon are contracts' texts.
+// Expected results: worked steps on contracts whose texts stand beside their words in `stdin`, from document 01; and for question 3 whether
+// a table passes, as its name in `stdin` says.
 ghost use Prim.Native.Nat.{_≤_, _<_};
 ghost use lib.ListN.{length};
 use libc::STDOUT_FILENO;
-use machine::Outcome;
-use machine::Rule;
-use machine::Stepped;
 use numbers::Answer;
 use numbers::Operator;
 use numbers::Value;
+use outcomes::Outcome;
+use outcomes::Rule;
+use outcomes::Stepped;
 use state::Pending;
 use state::State;
 use statements::Label;
@@ -296,28 +299,32 @@ fn add_party(line: &[u8], p: Parts, start: usize, end: usize) -> Parts {
     }
 }
 
-// A field's name, then its value if it has one.
-fn add_field(line: &[u8], p: Parts, start: usize, end: usize, valued: bool) -> Parts {
-    let after = std::num::wrapping_add_usize(end, 1);
-    let n = integer_at(line, after);
+// A field's name.
+fn add_field(p: Parts, start: usize, end: usize) -> Parts {
     let parts = p.parts;
     let mut spans = p.spans;
     let values = p.values;
     spans = add(spans, start);
     spans = add(spans, end);
-    if valued {
-        return Parts {
-            parts,
-            spans,
-            values: add_integer(values, n),
-            next: n.next,
-        };
-    }
     Parts {
         parts,
         spans,
         values,
-        next: after,
+        next: std::num::wrapping_add_usize(end, 1),
+    }
+}
+
+// The value of the field that was added last.
+fn add_value(line: &[u8], p: Parts) -> Parts {
+    let n = integer_at(line, p.next);
+    let parts = p.parts;
+    let spans = p.spans;
+    let values = p.values;
+    Parts {
+        parts,
+        spans,
+        values: add_integer(values, n),
+        next: n.next,
     }
 }
 
@@ -329,8 +336,8 @@ fn add_item(line: &[u8], p: Parts, at: usize) -> Parts
     let end = end_of(line, start, b' ');
     match line[at] {
         b'@' => add_party(line, p, start, end),
-        b':' => add_field(line, p, start, end, true),
-        _ => add_field(line, p, start, end, false),
+        b':' => add_value(line, add_field(p, start, end)),
+        _ => add_field(p, start, end),
     }
 }
 
@@ -379,11 +386,14 @@ fn agree_on(
     machine::agree(table, s, room, line, &parts[..a], &spans[..b], &values[..c])
 }
 
-fn agree(line: &[u8], table: &[u64], s: State) -> Stepped {
-    let p = parts_at(line, number_at(line, 2).next);
-    let parts = p.parts;
-    let spans = p.spans;
-    let values = p.values;
+fn agree_with(
+    line: &[u8],
+    table: &[u64],
+    s: State,
+    parts: Numbers,
+    spans: Numbers,
+    values: Integers,
+) -> Stepped {
     let a = parts.items;
     let b = spans.items;
     let c = values.items;
@@ -398,6 +408,14 @@ fn agree(line: &[u8], table: &[u64], s: State) -> Stepped {
         &c,
         values.count,
     )
+}
+
+fn agree(line: &[u8], table: &[u64], s: State) -> Stepped {
+    let p = parts_at(line, number_at(line, 2).next);
+    let parts = p.parts;
+    let spans = p.spans;
+    let values = p.values;
+    agree_with(line, table, s, parts, spans, values)
 }
 
 // The first i values and j assets are the arguments.
@@ -417,22 +435,26 @@ fn call_on(
     machine::call(table, s, room, caller, function, &values[..a], &assets[..b])
 }
 
-fn call(line: &[u8], table: &[u64], s: State) -> Stepped {
-    let room = number_at(line, 2);
-    let a = least(room.next, line.len());
-    let b = end_of(line, a, b' ');
-    let c = least(b + 1, line.len());
-    let d = end_of(line, c, b' ');
-    let values = integers_at(line, d + 1);
+// The values and assets stand in the line from `at` on.
+fn call_with(
+    line: &[u8],
+    at: usize,
+    table: &[u64],
+    s: State,
+    room: usize,
+    caller: &[u8],
+    function: &[u8],
+) -> Stepped {
+    let values = integers_at(line, at);
     let assets = integers_at(line, values.next);
     let v = values.items;
     let w = assets.items;
     call_on(
         table,
         s,
-        room.value as usize,
-        &line[a..b],
-        &line[c..d],
+        room,
+        caller,
+        function,
         &v,
         values.count,
         &w,
@@ -440,18 +462,57 @@ fn call(line: &[u8], table: &[u64], s: State) -> Stepped {
     )
 }
 
+fn call(line: &[u8], table: &[u64], s: State) -> Stepped {
+    let room = number_at(line, 2);
+    let a = least(room.next, line.len());
+    let b = end_of(line, a, b' ');
+    let c = least(b + 1, line.len());
+    let d = end_of(line, c, b' ');
+    call_with(
+        line,
+        d + 1,
+        table,
+        s,
+        room.value as usize,
+        &line[a..b],
+        &line[c..d],
+    )
+}
+
 // ---- The state's numbers are set.
 
-fn set_field(s: State, at: usize, kind: u64, number: u64, text: u64) -> State {
+// What a line sets: a place, or the first number, and up to three more.
+struct Four {
+    first: u64,
+    second: u64,
+    third: u64,
+    fourth: u64,
+}
+
+fn four_at(line: &[u8], at: usize) -> Four {
+    let a = number_at(line, at);
+    let b = number_at(line, a.next);
+    let c = number_at(line, b.next);
+    let d = number_at(line, c.next);
+    Four {
+        first: a.value,
+        second: b.value,
+        third: c.value,
+        fourth: d.value,
+    }
+}
+
+fn set_field(s: State, n: Four) -> State {
+    let at = n.first as usize;
     if 32 <= at {
         return s;
     }
     let mut kinds = s.kinds;
     let mut numbers = s.numbers;
     let mut texts = s.texts;
-    kinds[at] = (kind % 256) as u8;
-    numbers[at] = signed(false, number);
-    texts[at] = (text % 256) as u8;
+    kinds[at] = (n.second % 256) as u8;
+    numbers[at] = signed(false, n.third);
+    texts[at] = (n.fourth % 256) as u8;
     let mut next = s;
     next.kinds = kinds;
     next.numbers = numbers;
@@ -459,38 +520,40 @@ fn set_field(s: State, at: usize, kind: u64, number: u64, text: u64) -> State {
     next
 }
 
-fn set_asset(s: State, at: usize, amount: u64) -> State {
+fn set_asset(s: State, n: Four) -> State {
+    let at = n.first as usize;
     if 16 <= at {
         return s;
     }
     let mut assets = s.assets;
-    assets[at] = amount;
+    assets[at] = n.second;
     let mut next = s;
     next.assets = assets;
     next
 }
 
-fn set_event(s: State, at: usize, function: u64, event: u64, time: u64) -> State {
+fn set_event(s: State, n: Four) -> State {
+    let at = n.first as usize;
     if 64 <= at {
         return s;
     }
     let mut events = s.events;
     events[at] = Pending {
-        function: (function % 256) as u8,
-        event: (event % 256) as u8,
-        time,
+        function: (n.second % 256) as u8,
+        event: (n.third % 256) as u8,
+        time: n.fourth,
     };
     let mut next = s;
     next.events = events;
     next
 }
 
-fn set_head(s: State, agreed: u64, state: u64, clock: u64, pending: u64) -> State {
+fn set_head(s: State, n: Four) -> State {
     let mut next = s;
-    next.agreed = agreed != 0;
-    next.state = state as usize;
-    next.clock = clock;
-    next.pending = pending as usize;
+    next.agreed = n.first != 0;
+    next.state = n.second as usize;
+    next.clock = n.third;
+    next.pending = n.fourth as usize;
     next
 }
 
@@ -498,16 +561,12 @@ fn set(line: &[u8], s: State) -> State {
     if line.len() < 4 {
         return s;
     }
-    let a = number_at(line, 4);
-    let b = number_at(line, a.next);
-    let c = number_at(line, b.next);
-    let d = number_at(line, c.next);
-    let at = a.value as usize;
+    let n = four_at(line, 4);
     match line[2] {
-        b'h' => set_head(s, a.value, b.value, c.value, d.value),
-        b'v' => set_field(s, at, b.value, c.value, d.value),
-        b'a' => set_asset(s, at, b.value),
-        b'e' => set_event(s, at, b.value, c.value, d.value),
+        b'h' => set_head(s, n),
+        b'v' => set_field(s, n),
+        b'a' => set_asset(s, n),
+        b'e' => set_event(s, n),
         _ => s,
     }
 }
@@ -597,18 +656,21 @@ fn print_fields(s: State, count: usize) {
     }
 }
 
+fn print_label(label: Label) {
+    print(b" ");
+    print_number(wide(label.kind));
+    print_number(label.party as u64);
+    print_integer(label.value);
+    print(b"\n");
+}
+
 fn print_labels(labels: [Label; 64], count: usize) {
     let mut i: usize = 0;
     while i < 64 {
         if count <= i {
             return;
         }
-        let label = labels[i];
-        print(b" ");
-        print_number(wide(label.kind));
-        print_number(label.party as u64);
-        print_integer(label.value);
-        print(b"\n");
+        print_label(labels[i]);
         i += 1;
     }
 }
@@ -648,25 +710,60 @@ fn heading(line: &[u8]) {
     print(b"\n");
 }
 
+// Whether the table passes, after the line's name.
+fn ask(line: &[u8], table: &[u64]) {
+    if line.len() < 2 {
+        return;
+    }
+    print(&line[2..]);
+    if tables::table_passes(table) {
+        print(b": passes\n");
+    } else {
+        print(b": refused\n");
+    }
+}
+
+fn asks_step(kind: u8) -> bool {
+    (kind == b'a') | (kind == b'c') | (kind == b'e') | (kind == b't')
+}
+
+// Agreement, call, firing or tick, by the line's first letter.
+fn step(line: &[u8], table: &[u64], s: State, kind: u8) -> Stepped {
+    match kind {
+        b'a' => agree(line, table, s),
+        b'c' => call(line, table, s),
+        b'e' => machine::fire(table, s, number_at(line, 2).value as usize),
+        _ => machine::tick(table, s, number_at(line, 2).value as usize),
+    }
+}
+
+// The state after a line that asks for no step.
+fn state_line(line: &[u8], table: &[u64], s: State, kind: u8) -> State {
+    match kind {
+        b'f' => State::fresh(number_at(line, 2).value),
+        b's' => set(line, s),
+        b'#' => {
+            heading(line);
+            s
+        }
+        b'p' => {
+            ask(line, table);
+            s
+        }
+        _ => s,
+    }
+}
+
 // The state after what a line says of it.
 fn step_line(line: &[u8], table: &[u64], s: State) -> State {
     if line.len() < 1 {
         return s;
     }
-    let room = number_at(line, 2).value as usize;
-    match line[0] {
-        b'f' => State::fresh(room as u64),
-        b's' => set(line, s),
-        b'a' => print_step(line, table, agree(line, table, s)),
-        b'c' => print_step(line, table, call(line, table, s)),
-        b'e' => print_step(line, table, machine::fire(table, s, room)),
-        b't' => print_step(line, table, machine::tick(table, s, room)),
-        b'#' => {
-            heading(line);
-            s
-        }
-        _ => s,
+    let kind = line[0];
+    if asks_step(kind) {
+        return print_step(line, table, step(line, table, s, kind));
     }
+    state_line(line, table, s, kind)
 }
 
 // How many words the table has after what a line says of it.

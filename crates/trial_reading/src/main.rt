@@ -1,9 +1,10 @@
 // Reads the texts that standard input names, one name to a line, from files NAME.stipula, and prints a line for each: its name, then
 // `accepted`, or `refused`, the question's number and the place.
+// Expected results: the vectors' reading/expected.tsv, a line for each text.
 ghost use Prim.Native.Nat.{_≤_, _<_};
 ghost use lib.ListN.{length};
 use libc::STDOUT_FILENO;
-use reader::Answer;
+use reading::Answer;
 
 fn print(bytes: &[u8]) {
     io::write_all(STDOUT_FILENO, bytes);

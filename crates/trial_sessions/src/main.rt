@@ -1,177 +1,40 @@
-// Plays the session of each folder that standard input names, one a line, and prints the name and what the desk prints. The code up to
-// "the trial" is that of crate `desk`.
-ghost use Prim.Native.Nat.{_+_, _≤_, min};
-ghost use mathlib.Core.Path.{_≡_};
+// Plays the session of each folder that standard input names, one a line, and prints the name and what the desk prints. The functions
+// under "a session" are those of crate `desk`. Expected results: the published vectors' of each session, byte for
+// byte, where question 24 is read as docs/DECISIONS.md 30 says (it decides directed_at_a_limit_1, directed_parts_1 and directed_random_2).
+ghost use Prim.Native.Nat.{_≤_};
 ghost use lib.ListN.{length};
 use contract::Contract;
 use libc::STDOUT_FILENO;
-use reader::Answer;
-use results::Report;
+use reading::Answer;
 use results::Written;
 use state::State;
 
-// The most bytes that are kept of a line: one more than it may have, so that a longer one is refused.
-const KEPT: usize = 513;
-
-// A state, and how many bytes are kept of the line that has not ended.
-struct Desk {
-    state: State,
-    kept: usize,
-}
-
-// The place after n more, at most the size.
-fn past(at: usize, n: usize, size: usize) -> usize
-    ensures { λ r. ⌜ r ≡ min (at + n) size ⌝ }
-{
-    if at <= size {
-        if n <= size - at {
-            return at + n;
-        }
-    }
-    size
-}
-
-// ---- output
-
-// Prints result lines that are given as numbers.
-fn print_lines(table: &[u64], numbers: &[u64], integers: &[i64], many: usize, out: &mut [u8]) {
-    let mut i: usize = 0;
-    while i < many {
-        let b = results::write_batch(table, numbers, integers, i, many, out);
-        io::write_all(STDOUT_FILENO, tokens::between(out, 0, b.used));
-        if b.many == 0 {
-            return;
-        }
-        i = past(i, b.many, many);
-    }
-}
-
-// What each asset holds.
-fn print_assets(table: &[u64], s: State, out: &mut [u8]) {
-    let c = contract::head(table);
-    let count = c.assets;
-    let amounts = s.assets;
-    let mut i: usize = 0;
-    while i < count {
-        if 16 <= i {
-            return;
-        }
-        let written = results::write(table, Report::Held(i, amounts[i]), out);
-        if let Written::Wrote(n) = written {
-            io::write_all(STDOUT_FILENO, tokens::between(out, 0, n));
-        }
-        i += 1;
-    }
-}
-
 // ---- a session
 
-// The place after the last LF.
-fn lines_end(bytes: &[u8]) -> usize {
-    let mut i = bytes.len();
-    while 0 < i {
-        if bytes[i - 1] == b'\n' {
-            return i;
-        }
-        i -= 1;
-    }
-    i
+// Prints the first of the result lines that are given as numbers. The buffer has 128 bytes for each line that there are numbers for, and no
+// line is longer.
+fn print_lines(table: &[u64], numbers: &[u64], integers: &[i64], many: usize, out: &mut [u8]) {
+    let b = results::write_batch(table, numbers, integers, 0, many, out);
+    io::write_all(STDOUT_FILENO, tokens::between(out, 0, b.used));
 }
 
-// The bytes from a place up to an end come to the front, as many as are kept; answers how many.
-fn bring(bytes: &mut [u8], from: usize, end: usize) -> usize
-    requires { ⌜ end ≤ length (now bytes) ⌝ }
-{
-    let mut k = from;
-    let mut i: usize = 0;
-    while i < KEPT {
-        if end <= k {
-            return i;
-        }
-        bytes[i] = bytes[k];
-        k += 1;
-        i += 1;
-    }
-    i
-}
-
-// Takes each line of these bytes, and fires the events that are due.
-fn take_lines(
-    table: &[u64],
-    s: State,
-    bytes: &[u8],
-    numbers: &mut [u64],
-    integers: &mut [i64],
-    out: &mut [u8],
-) -> State {
-    let mut state = s;
-    let mut at: usize = 0;
-    let mut left: u64 = 9223372036854775808;
-    while 0 < left {
-        let rest = tokens::between(bytes, at, bytes.len());
-        let p = machine::play(table, state, rest, numbers, integers);
-        state = p.state;
-        if p.many == 0 {
-            return state;
-        }
-        print_lines(table, numbers, integers, p.many, out);
-        at = past(at, p.used, bytes.len());
-        left -= 1;
-    }
-    state
-}
-
-// Takes the whole lines of the first bytes, and keeps what is left.
-fn take_bytes(
-    table: &[u64],
-    s: State,
-    bytes: &mut [u8],
-    size: usize,
-    numbers: &mut [u64],
-    integers: &mut [i64],
-    out: &mut [u8],
-) -> Desk {
-    let end = lines_end(tokens::between(bytes, 0, size));
-    let whole = tokens::between(bytes, 0, end);
-    let state = take_lines(table, s, whole, numbers, integers, out);
-    let all = past(0, size, bytes.len());
-    let kept = bring(bytes, end, all);
-    Desk { state, kept }
-}
-
-// A last line without LF counts if it has a byte.
-fn take_last(
-    table: &[u64],
-    s: State,
-    bytes: &mut [u8],
-    size: usize,
-    numbers: &mut [u64],
-    integers: &mut [i64],
-    out: &mut [u8],
-) -> State {
-    if size == 0 {
-        return s;
-    }
-    if bytes.len() <= size {
-        return s;
-    }
-    bytes[size] = b'\n';
-    let line = tokens::between(bytes, 0, size + 1);
-    take_lines(table, s, line, numbers, integers, out)
-}
-
-// Bytes of a file after those that are kept; answers how many there are then. The buffer's last byte stays free.
-fn read_more(file: i32, bytes: &mut [u8], kept: usize) -> usize {
+// What is left of the last line comes to the front, and bytes of a file after it; at the file's end that line ends. Answers how many bytes
+// there are then. The buffer's last byte stays free.
+fn read_more(file: i32, bytes: &mut [u8], at: usize, size: usize) -> usize {
+    let kept = desk_lines::bring(bytes, at, size);
     if bytes.len() <= kept {
-        return kept;
+        return 0;
     }
     let last = bytes.len() - 1;
     let got = libc::read(file, &mut bytes[kept..last]);
     let n = io::count(got, &bytes[kept..last]);
-    past(kept, n, last)
+    if n == 0 {
+        return desk_lines::close(bytes, kept);
+    }
+    desk_lines::past(kept, n, last)
 }
 
-// Takes each line of a file, with a buffer for its bytes.
+// Takes each line of a file, and fires the events that are due; hands back the state at the end.
 fn take_file(
     table: &[u64],
     file: i32,
@@ -180,28 +43,34 @@ fn take_file(
     integers: &mut [i64],
     out: &mut [u8],
 ) -> State {
-    let state = State::fresh(0);
-    let mut desk = Desk { state, kept: 0 };
+    let mut state = State::fresh(0);
+    let mut at: usize = 0;
+    let mut size: usize = 0;
     let mut left: u64 = 9223372036854775808;
     while 0 < left {
-        let s = desk.state;
-        let kept = desk.kept;
-        let size = read_more(file, bytes, kept);
-        if size <= kept {
-            return take_last(table, s, bytes, size, numbers, integers, out);
-        }
-        desk = take_bytes(table, s, bytes, size, numbers, integers, out);
         left -= 1;
+        let input = tokens::between(bytes, at, size);
+        let p = machine::play(table, state, input, numbers, integers);
+        print_lines(table, numbers, integers, p.many, out);
+        state = p.state;
+        at = desk_lines::past(at, p.used, size);
+        if p.many == 0 {
+            size = read_more(file, bytes, at, size);
+            at = 0;
+            if (size == 0) | (p.question != 0) {
+                return state;
+            }
+        }
     }
-    desk.state
+    state
 }
 
-// A session on the contract in a table.
+// A session on the contract in a table, then what each asset holds.
 fn run(table: &[u64], file: i32) {
     let mut bytes = [0u8; 65536];
-    let mut numbers = [0u64; 8192];
-    let mut integers = [0i64; 2048];
-    let mut out = [0u8; 65536];
+    let mut numbers = [0u64; 4096];
+    let mut integers = [0i64; 1024];
+    let mut out = [0u8; 131072];
     let s = take_file(
         table,
         file,
@@ -210,7 +79,8 @@ fn run(table: &[u64], file: i32) {
         &mut integers,
         &mut out,
     );
-    print_assets(table, s, &mut out);
+    let assets = desk_lines::held(table, s, &mut numbers);
+    print_lines(table, &numbers, &integers, assets, &mut out);
 }
 
 // A refused text.

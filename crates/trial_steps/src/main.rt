@@ -7,14 +7,16 @@
 //   # ..                 print the line
 // A firing prints its line, what came of it, how many labels there are, and how many entries the slice kept; and then each entry
 // that it did not keep: its place, kind, party, value. The next line has the state from before it. Lines with a semicolon are contracts' texts.
+// Expected results: from document 01 (question 20, the labels' order) and the contract of `steps`: entries past the labels are kept.
 ghost use mathlib.Core.Path.{_≡_};
 ghost use Prim.Native.Nat.{_≤_, _<_};
-ghost use lib.ListN.{length};
+ghost use lib.ListN.{length, take, drop};
+ghost use mathlib.Core.List.{_++_};
 ghost use Rattle.machine.specs.Steps.{step, fired};
 ghost use Rattle.steps.specs.Left.{leftOf, slotsOf};
 use libc::STDOUT_FILENO;
-use machine::Outcome;
-use machine::Rule;
+use outcomes::Outcome;
+use outcomes::Rule;
 use state::Pending;
 use state::State;
 use statements::Label;
@@ -102,16 +104,38 @@ fn signed(v: u64) -> i64 {
     v as i64
 }
 
-fn set_field(s: State, at: usize, kind: u64, number: u64, text: u64) -> State {
+// What a line sets: a place, or the first number, and up to three more.
+struct Four {
+    first: u64,
+    second: u64,
+    third: u64,
+    fourth: u64,
+}
+
+fn four_at(line: &[u8], at: usize) -> Four {
+    let a = number_at(line, at);
+    let b = number_at(line, a.next);
+    let c = number_at(line, b.next);
+    let d = number_at(line, c.next);
+    Four {
+        first: a.value,
+        second: b.value,
+        third: c.value,
+        fourth: d.value,
+    }
+}
+
+fn set_field(s: State, n: Four) -> State {
+    let at = n.first as usize;
     if 32 <= at {
         return s;
     }
     let mut kinds = s.kinds;
     let mut numbers = s.numbers;
     let mut texts = s.texts;
-    kinds[at] = (kind % 256) as u8;
-    numbers[at] = signed(number);
-    texts[at] = (text % 256) as u8;
+    kinds[at] = (n.second % 256) as u8;
+    numbers[at] = signed(n.third);
+    texts[at] = (n.fourth % 256) as u8;
     let mut next = s;
     next.kinds = kinds;
     next.numbers = numbers;
@@ -119,38 +143,40 @@ fn set_field(s: State, at: usize, kind: u64, number: u64, text: u64) -> State {
     next
 }
 
-fn set_asset(s: State, at: usize, amount: u64) -> State {
+fn set_asset(s: State, n: Four) -> State {
+    let at = n.first as usize;
     if 16 <= at {
         return s;
     }
     let mut assets = s.assets;
-    assets[at] = amount;
+    assets[at] = n.second;
     let mut next = s;
     next.assets = assets;
     next
 }
 
-fn set_event(s: State, at: usize, function: u64, event: u64, time: u64) -> State {
+fn set_event(s: State, n: Four) -> State {
+    let at = n.first as usize;
     if 64 <= at {
         return s;
     }
     let mut events = s.events;
     events[at] = Pending {
-        function: (function % 256) as u8,
-        event: (event % 256) as u8,
-        time,
+        function: (n.second % 256) as u8,
+        event: (n.third % 256) as u8,
+        time: n.fourth,
     };
     let mut next = s;
     next.events = events;
     next
 }
 
-fn set_head(s: State, agreed: u64, state: u64, clock: u64, pending: u64) -> State {
+fn set_head(s: State, n: Four) -> State {
     let mut next = s;
-    next.agreed = agreed != 0;
-    next.state = state as usize;
-    next.clock = clock;
-    next.pending = pending as usize;
+    next.agreed = n.first != 0;
+    next.state = n.second as usize;
+    next.clock = n.third;
+    next.pending = n.fourth as usize;
     next
 }
 
@@ -158,16 +184,12 @@ fn set(line: &[u8], s: State) -> State {
     if line.len() < 4 {
         return s;
     }
-    let a = number_at(line, 4);
-    let b = number_at(line, a.next);
-    let c = number_at(line, b.next);
-    let d = number_at(line, c.next);
-    let at = a.value as usize;
+    let n = four_at(line, 4);
     match line[2] {
-        b'h' => set_head(s, a.value, b.value, c.value, d.value),
-        b'v' => set_field(s, at, b.value, c.value, d.value),
-        b'a' => set_asset(s, at, b.value),
-        b'e' => set_event(s, at, b.value, c.value, d.value),
+        b'h' => set_head(s, n),
+        b'v' => set_field(s, n),
+        b'a' => set_asset(s, n),
+        b'e' => set_event(s, n),
         _ => s,
     }
 }
@@ -257,167 +279,15 @@ fn kept_with(kept: usize, label: Label, i: usize) -> usize {
     kept
 }
 
-// ---- No entry.
+// ---- Firing.
 
-// What a firing left, and the entries that were lent to it.
-struct Shown0 {
-    left: Left,
-    labels: [Label; 0],
-}
-
-fn fire_on_0(table: &[u64], s: State, before: [Label; 0]) -> Shown0
-    ensures { λ r. ⌜ (r .left ≡ leftOf (step (now (table .entry)) (length before) s (λ c. fired c s))) × (r .labels ≡ slotsOf before (step (now (table .entry)) (length before) s (λ c. fired c s))) ⌝ }
-{
-    let mut labels = before;
-    let left = steps::fire(table, s, &mut labels);
-    Shown0 { left, labels }
-}
-
-fn fire_0(table: &[u64], s: State) {
-    let mark = Label {
-        kind: 9,
-        party: 0,
-        value: 1000,
-    };
-    let shown = fire_on_0(table, s, [mark; 0]);
-    let left = shown.left;
-    print_left(left);
-    print_kept(0);
-}
-
-// ---- 63 entries.
-
-// What a firing left, and the entries that were lent to it.
-struct Shown63 {
-    left: Left,
-    labels: [Label; 63],
-}
-
-fn marks_63() -> [Label; 63] {
-    let mark = Label {
-        kind: 9,
-        party: 0,
-        value: 1000,
-    };
-    let mut labels = [mark; 63];
-    let mut i: usize = 0;
-    while i < 63 {
-        labels[i] = Label {
-            kind: 9,
-            party: i,
-            value: 1000,
-        };
-        i += 1;
-    }
-    labels
-}
-
-fn fire_on_63(table: &[u64], s: State, before: [Label; 63]) -> Shown63
-    ensures { λ r. ⌜ (r .left ≡ leftOf (step (now (table .entry)) (length before) s (λ c. fired c s))) × (r .labels ≡ slotsOf before (step (now (table .entry)) (length before) s (λ c. fired c s))) ⌝ }
-{
-    let mut labels = before;
-    let left = steps::fire(table, s, &mut labels);
-    Shown63 { left, labels }
-}
-
-fn kept_63(labels: [Label; 63]) -> usize {
-    let mut kept: usize = 0;
-    let mut i: usize = 0;
-    while i < 63 {
-        kept = kept_with(kept, labels[i], i);
-        i += 1;
-    }
-    kept
-}
-
-fn print_entries_63(labels: [Label; 63]) {
-    let mut i: usize = 0;
-    while i < 63 {
-        print_entry(labels[i], i);
-        i += 1;
-    }
-}
-
-fn fire_63(table: &[u64], s: State) {
-    let shown = fire_on_63(table, s, marks_63());
-    let left = shown.left;
-    let labels = shown.labels;
-    print_left(left);
-    print_kept(kept_63(labels));
-    print_entries_63(labels);
-}
-
-// ---- 64 entries.
-
-// What a firing left, and the entries that were lent to it.
-struct Shown64 {
-    left: Left,
-    labels: [Label; 64],
-}
-
-fn marks_64() -> [Label; 64] {
-    let mark = Label {
-        kind: 9,
-        party: 0,
-        value: 1000,
-    };
-    let mut labels = [mark; 64];
-    let mut i: usize = 0;
-    while i < 64 {
-        labels[i] = Label {
-            kind: 9,
-            party: i,
-            value: 1000,
-        };
-        i += 1;
-    }
-    labels
-}
-
-fn fire_on_64(table: &[u64], s: State, before: [Label; 64]) -> Shown64
-    ensures { λ r. ⌜ (r .left ≡ leftOf (step (now (table .entry)) (length before) s (λ c. fired c s))) × (r .labels ≡ slotsOf before (step (now (table .entry)) (length before) s (λ c. fired c s))) ⌝ }
-{
-    let mut labels = before;
-    let left = steps::fire(table, s, &mut labels);
-    Shown64 { left, labels }
-}
-
-fn kept_64(labels: [Label; 64]) -> usize {
-    let mut kept: usize = 0;
-    let mut i: usize = 0;
-    while i < 64 {
-        kept = kept_with(kept, labels[i], i);
-        i += 1;
-    }
-    kept
-}
-
-fn print_entries_64(labels: [Label; 64]) {
-    let mut i: usize = 0;
-    while i < 64 {
-        print_entry(labels[i], i);
-        i += 1;
-    }
-}
-
-fn fire_64(table: &[u64], s: State) {
-    let shown = fire_on_64(table, s, marks_64());
-    let left = shown.left;
-    let labels = shown.labels;
-    print_left(left);
-    print_kept(kept_64(labels));
-    print_entries_64(labels);
-}
-
-// ---- 100 entries.
-
-// What a firing left, and the entries that were lent to it.
-struct Shown100 {
+// What a firing left, and the entries of which the first were lent to it.
+struct Shown {
     left: Left,
     labels: [Label; 100],
 }
 
-fn marks_100() -> [Label; 100] {
+fn marks() -> [Label; 100] {
     let mark = Label {
         kind: 9,
         party: 0,
@@ -436,39 +306,48 @@ fn marks_100() -> [Label; 100] {
     labels
 }
 
-fn fire_on_100(table: &[u64], s: State, before: [Label; 100]) -> Shown100
-    ensures { λ r. ⌜ (r .left ≡ leftOf (step (now (table .entry)) (length before) s (λ c. fired c s))) × (r .labels ≡ slotsOf before (step (now (table .entry)) (length before) s (λ c. fired c s))) ⌝ }
+// A firing with the first n entries.
+fn fire_on(table: &[u64], s: State, before: [Label; 100], n: usize) -> Shown
+    requires { ⌜ n ≤ 100 ⌝ }
+    ensures { λ r. ⌜ (r .left ≡ leftOf (step (now (table .entry)) n s (λ c. fired c s))) × (r .labels ≡ slotsOf (take n before) (step (now (table .entry)) n s (λ c. fired c s)) ++ drop n before) ⌝ }
 {
     let mut labels = before;
-    let left = steps::fire(table, s, &mut labels);
-    Shown100 { left, labels }
+    let left = steps::fire(table, s, &mut labels[..n]);
+    Shown { left, labels }
 }
 
-fn kept_100(labels: [Label; 100]) -> usize {
-    let mut kept: usize = 0;
+// How many of the first n entries are as they were.
+fn kept(labels: [Label; 100], n: usize) -> usize
+    requires { ⌜ n ≤ 100 ⌝ }
+{
+    let mut count: usize = 0;
     let mut i: usize = 0;
-    while i < 100 {
-        kept = kept_with(kept, labels[i], i);
+    while i < n {
+        count = kept_with(count, labels[i], i);
         i += 1;
     }
-    kept
+    count
 }
 
-fn print_entries_100(labels: [Label; 100]) {
+fn print_entries(labels: [Label; 100], n: usize)
+    requires { ⌜ n ≤ 100 ⌝ }
+{
     let mut i: usize = 0;
-    while i < 100 {
+    while i < n {
         print_entry(labels[i], i);
         i += 1;
     }
 }
 
-fn fire_100(table: &[u64], s: State) {
-    let shown = fire_on_100(table, s, marks_100());
+fn fire_with(table: &[u64], s: State, n: usize)
+    requires { ⌜ n ≤ 100 ⌝ }
+{
+    let shown = fire_on(table, s, marks(), n);
     let left = shown.left;
     let labels = shown.labels;
     print_left(left);
-    print_kept(kept_100(labels));
-    print_entries_100(labels);
+    print_kept(kept(labels, n));
+    print_entries(labels, n);
 }
 
 // ---- Lines.
@@ -482,10 +361,10 @@ fn fire(line: &[u8], table: &[u64], s: State) {
     print(line);
     let slots = number_at(line, 2).value;
     match slots {
-        0 => fire_0(table, s),
-        63 => fire_63(table, s),
-        64 => fire_64(table, s),
-        100 => fire_100(table, s),
+        0 => fire_with(table, s, 0),
+        63 => fire_with(table, s, 63),
+        64 => fire_with(table, s, 64),
+        100 => fire_with(table, s, 100),
         _ => print(b": ?\n"),
     }
 }

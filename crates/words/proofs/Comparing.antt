@@ -11,34 +11,26 @@ use Rattle.laws.specs.Choice.{pick}
 use Rattle.laws.specs.Bytes.{sameBytes, startsWith}
 use Rattle.laws.proofs.Lists.{cons-at}
 
--- the text s from p on against the word w, of n bytes, from i on
-module _ (s w : List ℕ) (n p i : ℕ) (size : n ≡ length w) where
+-- the text s from p on against the word w from i on
+module _ (s w : List ℕ) (p i : ℕ) where
   -- the word is at its end
-  pub word-ends : n ≤ i → startsWith (drop p s) (drop i w) ≡ true
+  pub word-ends : length w ≤ i → startsWith (drop p s) (drop i w) ≡ true
   unfolding startsWith
-  word-ends h =
-      let l : length w ≤ i = omega arith in
-      rw (drop-of-length-le w l)
+  word-ends h = rw (drop-of-length-le w h)
 
   -- the text ends before the word
-  pub text-ends : i < n → length s ≤ p → startsWith (drop p s) (drop i w) ≡ false
+  pub text-ends : i < length w → length s ≤ p → startsWith (drop p s) (drop i w) ≡ false
   unfolding startsWith
-  text-ends h k =
-      let l : i < length w = omega arith in
-      rw (drop-of-length-le s k, cons-at w i l)
+  text-ends h k = rw (drop-of-length-le s k, cons-at w i h)
 
-  pub differs : i < n → p < length s → (getD s p 0 ≡ getD w i 0 → ⊥) → startsWith (drop p s) (drop i w) ≡ false
+  pub differs : i < length w → p < length s → (getD s p 0 ≡ getD w i 0 → ⊥) → startsWith (drop p s) (drop i w) ≡ false
   unfolding startsWith pick
-  differs h k d =
-      let l : i < length w = omega arith in
-      rw (cons-at s p k, cons-at w i l, ne-eqb (getD s p 0) (getD w i 0) d)
+  differs h k d = rw (cons-at s p k, cons-at w i h, ne-eqb (getD s p 0) (getD w i 0) d)
 
-  pub goes-on : i < n → p < length s → getD s p 0 ≡ getD w i 0
+  pub goes-on : i < length w → p < length s → getD s p 0 ≡ getD w i 0
       → startsWith (drop p s) (drop i w) ≡ startsWith (drop (p + 1) s) (drop (i + 1) w)
   unfolding startsWith pick
-  goes-on h k e =
-      let l : i < length w = omega arith in
-      rw (cons-at s p k, cons-at w i l, eq-eqb (getD s p 0) (getD w i 0) e)
+  goes-on h k e = rw (cons-at s p k, cons-at w i h, eq-eqb (getD s p 0) (getD w i 0) e)
 
 -- of lists of one length, the same is to begin with
 pub same-starts : (a b : List ℕ) → length a ≡ length b → sameBytes a b ≡ startsWith a b
@@ -48,11 +40,3 @@ same-starts [] (y ∷ ys) e = refl
 same-starts (x ∷ xs) [] e = absurd (omega arith)
 same-starts (x ∷ xs) (y ∷ ys) e =
     ap (λ (t : Bool). pick (eqb x y) t false) (same-starts xs ys (omega arith))
-
--- lists that begin differently are different
-pub same-first : (a b : List ℕ) → (getD a 0 0 ≡ getD b 0 0 → ⊥) → sameBytes a b ≡ false
-unfolding sameBytes pick
-same-first [] [] h = absurd (h refl)
-same-first [] (y ∷ ys) h = refl
-same-first (x ∷ xs) [] h = refl
-same-first (x ∷ xs) (y ∷ ys) h = rw (ne-eqb x y h)

@@ -1,28 +1,32 @@
--- The fixed words by their numbers: bytes, lengths, none past the last. Assumes nothing.
-use mathlib.Core.Path.{_≡_, ap}
-use mathlib.Core.List.{[], map}
-use Prim.Native.Nat.{ℕ, zero, suc, _+_, _≤_}
+-- The fixed words by their numbers: their spellings, none past the last. Assumes nothing.
+use mathlib.Core.Path.{_≡_, refl, sym, ap, subst, _∙_}
+use mathlib.Core.List.{List, [], _∷_, _++_}
+use Prim.Native.Nat.{ℕ, zero, suc, _+_, _-_, _≤_}
 use native.Mathlib.Omega.{arith}
-use Prim.Native.String.{String}
-use lib.ListN.{length, getD, List·getD-eq-default, List·getD-map}
+use lib.ListN.{length, getD, take, replicate, length-append, List·getD-eq-default}
 use Rattle.laws.specs.Bytes.{bytes}
 use Rattle.words.specs.Words.{spellings, spelled}
+use Rattle.words.specs.Spellings.{spellingOf}
+use Rattle.words.specs.declared.Word.{Word}
 
--- a byte of the word with number k is that of the word whose number is k
-pub of-word : {which k r : ℕ} (i : ℕ) → which ≡ k → r ≡ getD (spelled k) i 0 → r ≡ getD (spelled which) i 0
-of-word i q p = cc
+-- the spelling of the word with number k is that of the word whose number is k
+pub of-word : {which k : ℕ} {r : Word} → which ≡ k → r ≡ spellingOf (spelled k) → r ≡ spellingOf (spelled which)
+of-word q p = p ∙ sym (ap (λ (n : ℕ). spellingOf (spelled n)) q)
 
 pub no-word : (k : ℕ) → 48 ≤ k → spelled k ≡ []
 unfolding spelled
 no-word k h = ap bytes (List·getD-eq-default spellings "" h)
 
-abbrev lengthOf : String → ℕ
-lengthOf s = length (bytes s)
+-- the front of a spelling is the word
+take-front : (l r : List ℕ) → take (length l) (l ++ r) ≡ l
+take-front [] r = refl
+take-front (x ∷ l) r = ap (λ (t : List ℕ). x ∷ t) (take-front l r)
 
--- the table of the words' lengths
-pub length-at : (k : ℕ) → getD (map lengthOf spellings) k 0 ≡ length (spelled k)
-unfolding spelled
-length-at k = List·getD-map lengthOf spellings k ""
+pub front-within : {w : Word} (l : List ℕ) → w ≡ spellingOf l → w .length ≤ length (w .bytes)
+front-within l e = subst (λ (w : Word). w .length ≤ length (w .bytes)) (sym e) (omega (arith, length-append l (replicate (16 - length l) 0)))
+
+pub front-is : {w : Word} (l : List ℕ) → w ≡ spellingOf l → take (w .length) (w .bytes) ≡ l
+front-is l e = ap (λ (w : Word). take (w .length) (w .bytes)) e ∙ take-front l (replicate (16 - length l) 0)
 
 -- x is none of the n numbers from a on
 abbrev pub Misses : ℕ → ℕ → ℕ → Type 0

@@ -1,2 +1,3 @@
 pub mod Words
-pub mod Writing
+pub mod Spellings
+pub mod Private

@@ -1,11 +1,13 @@
-// The fixed words of document 01 by their numbers: compared with a part of a text, and written to a lent buffer.
+// The fixed words of document 01 by their numbers: handed out as bytes, and compared with a part of a text.
 ghost use mathlib.Core.Path.{_≡_};
 ghost use mathlib.Core.List.{[], _∷_};
 ghost use Prim.Native.Nat.{_≤_};
-ghost use lib.ListN.{length, drop, getD};
+ghost use lib.ListN.{length, drop, set};
+ghost use lib.Seq.{sets};
 ghost use Rattle.laws.specs.Bytes.{sameBytes, startsWith};
 ghost use Rattle.words.specs.Words.{spelled};
-ghost use Rattle.words.specs.Writing.{nextAfter, overwritten};
+ghost use Rattle.words.specs.Spellings.{spellingOf};
+ghost use Rattle.words.specs.Private.{zerosWith};
 
 // Reserved words.
 
@@ -113,193 +115,155 @@ pub const SPACE: u8 = 46;
 
 pub const LINE_END: u8 = 47;
 
-// What a write to a lent buffer answers: the place after what was written, or that there is no room for it.
-pub enum Written {
-    Next(usize),
-    Full,
+// A fixed word: its bytes, then zeros, and how many bytes it has.
+pub struct Word {
+    pub bytes: [u8; 16],
+    pub length: usize,
 }
 
-// The byte at i, and 0 past the end.
-fn at(word: &[u8], i: usize) -> u8
-    ensures { λ r. ⌜ r ≡ getD (now (word .entry)) i 0 ⌝ }
+// Stores a byte, where there is room.
+fn store(out: &mut [u8], k: usize, b: u8)
+    ensures { λ r. ⌜ now (out .exit) ≡ set (now (out .entry)) k b ⌝ }
 {
-    if i < word.len() { word[i] } else { 0 }
+    if k < out.len() {
+        out[k] = b;
+    }
 }
 
-// The same of a word of one byte.
-fn single(b: u8, i: usize) -> u8
-    ensures { λ r. ⌜ r ≡ getD (b ∷ []) i 0 ⌝ }
+// Stores a word from the first place on.
+fn copy(word: &[u8], out: &mut [u8])
+    ensures { λ r. ⌜ now (out .exit) ≡ sets (now (out .entry)) 0 (now (word .entry)) ⌝ }
 {
-    if i == 0 { b } else { 0 }
+    let mut i: usize = 0;
+    while i < word.len() {
+        store(out, i, word[i]);
+        i += 1;
+    }
 }
 
-// Byte i of a fixed word, and 0 past its end: a reserved word's here, any other's below.
-fn byte(which: u8, i: usize) -> u8
-    ensures { λ r. ⌜ r ≡ getD (spelled which) i 0 ⌝ }
+// A word by its bytes.
+fn spell(word: &[u8]) -> Word
+    ensures { λ r. ⌜ r ≡ zerosWith (now (word .entry)) ⌝ }
+{
+    let mut bytes = [0u8; 16];
+    copy(word, &mut bytes);
+    Word {
+        bytes,
+        length: word.len(),
+    }
+}
+
+// A word of one byte.
+fn single(b: u8) -> Word
+    ensures { λ r. ⌜ r ≡ spellingOf (b ∷ []) ⌝ }
+{
+    let bytes = [b, 0, 0, 0, 0, 0, 0, 0, 0, 0, 0, 0, 0, 0, 0, 0];
+    Word { bytes, length: 1 }
+}
+
+// The fixed word with a number, none past the last: a reserved word here, any other below.
+pub fn spelling(which: u8) -> Word
+    ensures { λ r. ⌜ r ≡ spellingOf (spelled which) ⌝ }
 {
     match which {
-        LEGAL_CONTRACT => at(b"legal_contract", i),
-        ASSETS => at(b"assets", i),
-        FIELDS => at(b"fields", i),
-        AGREEMENT => at(b"agreement", i),
-        NOW => at(b"now", i),
-        TRUE => at(b"true", i),
-        FALSE => at(b"false", i),
-        _ => long_mark_byte(which, i),
+        LEGAL_CONTRACT => spell(b"legal_contract"),
+        ASSETS => spell(b"assets"),
+        FIELDS => spell(b"fields"),
+        AGREEMENT => spell(b"agreement"),
+        NOW => spell(b"now"),
+        TRUE => spell(b"true"),
+        FALSE => spell(b"false"),
+        _ => long_mark(which),
     }
 }
 
 // The same from the marks of several bytes on.
-fn long_mark_byte(which: u8, i: usize) -> u8
-    ensures { λ r. ⌜ (7 ≤ which → r ≡ getD (spelled which) i 0) ⌝ }
+fn long_mark(which: u8) -> Word
+    ensures { λ r. ⌜ (7 ≤ which → r ≡ spellingOf (spelled which)) ⌝ }
 {
     match which {
-        SET_ARROW => at(b"=SET=>", i),
-        OK_ARROW => at(b"=OK=>", i),
-        MAPS_TO => at(b"|->", i),
-        VALUE_ARROW => at(b"->", i),
-        ASSET_ARROW => at(b"-o", i),
-        STATE_ARROW => at(b"=>", i),
-        EVENT_MARK => at(b">>", i),
-        EQUAL => at(b"==", i),
-        UNEQUAL => at(b"!=", i),
-        AT_MOST => at(b"<=", i),
-        AT_LEAST => at(b">=", i),
-        AND => at(b"&&", i),
-        OR => at(b"||", i),
-        _ => mark_byte(which, i),
+        SET_ARROW => spell(b"=SET=>"),
+        OK_ARROW => spell(b"=OK=>"),
+        MAPS_TO => spell(b"|->"),
+        VALUE_ARROW => spell(b"->"),
+        ASSET_ARROW => spell(b"-o"),
+        STATE_ARROW => spell(b"=>"),
+        EVENT_MARK => spell(b">>"),
+        EQUAL => spell(b"=="),
+        UNEQUAL => spell(b"!="),
+        AT_MOST => spell(b"<="),
+        AT_LEAST => spell(b">="),
+        AND => spell(b"&&"),
+        OR => spell(b"||"),
+        _ => short_mark(which),
     }
 }
 
 // The same from the marks of one byte on.
-fn mark_byte(which: u8, i: usize) -> u8
-    ensures { λ r. ⌜ (20 ≤ which → r ≡ getD (spelled which) i 0) ⌝ }
+fn short_mark(which: u8) -> Word
+    ensures { λ r. ⌜ (20 ≤ which → r ≡ spellingOf (spelled which)) ⌝ }
 {
     match which {
-        OPEN_PAREN => single(b'(', i),
-        CLOSE_PAREN => single(b')', i),
-        OPEN_BRACE => single(b'{', i),
-        CLOSE_BRACE => single(b'}', i),
-        OPEN_BRACKET => single(b'[', i),
-        CLOSE_BRACKET => single(b']', i),
-        COMMA => single(b',', i),
-        COLON => single(b':', i),
-        AT_SIGN => single(b'@', i),
-        UNDERSCORE => single(b'_', i),
-        PLUS => single(b'+', i),
-        MINUS => single(b'-', i),
-        TIMES => single(b'*', i),
-        OVER => single(b'/', i),
-        LESS => single(b'<', i),
-        GREATER => single(b'>', i),
-        NOT => single(b'~', i),
-        _ => line_byte(which, i),
+        OPEN_PAREN => single(b'('),
+        CLOSE_PAREN => single(b')'),
+        OPEN_BRACE => single(b'{'),
+        CLOSE_BRACE => single(b'}'),
+        OPEN_BRACKET => single(b'['),
+        CLOSE_BRACKET => single(b']'),
+        COMMA => single(b','),
+        COLON => single(b':'),
+        AT_SIGN => single(b'@'),
+        UNDERSCORE => single(b'_'),
+        PLUS => single(b'+'),
+        MINUS => single(b'-'),
+        TIMES => single(b'*'),
+        OVER => single(b'/'),
+        LESS => single(b'<'),
+        GREATER => single(b'>'),
+        NOT => single(b'~'),
+        _ => line_word(which),
     }
 }
 
 // The same from the words of lines on.
-fn line_byte(which: u8, i: usize) -> u8
-    ensures { λ r. ⌜ (37 ≤ which → r ≡ getD (spelled which) i 0) ⌝ }
+fn line_word(which: u8) -> Word
+    ensures { λ r. ⌜ (37 ≤ which → r ≡ spellingOf (spelled which)) ⌝ }
 {
     match which {
-        SET => at(b"SET", i),
-        OK => at(b"OK", i),
-        TICK => at(b"TICK", i),
-        AGREE => at(b"AGREE", i),
-        FUNCTION => at(b"FUNCTION", i),
-        EVENT_MATCH => at(b"EVENT MATCH", i),
-        REFUSED => at(b"refused", i),
-        EQUALS => single(b'=', i),
-        QUOTE => single(b'"', i),
-        SPACE => single(b' ', i),
-        LINE_END => single(b'\n', i),
-        _ => 0,
+        SET => spell(b"SET"),
+        OK => spell(b"OK"),
+        TICK => spell(b"TICK"),
+        AGREE => spell(b"AGREE"),
+        FUNCTION => spell(b"FUNCTION"),
+        EVENT_MATCH => spell(b"EVENT MATCH"),
+        REFUSED => spell(b"refused"),
+        EQUALS => single(b'='),
+        QUOTE => single(b'"'),
+        SPACE => single(b' '),
+        LINE_END => single(b'\n'),
+        _ => spell(b""),
     }
-}
-
-// The lengths of the fixed words, by their numbers.
-const LENGTHS: [u8; 48] = [
-    14,
-    6,
-    6,
-    9,
-    3,
-    4,
-    5,
-    6,
-    5,
-    3,
-    2,
-    2,
-    2,
-    2,
-    2,
-    2,
-    2,
-    2,
-    2,
-    2,
-    1,
-    1,
-    1,
-    1,
-    1,
-    1,
-    1,
-    1,
-    1,
-    1,
-    1,
-    1,
-    1,
-    1,
-    1,
-    1,
-    1,
-    3,
-    2,
-    4,
-    5,
-    8,
-    11,
-    7,
-    1,
-    1,
-    1,
-    1,
-];
-
-// A byte as a count.
-fn wide(x: u8) -> usize
-    ensures { λ r. ⌜ r ≡ x ⌝ }
-{
-    x as usize
 }
 
 // How many bytes a fixed word has.
 pub fn word_length(which: u8) -> usize
     ensures { λ r. ⌜ r ≡ length (spelled which) ⌝ }
 {
-    let k = which as usize;
-    if k < LENGTHS.len() {
-        wide(LENGTHS[k])
-    } else {
-        0
-    }
+    let word = spelling(which);
+    word.length
 }
 
-// Whether a text goes on with the fixed word at a place, byte by byte.
-pub fn continues(text: &[u8], at: usize, which: u8) -> bool
-    ensures { λ r. ⌜ r ≡ startsWith (drop at (now (text .entry))) (spelled which) ⌝ }
+// Whether a text goes on with a word at a place, byte by byte.
+fn goes_on(text: &[u8], from: usize, word: &[u8]) -> bool
+    ensures { λ r. ⌜ r ≡ startsWith (drop from (now (text .entry))) (now (word .entry)) ⌝ }
 {
-    let n = word_length(which);
-    let mut place = at;
+    let mut place = from;
     let mut i = 0;
-    while i < n {
+    while i < word.len() {
         if text.len() <= place {
             return false;
         }
-        if text[place] != byte(which, i) {
+        if text[place] != word[i] {
             return false;
         }
         place += 1;
@@ -308,35 +272,30 @@ pub fn continues(text: &[u8], at: usize, which: u8) -> bool
     true
 }
 
-// Whether a part of a text is the fixed word, byte by byte.
+// Whether two byte strings are the same, byte by byte.
+fn same(part: &[u8], word: &[u8]) -> bool
+    ensures { λ r. ⌜ r ≡ sameBytes (now (part .entry)) (now (word .entry)) ⌝ }
+{
+    if part.len() != word.len() {
+        return false;
+    }
+    goes_on(part, 0, word)
+}
+
+// Whether a text goes on with the fixed word at a place.
+pub fn continues(text: &[u8], at: usize, which: u8) -> bool
+    ensures { λ r. ⌜ r ≡ startsWith (drop at (now (text .entry))) (spelled which) ⌝ }
+{
+    let word = spelling(which);
+    let bytes = word.bytes;
+    goes_on(text, at, &bytes[..word.length])
+}
+
+// Whether a part of a text is the fixed word.
 pub fn is_word(part: &[u8], which: u8) -> bool
     ensures { λ r. ⌜ r ≡ sameBytes (now (part .entry)) (spelled which) ⌝ }
 {
-    if part.len() != word_length(which) {
-        return false;
-    }
-    if at(part, 0) != byte(which, 0) {
-        return false;
-    }
-    continues(part, 0, which)
-}
-
-// Writes a fixed word into a lent buffer at a place; where it has no room, the buffer stays as it was.
-pub fn write_word(buffer: &mut [u8], at: usize, which: u8) -> Written
-    ensures { λ r. ⌜ r ≡ nextAfter (length (now (buffer .entry))) at (spelled which) ⌝ }
-    ensures { λ r. ⌜ now (buffer .exit) ≡ overwritten (now (buffer .entry)) at (spelled which) ⌝ }
-{
-    let n = word_length(which);
-    if buffer.len() < n {
-        return Written::Full;
-    }
-    if buffer.len() - n < at {
-        return Written::Full;
-    }
-    let mut i = 0;
-    while i < n {
-        buffer[at + i] = byte(which, i);
-        i += 1;
-    }
-    Written::Next(at + n)
+    let word = spelling(which);
+    let bytes = word.bytes;
+    same(part, &bytes[..word.length])
 }

@@ -12,21 +12,9 @@ returns c =
     let s = c .before .before in
     sym (past-end (s .args .table .now) (5027 + s .args .i * 35 + (3 + s .args .j)) (omega arith))
 
-row-requires : tie.Need-row-requires
-row-requires c κs = search needs
-
-add-word : tie.Need-add-word
-add-word c = search needs
-
-add-word-2 : tie.Need-add-word-2
-add-word-2 c = search needs
-
-word-requires : tie.Need-word-requires
-word-requires c κs = search needs
-
 returns-2 : tie.Need-returns-2
 returns-2 c = c .word .ensures ∙ c .before .row .ensures .same (3 + c .before .before .before .before .args .j)
 
 pub clause-field-spec : {M : Type 1} → statement M
 clause-field-spec =
-    tie.close (tie.spec returns row-requires add-word add-word-2 word-requires returns-2)
+    tie.close (tie.spec returns (λ c κs. search needs) (λ c. search needs) (λ c. search needs) (λ c κs. search needs) returns-2)

@@ -3,36 +3,6 @@ use borrow.Author.Needs.{needs}
 use Rattle.contract.proofs.head.Statement.{statement}
 use Rattle.contract.proofs.head.Tie as tie
 
-word-requires : tie.Need-word-requires
-word-requires c κs = search needs
-
-word-requires-2 : tie.Need-word-requires-2
-word-requires-2 c κs = search needs
-
-word-requires-3 : tie.Need-word-requires-3
-word-requires-3 c κs = search needs
-
-word-requires-4 : tie.Need-word-requires-4
-word-requires-4 c κs = search needs
-
-word-requires-5 : tie.Need-word-requires-5
-word-requires-5 c κs = search needs
-
-word-requires-6 : tie.Need-word-requires-6
-word-requires-6 c κs = search needs
-
-word-requires-7 : tie.Need-word-requires-7
-word-requires-7 c κs = search needs
-
-word-requires-8 : tie.Need-word-requires-8
-word-requires-8 c κs = search needs
-
-word-requires-9 : tie.Need-word-requires-9
-word-requires-9 c κs = search needs
-
-word-requires-10 : tie.Need-word-requires-10
-word-requires-10 c κs = search needs
-
 returns : tie.Need-returns
 returns c =
     λ i. record {
@@ -52,14 +22,14 @@ pub head-spec : {M : Type 1} → statement M
 head-spec =
     tie.close
     (tie.spec
-    word-requires
-    word-requires-2
-    word-requires-3
-    word-requires-4
-    word-requires-5
-    word-requires-6
-    word-requires-7
-    word-requires-8
-    word-requires-9
-    word-requires-10
+    (λ c κs. search needs)
+    (λ c κs. search needs)
+    (λ c κs. search needs)
+    (λ c κs. search needs)
+    (λ c κs. search needs)
+    (λ c κs. search needs)
+    (λ c κs. search needs)
+    (λ c κs. search needs)
+    (λ c κs. search needs)
+    (λ c κs. search needs)
     returns)

@@ -5,9 +5,6 @@ use Rattle.contract.proofs.Rows.{row-past, row-within, row-is}
 use Rattle.contract.proofs.row.Statement.{statement}
 use Rattle.contract.proofs.row.Tie as tie
 
-div-if1 : tie.Need-div-if1
-div-if1 c = search needs
-
 returns : tie.Need-returns
 returns c =
     let s = c .before in
@@ -25,4 +22,4 @@ returns-2 c =
     row-is (s .args .table .now) (s .args .start) (s .args .width) (s .args .i) (row-within _ _ _ (s .pre .0) (c .if1 .left))
 
 pub row-spec : {M : Type 1} → statement M
-row-spec = tie.close (tie.spec div-if1 returns mul-result add-result returns-2)
+row-spec = tie.close (tie.spec (λ c. search needs) returns mul-result add-result returns-2)

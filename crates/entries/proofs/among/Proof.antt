@@ -4,16 +4,10 @@ use Rattle.entries.proofs.Finds.{among-is}
 use Rattle.entries.proofs.among.Statement.{statement}
 use Rattle.entries.proofs.among.Tie as tie
 
-number-by-requires : tie.Need-number-by-requires
-number-by-requires c κs = search needs
-
-many-of-requires : tie.Need-many-of-requires
-many-of-requires c κs = search needs
-
 returns : tie.Need-returns
 returns c =
     let a = c .before .before .before .before .before .args in
     among-is (a .text .now) (a .notes .now) (a .word .now) (a .kind) _ _ (c .before .number-by .ensures) (c .many-of .ensures .0)
 
 pub among-spec : {M : Type 1} → statement M
-among-spec = tie.close (tie.spec number-by-requires many-of-requires returns)
+among-spec = tie.close (tie.spec (λ c κs. search needs) (λ c κs. search needs) returns)

@@ -1,7 +1,7 @@
 -- `entries::asset_target` meets its contract. Assumes nothing.
 use borrow.Author.Needs.{needs}
 use mathlib.Core.Path.{ap, _∙_}
-use Rattle.entries.specs.Pass.{assetTarget}
+use Rattle.entries.specs.Draft.{assetTarget}
 use Rattle.entries.proofs.Uses.{asset-party, asset-holder}
 use Rattle.entries.proofs.asset_target.Statement.{statement}
 use Rattle.entries.proofs.asset_target.Tie as tie

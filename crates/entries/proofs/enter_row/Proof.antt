@@ -5,12 +5,6 @@ use native.Mathlib.Omega.{arith}
 use Rattle.entries.proofs.enter_row.Statement.{statement}
 use Rattle.entries.proofs.enter_row.Tie as tie
 
-section-of-requires : tie.Need-section-of-requires
-section-of-requires c κs = search needs
-
-width-of-requires : tie.Need-width-of-requires
-width-of-requires c κs = search needs
-
 mul-write-row : tie.Need-mul-write-row
 mul-write-row c =
     record { fits = omega (arith, row-place _ (c .before .before .before .before .before .before .args .i) (c .before .before .width-of .ensures .1) (c .before .before .before .before .before .before .pre)) }
@@ -22,9 +16,6 @@ add-write-row c =
 write-row-requires : tie.Need-write-row-requires
 write-row-requires c κs =
     omega (arith, row-place _ (c .before .before .before .before .before .before .args .i) (c .before .before .width-of .ensures .1) (c .before .before .before .before .before .before .pre), c .before .before .before .section-of .ensures .1)
-
-same-length : tie.Need-same-length
-same-length c = search needs
 
 returns : tie.Need-returns
 returns c =
@@ -40,11 +31,11 @@ pub enter-row-spec : {M : Type 1} → statement M
 enter-row-spec =
     tie.close
     (tie.spec
-    section-of-requires
-    width-of-requires
+    (λ c κs. search needs)
+    (λ c κs. search needs)
     mul-write-row
     add-write-row
     write-row-requires
-    same-length
+    (λ c. search needs)
     returns
     returns-2)

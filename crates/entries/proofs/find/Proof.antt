@@ -4,28 +4,16 @@ use Rattle.entries.proofs.Slots.{find-set, find-kept}
 use Rattle.entries.proofs.find.Statement.{statement}
 use Rattle.entries.proofs.find.Tie as tie
 
-word-requires : tie.Need-word-requires
-word-requires c κs = search needs
-
-word-requires-2 : tie.Need-word-requires-2
-word-requires-2 c κs = search needs
-
-store-requires : tie.Need-store-requires
-store-requires c κs = search needs
-
-store-requires-2 : tie.Need-store-requires-2
-store-requires-2 c κs = search needs
-
-same-length : tie.Need-same-length
-same-length c = search needs
-
 returns : tie.Need-returns
 returns c =
-    let a = c .before .before .before .before .before .before .before .before .before .before .before .before .before .before .args in
-    find-set (a .notes .now) (a .question) (a .place) _ _ (c .before .before .before .before .before .before .before .before .before .before .before .word .ensures) (c .before .before .before .before .before .before .before .before .before .word2 .ensures) _ _ (c .before .before .before .before .before .before .before .before .if1 .taken) (c .before .before .before .before .before .before .store .ensures) (c .before .before .store2 .ensures)
-
-same-length-2 : tie.Need-same-length-2
-same-length-2 c = search needs
+    let c2 = c .before .before in
+    let c6 = c2 .before .before .before .before in
+    let c8 = c6 .before .before in
+    let c9 = c8 .before in
+    let c11 = c9 .before .before in
+    let c14 = c11 .before .before .before in
+    let a = c14 .args in
+    find-set (a .notes .now) (a .question) (a .place) _ _ (c11 .word .ensures) (c9 .word2 .ensures) _ _ (c8 .if1 .taken) (c6 .store .ensures) (c2 .store2 .ensures)
 
 returns-2 : tie.Need-returns-2
 returns-2 c =
@@ -36,11 +24,11 @@ pub find-spec : {M : Type 1} → statement M
 find-spec =
     tie.close
     (tie.spec
-    word-requires
-    word-requires-2
-    store-requires
-    store-requires-2
-    same-length
+    (λ c κs. search needs)
+    (λ c κs. search needs)
+    (λ c κs. search needs)
+    (λ c κs. search needs)
+    (λ c. search needs)
     returns
-    same-length-2
+    (λ c. search needs)
     returns-2)

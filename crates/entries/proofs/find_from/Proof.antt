@@ -5,7 +5,7 @@ use borrow.Author.Needs.{needs}
 use mathlib.Core.Path.{_≡_, sym, _∙_}
 use Prim.Native.Nat.{_-_, _≤_}
 use native.Mathlib.Omega.{arith}
-use Rattle.entries.specs.Pass.{findFrom}
+use Rattle.entries.specs.Draft.{findFrom}
 use Rattle.entries.proofs.Finds.{find-more, find-hit, find-end, skip-to, skip-most}
 
 abbrev Inv-loop : tie.InvT-loop

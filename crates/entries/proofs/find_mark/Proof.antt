@@ -4,7 +4,7 @@ use Rattle.entries.proofs.find_mark.Tie as tie
 use borrow.Author.Needs.{needs}
 use Prim.Native.Nat.{_-_, _≤_, _<_, _+_}
 use native.Mathlib.Omega.{arith}
-use Rattle.entries.specs.Pass.{Skips}
+use Rattle.entries.specs.Draft.{Skips}
 use Rattle.entries.proofs.Finds.{skip-none, skip-one, skip-two, skip-end}
 
 abbrev Inv-loop : tie.InvT-loop

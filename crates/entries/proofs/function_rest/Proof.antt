@@ -1,4 +1,4 @@
--- `entries::function_rest` meets its contract. Assumes nothing.
+-- src/lib.rt:870:40
 use borrow.Author.Needs.{needs}
 use Rattle.entries.proofs.Nodes.{rest-in, rest-out}
 use Rattle.entries.proofs.function_rest.Statement.{statement}
@@ -10,24 +10,21 @@ returns c =
     let c6 = c2 .before .before .before .before in
     let c10 = c6 .before .before .before .before in
     let c14 = c10 .before .before .before .before in
-    let c18 = c14 .before .before .before .before in
-    let c22 = c18 .before .before .before .before in
-    let c23 = c22 .before in
-    let c27 = c23 .before .before .before .before in
-    let c28 = c27 .before in
-    let c32 = c28 .before .before .before .before in
-    let c34 = c32 .before .before in
-    let c37 = c34 .before .before .before in
-    let r = c37 .args .rest in
-    rest-in (c37 .args .i) (c37 .args .table .now) (c37 .args .notes .now) (r .last) (r .first) (r .precondition) (r .body) (r .event) (r .events) _ _
-    _ _ _ _ _ _ _ _ (c34 .if1 .taken) (c28 .word .ensures) (c23 .word2 .ensures) (c32 .store .ensures) (c27 .store2 .ensures) (c22 .store3 .ensures)
-    (c18 .store4 .ensures) (c14 .store5 .ensures) (c10 .store6 .ensures) (c6 .store7 .ensures) (c2 .store8 .ensures)
+    let c16 = c14 .before .before in
+    let c17 = c16 .before in
+    let c18 = c17 .before in
+    let c21 = c18 .before .before .before in
+    let a = c21 .args in
+    let r = a .rest in
+    rest-in (a .i) (a .table .now) (a .notes .now) (r .last) (r .first) (r .precondition) (r .body) (r .event) (r .events) _ _ _ _ _ _
+    (c18 .if1 .taken) (c17 .word .ensures) (c16 .word2 .ensures) (c14 .store-three .ensures) (c10 .store-three2 .ensures) (c6 .store .ensures) (c2 .store2 .ensures)
 
 returns-2 : tie.Need-returns-2
 returns-2 c =
     let c3 = c .before .before .before in
-    let r = c3 .args .rest in
-    rest-out (c3 .args .i) (c3 .args .table .now) (c3 .args .notes .now) (r .last) (r .first) (r .precondition) (r .body) (r .event) (r .events) (c .if1 .left)
+    let a = c3 .args in
+    let r = a .rest in
+    rest-out (a .i) (a .table .now) (a .notes .now) (r .last) (r .first) (r .precondition) (r .body) (r .event) (r .events) (c .if1 .left)
 
 pub function-rest-spec : {M : Type 1} → statement M
 function-rest-spec =
@@ -37,15 +34,7 @@ function-rest-spec =
     (λ c. search needs)
     (λ c. search needs)
     (λ c κs. search needs)
-    (λ c. search needs)
     (λ c κs. search needs)
-    (λ c κs. search needs)
-    (λ c. search needs)
-    (λ c κs. search needs)
-    (λ c κs. search needs)
-    (λ c. search needs)
-    (λ c κs. search needs)
-    (λ c. search needs)
     (λ c κs. search needs)
     (λ c. search needs)
     (λ c κs. search needs)

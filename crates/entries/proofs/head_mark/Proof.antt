@@ -3,9 +3,6 @@ use borrow.Author.Needs.{needs}
 use Rattle.entries.proofs.head_mark.Statement.{statement}
 use Rattle.entries.proofs.head_mark.Tie as tie
 
-returns : tie.Need-returns
-returns c = search needs
-
 pub head-mark-spec : {M : Type 1} → statement M
 head-mark-spec =
     tie.close
@@ -15,4 +12,4 @@ head-mark-spec =
     (λ c. search needs)
     (λ c. search needs)
     (λ c. search needs)
-    returns)
+    (λ c. search needs))

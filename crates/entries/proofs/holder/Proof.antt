@@ -1,7 +1,7 @@
 -- `entries::holder` meets its contract. Assumes nothing.
 use borrow.Author.Needs.{needs}
 use mathlib.Core.Path.{ap, _∙_}
-use Rattle.entries.specs.Pass.{holderIn}
+use Rattle.entries.specs.Draft.{holderIn}
 use Rattle.entries.proofs.holder.Statement.{statement}
 use Rattle.entries.proofs.holder.Tie as tie
 

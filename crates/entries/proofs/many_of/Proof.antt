@@ -1,16 +1,9 @@
 -- `entries::many_of` meets its contract. Assumes nothing.
 use borrow.Author.Needs.{needs}
 use native.Mathlib.Omega.{arith}
-use Rattle.entries.specs.Pass.{limit}
 use Rattle.entries.proofs.Slots.{limit-most}
 use Rattle.entries.proofs.many_of.Statement.{statement}
 use Rattle.entries.proofs.many_of.Tie as tie
-
-word-requires : tie.Need-word-requires
-word-requires c κs = search needs
-
-limit-requires : tie.Need-limit-requires
-limit-requires c κs = search needs
 
 returns : tie.Need-returns
 returns c =
@@ -23,4 +16,4 @@ returns-2 c =
     (omega (arith, c .before .before .word .ensures, c .before .limit .ensures, c .if1 .left), omega (arith, c .before .limit .ensures, limit-most k))
 
 pub many-of-spec : {M : Type 1} → statement M
-many-of-spec = tie.close (tie.spec word-requires limit-requires returns returns-2)
+many-of-spec = tie.close (tie.spec (λ c κs. search needs) (λ c κs. search needs) returns returns-2)

@@ -12,15 +12,6 @@ returns : tie.Need-returns
 returns c =
     (no-mark (c .before .args .word .now) (c .if1 .taken), omega arith)
 
-mul-result : tie.Need-mul-result
-mul-result c = search needs
-
-sub-result : tie.Need-sub-result
-sub-result c = search needs
-
-shared-slice-read-result : tie.Need-shared-slice-read-result
-shared-slice-read-result c = search needs
-
 cast-result : tie.Need-cast-result
 cast-result c =
     let w = c .before .before .args .word .now in
@@ -41,9 +32,9 @@ mark-spec =
     tie.close
     (tie.spec
     returns
-    mul-result
-    sub-result
-    shared-slice-read-result
+    (λ c. search needs)
+    (λ c. search needs)
+    (λ c. search needs)
     cast-result
     add-result
     returns-2)

@@ -1,7 +1,7 @@
 -- `entries::name` meets its contract. Assumes nothing.
 use borrow.Author.Needs.{needs}
 use mathlib.Core.Path.{ap, _∙_}
-use Rattle.entries.specs.Pass.{nameIn}
+use Rattle.entries.specs.Draft.{nameIn}
 use Rattle.entries.proofs.Uses.{name-handler, name-value, name-parameter, name-stored}
 use Rattle.entries.proofs.name.Statement.{statement}
 use Rattle.entries.proofs.name.Tie as tie

@@ -4,19 +4,10 @@ use Rattle.entries.proofs.Finds.{number-is, number-none}
 use Rattle.entries.proofs.number_by.Statement.{statement}
 use Rattle.entries.proofs.number_by.Tie as tie
 
-many-of-requires : tie.Need-many-of-requires
-many-of-requires c κs = search needs
-
 returns : tie.Need-returns
 returns c =
     let a = c .before .before .before .before .before .args in
     number-none (a .text .now) (a .notes .now) (a .word .now) (a .kind) _ (c .before .many-of .ensures .0) (c .if1 .taken)
-
-slot-of-requires : tie.Need-slot-of-requires
-slot-of-requires c κs = search needs
-
-find-from-requires : tie.Need-find-from-requires
-find-from-requires c κs = search needs
 
 returns-2 : tie.Need-returns-2
 returns-2 c =
@@ -25,4 +16,4 @@ returns-2 c =
 
 pub number-by-spec : {M : Type 1} → statement M
 number-by-spec =
-    tie.close (tie.spec many-of-requires returns slot-of-requires find-from-requires returns-2)
+    tie.close (tie.spec (λ c κs. search needs) returns (λ c κs. search needs) (λ c κs. search needs) returns-2)

@@ -1,18 +1,9 @@
 -- `entries::number_of` meets its contract. Assumes nothing.
 use borrow.Author.Needs.{needs}
 use mathlib.Core.Path.{ap, _∙_}
-use Rattle.entries.specs.Pass.{numberIn}
+use Rattle.entries.specs.Draft.{numberIn}
 use Rattle.entries.proofs.number_of.Statement.{statement}
 use Rattle.entries.proofs.number_of.Tie as tie
-
-between-requires : tie.Need-between-requires
-between-requires c κs = search needs
-
-mark-requires : tie.Need-mark-requires
-mark-requires c κs = search needs
-
-number-by-requires : tie.Need-number-by-requires
-number-by-requires c κs = search needs
 
 returns : tie.Need-returns
 returns c =
@@ -20,4 +11,4 @@ returns c =
     c .number-by .ensures ∙ ap (numberIn (a .text .now) (a .notes .now) (a .kind)) (c .before .before .between .ensures)
 
 pub number-of-spec : {M : Type 1} → statement M
-number-of-spec = tie.close (tie.spec between-requires mark-requires number-by-requires returns)
+number-of-spec = tie.close (tie.spec (λ c κs. search needs) (λ c κs. search needs) (λ c κs. search needs) returns)

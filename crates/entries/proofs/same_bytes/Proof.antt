@@ -26,19 +26,10 @@ loop-holds : tie.Need-loop-holds Inv-loop μ-loop
 loop-holds c =
     (c .if1 .left, refl)
 
-shared-slice-read-if2 : tie.Need-shared-slice-read-if2 Inv-loop μ-loop
-shared-slice-read-if2 c = search needs
-
 shared-slice-read-if2-2 : tie.Need-shared-slice-read-if2-2 Inv-loop μ-loop
 shared-slice-read-if2-2 c =
     let l = c .before .before .before .loop in
     omega (arith, l .inv .0, c .before .before .loop-test .taken)
-
-add-i : tie.Need-add-i Inv-loop μ-loop
-add-i c = search needs
-
-loop-less : tie.Need-loop-less Inv-loop μ-loop
-loop-less c = search needs
 
 loop-again : tie.Need-loop-again Inv-loop μ-loop
 loop-again c =
@@ -63,10 +54,10 @@ same-bytes-spec =
     μ-loop
     returns
     loop-holds
-    shared-slice-read-if2
+    (λ c. search needs)
     shared-slice-read-if2-2
-    add-i
-    loop-less
+    (λ c. search needs)
+    (λ c. search needs)
     loop-again
     returns-2
     returns-3)

@@ -6,27 +6,6 @@ use Rattle.entries.proofs.Slots.{past-slots}
 use Rattle.entries.proofs.slot_of.Statement.{statement}
 use Rattle.entries.proofs.slot_of.Tie as tie
 
-returns : tie.Need-returns
-returns c = search needs
-
-returns-2 : tie.Need-returns-2
-returns-2 c = search needs
-
-returns-3 : tie.Need-returns-3
-returns-3 c = search needs
-
-returns-4 : tie.Need-returns-4
-returns-4 c = search needs
-
-returns-5 : tie.Need-returns-5
-returns-5 c = search needs
-
-returns-6 : tie.Need-returns-6
-returns-6 c = search needs
-
-returns-7 : tie.Need-returns-7
-returns-7 c = search needs
-
 returns-8 : tie.Need-returns-8
 returns-8 c =
     (past-slots (c .before .args .kind) (past-all 7 0 (c .before .args .kind) (c .match .rest) (omega arith)), omega arith)
@@ -34,4 +13,4 @@ returns-8 c =
 pub slot-of-spec : {M : Type 1} → statement M
 slot-of-spec =
     tie.close
-    (tie.spec returns returns-2 returns-3 returns-4 returns-5 returns-6 returns-7 returns-8)
+    (tie.spec (λ c. search needs) (λ c. search needs) (λ c. search needs) (λ c. search needs) (λ c. search needs) (λ c. search needs) (λ c. search needs) returns-8)

@@ -5,21 +5,9 @@ use lib.Seq.{set-out}
 use Rattle.entries.proofs.store.Statement.{statement}
 use Rattle.entries.proofs.store.Tie as tie
 
-mul-words : tie.Need-mul-words
-mul-words c = search needs
-
-slice-write-words : tie.Need-slice-write-words
-slice-write-words c = search needs
-
-same-length : tie.Need-same-length
-same-length c = search needs
-
-returns : tie.Need-returns
-returns c = search needs
-
 returns-2 : tie.Need-returns-2
 returns-2 c =
     sym (set-out (c .before .args .words .now) (c .before .args .i) _ (c .if1 .left))
 
 pub store-spec : {M : Type 1} → statement M
-store-spec = tie.close (tie.spec mul-words slice-write-words same-length returns returns-2)
+store-spec = tie.close (tie.spec (λ c. search needs) (λ c. search needs) (λ c. search needs) (λ c. search needs) returns-2)

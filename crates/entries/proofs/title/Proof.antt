@@ -2,7 +2,7 @@
 use borrow.Author.Needs.{needs}
 use mathlib.Core.Path.{ap, _∙_}
 use Rattle.contract.specs.Table.{nameStart}
-use Rattle.entries.specs.Pass.{rowed, title}
+use Rattle.entries.specs.Draft.{rowed, title}
 use Rattle.entries.proofs.title.Statement.{statement}
 use Rattle.entries.proofs.title.Tie as tie
 

@@ -1,7 +1,7 @@
 -- `entries::value_target` meets its contract. Assumes nothing.
 use borrow.Author.Needs.{needs}
 use mathlib.Core.Path.{ap, _∙_}
-use Rattle.entries.specs.Pass.{valueTarget}
+use Rattle.entries.specs.Draft.{valueTarget}
 use Rattle.entries.proofs.Uses.{value-party, value-field, value-unknown}
 use Rattle.entries.proofs.value_target.Statement.{statement}
 use Rattle.entries.proofs.value_target.Tie as tie

@@ -18,34 +18,13 @@ abbrev μ-loop : tie.MeasureT-loop
 μ-loop table₀ at word i₀ table i =
     length word - i
 
-store-requires : tie.Need-store-requires Inv-loop μ-loop
-store-requires c κs = search needs
-
 loop-holds : tie.Need-loop-holds Inv-loop μ-loop
 loop-holds c =
     (omega arith, refl, row-none (c .before .before .store .last .0) (c .before .before .before .before .before .before .args .word .now) (c .before .before .before .before .before .before .args .at))
 
-add-store : tie.Need-add-store Inv-loop μ-loop
-add-store c = search needs
-
-add-store-2 : tie.Need-add-store-2 Inv-loop μ-loop
-add-store-2 c = search needs
-
-shared-slice-read-store : tie.Need-shared-slice-read-store Inv-loop μ-loop
-shared-slice-read-store c = search needs
-
 cast-store : tie.Need-cast-store Inv-loop μ-loop
 cast-store c =
     omega (arith, c .shared-slice-known2 .given (c .before .before .before .loop .i))
-
-store-requires-2 : tie.Need-store-requires-2 Inv-loop μ-loop
-store-requires-2 c κs = search needs
-
-add-i : tie.Need-add-i Inv-loop μ-loop
-add-i c = search needs
-
-loop-less : tie.Need-loop-less Inv-loop μ-loop
-loop-less c = search needs
 
 loop-again : tie.Need-loop-again Inv-loop μ-loop
 loop-again c =
@@ -71,15 +50,15 @@ write-row-spec =
     (tie.spec
     Inv-loop
     μ-loop
-    store-requires
+    (λ c κs. search needs)
     loop-holds
-    add-store
-    add-store-2
-    shared-slice-read-store
+    (λ c. search needs)
+    (λ c. search needs)
+    (λ c. search needs)
     cast-store
-    store-requires-2
-    add-i
-    loop-less
+    (λ c κs. search needs)
+    (λ c. search needs)
+    (λ c. search needs)
     loop-again
     same-length
     returns)

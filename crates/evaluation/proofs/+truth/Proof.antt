@@ -33,18 +33,6 @@ under t = and 6 truth-kinds.ps (falls 6 truth-kinds.ps _<_ μ t) truth.Pre
 abbrev calls : ℕ → lts.Claims
 calls t = (run-at-reads.Asked, run-at-reads.Learnt, node-at-reads.Asked, node-at-reads.Learnt, simple-reads.Asked, simple-reads.Learnt, turned-reads.Asked, turned-reads.Learnt, left-of-reads.Asked, left-of-reads.Learnt, under t, truth.Post, both-reads.Asked, both-reads.Learnt)
 
-run-at-requires : (t : ℕ) → lts.Need-run-at-requires (calls t) (at t) truth.Post
-run-at-requires t c κs = tt
-
-node-at-requires : (t : ℕ) → lts.Need-node-at-requires (calls t) (at t) truth.Post
-node-at-requires t c κs = tt
-
-simple-requires : (t : ℕ) → lts.Need-simple-requires (calls t) (at t) truth.Post
-simple-requires t c κs = tt
-
-turned-requires : (t : ℕ) → lts.Need-turned-requires (calls t) (at t) truth.Post
-turned-requires t c κs = tt
-
 returns : (t : ℕ) → lts.Need-returns (calls t) (at t) truth.Post
 returns t c = turned-below _ _ _ _ (c .before .before .before .before .run-at .ensures) _ _ (c .turned .ensures) (simple-at _ _ _ _ (c .before .before .before .node-at .ensures) _ (c .before .before .if1 .taken) (c .before .simple .ensures))
 
@@ -57,47 +45,62 @@ returns-3 t c = refused-below _ _ _ _ (c .before .before .before .before .run-at
 sub-last : (t : ℕ) → lts.Need-sub-last (calls t) (at t) truth.Post
 sub-last t c = pos-of-ne-zero (c .if3 .left)
 
-left-of-requires : (t : ℕ) → lts.Need-left-of-requires (calls t) (at t) truth.Post
-left-of-requires t c κs = tt
-
 truth-requires : (t : ℕ) → lts.Need-truth-requires (calls t) (at t) truth.Post
 truth-requires t c κs = (omega (arith, c .before .before .before .before .before .before .before .pre .0, c .left-of .ensures, pos-of-ne-zero (c .before .if3 .left), run-below _ _ _ (c .before .before .before .before .before .run-at .ensures) .low), tt)
-
-enum-known-one : (t : ℕ) → lts.Need-enum-known-one (calls t) (at t) truth.Post
-enum-known-one t c = search needs
 
 enum-told : (t : ℕ) → lts.Need-enum-told (calls t) (at t) truth.Post
 enum-told t c = search needs
 
 returns-4 : (t : ℕ) → lts.Need-returns-4 (calls t) (at t) truth.Post
-returns-4 t c = refused-below _ _ _ _ (c .before .before .before .before .before .before .before .before .run-at .ensures) _ _ (c .enum-told .given .1)
-    (refused-left _ _ _ _ (c .before .before .before .before .before .before .before .node-at .ensures) _ _ (c .before .before .before .before .before .before .if1 .left) (c .before .before .before .before .before .if2 .left) (run-below _ _ _ (c .before .before .before .before .before .before .before .before .run-at .ensures) .plain) (c .before .before .before .before .if3 .left) (c .before .before .before .left-of .ensures) (c .before .before .truth .ensures) _ (c .enum-told .given .1))
+returns-4 t c =
+    let c2 = c .before .before in
+    let c3 = c2 .before in
+    let c4 = c3 .before in
+    let c5 = c4 .before in
+    let c6 = c5 .before in
+    let c7 = c6 .before in
+    let c8 = c7 .before in
+    refused-below _ _ _ _ (c8 .run-at .ensures) _ _ (c .enum-told .given .1)
+    (refused-left _ _ _ _ (c7 .node-at .ensures) _ _ (c6 .if1 .left) (c5 .if2 .left) (run-below _ _ _ (c8 .run-at .ensures) .plain) (c4 .if3 .left) (c3 .left-of .ensures) (c2 .truth .ensures) _ (c .enum-told .given .1))
 
 truth-requires-2 : (t : ℕ) → lts.Need-truth-requires-2 (calls t) (at t) truth.Post
-truth-requires-2 t c κs = (omega (arith, c .before .before .before .before .before .before .before .before .before .before .before .pre .0, pos-of-ne-zero (c .before .before .before .before .before .if3 .left), run-below _ _ _ (c .before .before .before .before .before .before .before .before .before .run-at .ensures) .low), tt)
-
-enum-known-other : (t : ℕ) → lts.Need-enum-known-other (calls t) (at t) truth.Post
-enum-known-other t c = search needs
-
-enum-told-2 : (t : ℕ) → lts.Need-enum-told-2 (calls t) (at t) truth.Post
-enum-told-2 t c = search needs
+truth-requires-2 t c κs =
+    let c5 = c .before .before .before .before .before in
+    let c9 = c5 .before .before .before .before in
+    let c11 = c9 .before .before in
+    (omega (arith, c11 .pre .0, pos-of-ne-zero (c5 .if3 .left), run-below _ _ _ (c9 .run-at .ensures) .low), tt)
 
 returns-5 : (t : ℕ) → lts.Need-returns-5 (calls t) (at t) truth.Post
-returns-5 t c = refused-below _ _ _ _ (c .before .before .before .before .before .before .before .before .before .before .before .before .run-at .ensures) _ _ (c .enum-told2 .given .1)
-    (refused-right _ _ _ _ (c .before .before .before .before .before .before .before .before .before .before .before .node-at .ensures) _ _ (c .before .before .before .before .before .before .before .before .before .before .if1 .left) (c .before .before .before .before .before .before .before .before .before .if2 .left) (run-below _ _ _ (c .before .before .before .before .before .before .before .before .before .before .before .before .run-at .ensures) .plain) (c .before .before .before .before .before .before .before .before .if3 .left) (c .before .before .before .before .before .before .before .left-of .ensures) (c .before .before .before .before .before .before .truth .ensures) _ _ _
-    (c .before .before .before .before .one .given .1) (c .enum-told2 .given .1) (c .before .before .truth2 .ensures))
-
-both-requires : (t : ℕ) → lts.Need-both-requires (calls t) (at t) truth.Post
-both-requires t c κs = tt
-
-turned-requires-2 : (t : ℕ) → lts.Need-turned-requires-2 (calls t) (at t) truth.Post
-turned-requires-2 t c κs = tt
+returns-5 t c =
+    let c2 = c .before .before in
+    let c4 = c2 .before .before in
+    let c6 = c4 .before .before in
+    let c7 = c6 .before in
+    let c8 = c7 .before in
+    let c9 = c8 .before in
+    let c10 = c9 .before in
+    let c11 = c10 .before in
+    let c12 = c11 .before in
+    refused-below _ _ _ _ (c12 .run-at .ensures) _ _ (c .enum-told2 .given .1)
+    (refused-right _ _ _ _ (c11 .node-at .ensures) _ _ (c10 .if1 .left) (c9 .if2 .left) (run-below _ _ _ (c12 .run-at .ensures) .plain) (c8 .if3 .left) (c7 .left-of .ensures) (c6 .truth .ensures) _ _ _ (c4 .one .given .1) (c .enum-told2 .given .1) (c2 .truth2 .ensures))
 
 returns-6 : (t : ℕ) → lts.Need-returns-6 (calls t) (at t) truth.Post
-returns-6 t c = turned-below _ _ _ _ (c .before .before .before .before .before .before .before .before .before .before .before .before .before .before .before .run-at .ensures) _ _ (c .turned2 .ensures)
-    (both-hold _ _ _ _ (c .before .before .before .before .before .before .before .before .before .before .before .before .before .before .node-at .ensures) _ _ (c .before .before .before .before .before .before .before .before .before .before .before .before .before .if1 .left) (c .before .before .before .before .before .before .before .before .before .before .before .before .if2 .left) (run-below _ _ _ (c .before .before .before .before .before .before .before .before .before .before .before .before .before .before .before .run-at .ensures) .plain) (c .before .before .before .before .before .before .before .before .before .before .before .if3 .left) (c .before .before .before .before .before .before .before .before .before .before .left-of .ensures) (c .before .before .before .before .before .before .before .before .before .truth .ensures) _ _ _ _
-    (c .before .before .before .before .before .before .before .one .given .1) (c .before .before .before .other .given .1) (c .before .before .before .before .before .truth2 .ensures) (c .before .both .ensures))
+returns-6 t c =
+    let c3 = c .before .before .before in
+    let c5 = c3 .before .before in
+    let c7 = c5 .before .before in
+    let c9 = c7 .before .before in
+    let c10 = c9 .before in
+    let c11 = c10 .before in
+    let c12 = c11 .before in
+    let c13 = c12 .before in
+    let c14 = c13 .before in
+    let c15 = c14 .before in
+    turned-below _ _ _ _ (c15 .run-at .ensures) _ _ (c .turned2 .ensures)
+    (both-hold _ _ _ _ (c14 .node-at .ensures) _ _ (c13 .if1 .left) (c12 .if2 .left) (run-below _ _ _ (c15 .run-at .ensures) .plain) (c11 .if3 .left) (c10 .left-of .ensures) (c9 .truth .ensures) _ _ _ _ (c7 .one .given .1) (c3 .other .given .1) (c5 .truth2 .ensures) (c .before .both .ensures))
 
 pub +truth-spec : {M : Type 1} → statement M
 +truth-spec =
-    close μ λ t. lts.spec (calls t) (at t) truth.Post (run-at-requires t) (node-at-requires t) (simple-requires t) (turned-requires t) (returns t) (returns-2 t) (returns-3 t) (sub-last t) (left-of-requires t) (truth-requires t) (enum-known-one t) (enum-told t) (returns-4 t) (truth-requires-2 t) (enum-known-other t) (enum-told-2 t) (returns-5 t) (both-requires t) (turned-requires-2 t) (returns-6 t)
+    close μ λ t. lts.spec (calls t) (at t) truth.Post (λ c κs. tt) (λ c κs. tt) (λ c κs. tt) (λ c κs. tt) (returns t)
+    (returns-2 t) (returns-3 t) (sub-last t) (λ c κs. tt) (truth-requires t) (λ c. search needs) (enum-told t) (returns-4 t)
+    (truth-requires-2 t) (λ c. search needs) (λ c. search needs) (returns-5 t) (λ c κs. tt) (λ c κs. tt) (returns-6 t)

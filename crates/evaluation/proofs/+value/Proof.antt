@@ -31,12 +31,6 @@ under t = and 6 value-kinds.ps (falls 6 value-kinds.ps _<_ μ t) value.Pre
 abbrev calls : ℕ → lts.Claims
 calls t = (node-at-reads.Asked, node-at-reads.Learnt, leaf-reads.Asked, leaf-reads.Learnt, left-of-reads.Asked, left-of-reads.Learnt, under t, value.Post, operator-of-reads.Asked, operator-of-reads.Learnt, apply-reads.Asked, apply-reads.Learnt)
 
-node-at-requires : (t : ℕ) → lts.Need-node-at-requires (calls t) (at t) value.Post
-node-at-requires t c κs = tt
-
-leaf-requires : (t : ℕ) → lts.Need-leaf-requires (calls t) (at t) value.Post
-leaf-requires t c κs = tt
-
 returns : (t : ℕ) → lts.Need-returns (calls t) (at t) value.Post
 returns t c = leaf-at _ _ _ _ (c .before .before .node-at .ensures) _ (c .before .if1 .taken) (c .leaf .ensures)
 
@@ -49,44 +43,55 @@ returns-3 t c = first-at _ _ _ _ (c .before .before .before .node-at .ensures) (
 sub-last : (t : ℕ) → lts.Need-sub-last (calls t) (at t) value.Post
 sub-last t c = pos-of-ne-zero (c .if3 .left)
 
-left-of-requires : (t : ℕ) → lts.Need-left-of-requires (calls t) (at t) value.Post
-left-of-requires t c κs = tt
-
 value-requires : (t : ℕ) → lts.Need-value-requires (calls t) (at t) value.Post
 value-requires t c κs = (omega (arith, c .before .before .before .before .before .before .pre .0, c .left-of .ensures, pos-of-ne-zero (c .before .if3 .left)), tt)
-
-enum-known-first : (t : ℕ) → lts.Need-enum-known-first (calls t) (at t) value.Post
-enum-known-first t c = search needs
 
 enum-told : (t : ℕ) → lts.Need-enum-told (calls t) (at t) value.Post
 enum-told t c = search needs
 
 returns-4 : (t : ℕ) → lts.Need-returns-4 (calls t) (at t) value.Post
-returns-4 t c = refused-left _ _ _ _ (c .before .before .before .before .before .before .before .node-at .ensures) _ _ (c .before .before .before .before .before .before .if1 .left) (c .before .before .before .before .before .if2 .left) (c .before .before .before .before .if3 .left) (c .before .before .before .left-of .ensures) (c .before .before .value .ensures) _ (c .enum-told .given .1)
+returns-4 t c =
+    let c2 = c .before .before in
+    let c3 = c2 .before in
+    let c4 = c3 .before in
+    let c5 = c4 .before in
+    let c6 = c5 .before in
+    let c7 = c6 .before in
+    refused-left _ _ _ _ (c7 .node-at .ensures) _ _ (c6 .if1 .left) (c5 .if2 .left) (c4 .if3 .left) (c3 .left-of .ensures) (c2 .value .ensures) _
+    (c .enum-told .given .1)
 
 value-requires-2 : (t : ℕ) → lts.Need-value-requires-2 (calls t) (at t) value.Post
 value-requires-2 t c κs = (omega (arith, c .before .before .before .before .before .before .before .before .before .before .pre .0, pos-of-ne-zero (c .before .before .before .before .before .if3 .left)), tt)
 
-enum-known-second : (t : ℕ) → lts.Need-enum-known-second (calls t) (at t) value.Post
-enum-known-second t c = search needs
-
-enum-told-2 : (t : ℕ) → lts.Need-enum-told-2 (calls t) (at t) value.Post
-enum-told-2 t c = search needs
-
 returns-5 : (t : ℕ) → lts.Need-returns-5 (calls t) (at t) value.Post
-returns-5 t c = refused-right _ _ _ _ (c .before .before .before .before .before .before .before .before .before .before .before .node-at .ensures) _ _ (c .before .before .before .before .before .before .before .before .before .before .if1 .left) (c .before .before .before .before .before .before .before .before .before .if2 .left) (c .before .before .before .before .before .before .before .before .if3 .left) (c .before .before .before .before .before .before .before .left-of .ensures) (c .before .before .before .before .before .before .value .ensures) _ _ _
-    (c .before .before .before .before .first .given .1) (c .enum-told2 .given .1) (c .before .before .value2 .ensures)
-
-operator-of-requires : (t : ℕ) → lts.Need-operator-of-requires (calls t) (at t) value.Post
-operator-of-requires t c κs = tt
-
-apply-requires : (t : ℕ) → lts.Need-apply-requires (calls t) (at t) value.Post
-apply-requires t c κs = tt
+returns-5 t c =
+    let c2 = c .before .before in
+    let c4 = c2 .before .before in
+    let c6 = c4 .before .before in
+    let c7 = c6 .before in
+    let c8 = c7 .before in
+    let c9 = c8 .before in
+    let c10 = c9 .before in
+    let c11 = c10 .before in
+    refused-right _ _ _ _ (c11 .node-at .ensures) _ _ (c10 .if1 .left) (c9 .if2 .left) (c8 .if3 .left) (c7 .left-of .ensures) (c6 .value .ensures) _ _
+    _ (c4 .first .given .1) (c .enum-told2 .given .1) (c2 .value2 .ensures)
 
 returns-6 : (t : ℕ) → lts.Need-returns-6 (calls t) (at t) value.Post
-returns-6 t c = applied-both _ _ _ _ (c .before .before .before .before .before .before .before .before .before .before .before .before .before .before .node-at .ensures) _ _ (c .before .before .before .before .before .before .before .before .before .before .before .before .before .if1 .left) (c .before .before .before .before .before .before .before .before .before .before .before .before .if2 .left) (c .before .before .before .before .before .before .before .before .before .before .before .if3 .left) (c .before .before .before .before .before .before .before .before .before .before .left-of .ensures) (c .before .before .before .before .before .before .before .before .before .value .ensures) _ _ _ _ _
-    (c .before .before .before .before .before .before .before .first .given .1) (c .before .before .before .second .given .1) (c .before .before .before .before .before .value2 .ensures) (c .before .operator-of .ensures) (c .apply .ensures)
+returns-6 t c =
+    let c3 = c .before .before .before in
+    let c5 = c3 .before .before in
+    let c7 = c5 .before .before in
+    let c9 = c7 .before .before in
+    let c10 = c9 .before in
+    let c11 = c10 .before in
+    let c12 = c11 .before in
+    let c13 = c12 .before in
+    let c14 = c13 .before in
+    applied-both _ _ _ _ (c14 .node-at .ensures) _ _ (c13 .if1 .left) (c12 .if2 .left) (c11 .if3 .left) (c10 .left-of .ensures) (c9 .value .ensures) _
+    _ _ _ _ (c7 .first .given .1) (c3 .second .given .1) (c5 .value2 .ensures) (c .before .operator-of .ensures) (c .apply .ensures)
 
 pub +value-spec : {M : Type 1} → statement M
 +value-spec =
-    close μ λ t. lts.spec (calls t) (at t) value.Post (node-at-requires t) (leaf-requires t) (returns t) (returns-2 t) (returns-3 t) (sub-last t) (left-of-requires t) (value-requires t) (enum-known-first t) (enum-told t) (returns-4 t) (value-requires-2 t) (enum-known-second t) (enum-told-2 t) (returns-5 t) (operator-of-requires t) (apply-requires t) (returns-6 t)
+    close μ λ t. lts.spec (calls t) (at t) value.Post (λ c κs. tt) (λ c κs. tt) (returns t) (returns-2 t) (returns-3 t) (sub-last t)
+    (λ c κs. tt) (value-requires t) (λ c. search needs) (enum-told t) (returns-4 t) (value-requires-2 t) (λ c. search needs)
+    (λ c. search needs) (returns-5 t) (λ c κs. tt) (λ c κs. tt) (returns-6 t)

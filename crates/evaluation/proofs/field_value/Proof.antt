@@ -10,20 +10,11 @@ use borrow.Author.Needs.{needs}
 use Rattle.evaluation.proofs.field_value.Statement.{statement}
 use Rattle.evaluation.proofs.field_value.Tie as tie
 
-byte-at-requires : tie.Need-byte-at-requires
-byte-at-requires c κs = search needs
-
 returns : tie.Need-returns
 returns c = field-none _ _ _ (sym (c .before .byte-at .ensures) ∙ c .if1 .taken)
 
-integer-at-requires : tie.Need-integer-at-requires
-integer-at-requires c κs = search needs
-
 returns-2 : tie.Need-returns-2
 returns-2 c = ap (λ (z : ℤ). Is (Integer z)) (toZ-ofZ (record { sfits = c .integer-at .ok }) ∙ c .integer-at .ensures) ∙ field-integer _ _ _ (sym (c .before .before .before .byte-at .ensures) ∙ c .before .if2 .taken)
-
-byte-at-requires-2 : tie.Need-byte-at-requires-2
-byte-at-requires-2 c κs = search needs
 
 returns-3 : tie.Need-returns-3
 returns-3 c = let e = c .before .before .before .byte-at .ensures in
@@ -32,4 +23,4 @@ returns-3 c = let e = c .before .before .before .byte-at .ensures in
 pub field-value-spec : {M : Type 1} → statement M
 field-value-spec =
     tie.close
-    (tie.spec byte-at-requires returns integer-at-requires returns-2 byte-at-requires-2 returns-3)
+    (tie.spec (λ c κs. search needs) returns (λ c κs. search needs) returns-2 (λ c κs. search needs) returns-3)

@@ -6,33 +6,6 @@ use borrow.Author.Needs.{needs}
 use Rattle.evaluation.proofs.leaf.Statement.{statement}
 use Rattle.evaluation.proofs.leaf.Tie as tie
 
-constant-requires : tie.Need-constant-requires
-constant-requires c κs = search needs
-
-string-requires : tie.Need-string-requires
-string-requires c κs = search needs
-
-natural-requires : tie.Need-natural-requires
-natural-requires c κs = search needs
-
-field-value-requires : tie.Need-field-value-requires
-field-value-requires c κs = search needs
-
-integer-at-requires : tie.Need-integer-at-requires
-integer-at-requires c κs = search needs
-
-amount-at-requires : tie.Need-amount-at-requires
-amount-at-requires c κs = search needs
-
-natural-requires-2 : tie.Need-natural-requires-2
-natural-requires-2 c κs = search needs
-
-parameter-amount-requires : tie.Need-parameter-amount-requires
-parameter-amount-requires c κs = search needs
-
-natural-requires-3 : tie.Need-natural-requires-3
-natural-requires-3 c κs = search needs
-
 returns : tie.Need-returns
 returns c = leaf-constant _ _ _ _ (c .before .match .keys1) (c .constant .ensures)
 
@@ -62,20 +35,6 @@ pub leaf-spec : {M : Type 1} → statement M
 leaf-spec =
     tie.close
     (tie.spec
-    constant-requires
-    string-requires
-    natural-requires
-    field-value-requires
-    integer-at-requires
-    amount-at-requires
-    natural-requires-2
-    parameter-amount-requires
-    natural-requires-3
-    returns
-    returns-2
-    returns-3
-    returns-4
-    returns-5
-    returns-6
-    returns-7
-    returns-8)
+    (λ c κs. search needs) (λ c κs. search needs) (λ c κs. search needs) (λ c κs. search needs) (λ c κs. search needs)
+    (λ c κs. search needs) (λ c κs. search needs) (λ c κs. search needs) (λ c κs. search needs) returns returns-2 returns-3 returns-4
+    returns-5 returns-6 returns-7 returns-8)

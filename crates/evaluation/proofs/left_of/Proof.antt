@@ -7,12 +7,6 @@ use borrow.Author.Needs.{needs}
 use Rattle.evaluation.proofs.left_of.Statement.{statement}
 use Rattle.evaluation.proofs.left_of.Tie as tie
 
-node-at-requires : tie.Need-node-at-requires
-node-at-requires c κs = search needs
-
-sub-result : tie.Need-sub-result
-sub-result c = search needs
-
 returns : tie.Need-returns
 returns c = ap (λ (n : Node). c .before .before .before .args .last - n .size) (c .before .node-at .ensures)
 
@@ -21,4 +15,4 @@ returns-2 c = let z : _≡_ {A = ℕ} 0 (c .before .before .before .args .last -
     z ∙ ap (λ (n : Node). c .before .before .before .args .last - n .size) (c .before .node-at .ensures)
 
 pub left-of-spec : {M : Type 1} → statement M
-left-of-spec = tie.close (tie.spec node-at-requires sub-result returns returns-2)
+left-of-spec = tie.close (tie.spec (λ c κs. search needs) (λ c. search needs) returns returns-2)

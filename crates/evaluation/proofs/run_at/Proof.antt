@@ -2,7 +2,7 @@
 use mathlib.Core.Path.{_≡_, refl, sym, _∙_}
 use mathlib.Core.Bool.{false}
 use native.Mathlib.Omega.{arith}
-use Rattle.evaluation.specs.Nodes.{runFrom}
+use Rattle.evaluation.specs.Private.{runFrom}
 use Rattle.evaluation.proofs.Truths.{run-on, run-stops, run-first}
 use borrow.Author.Needs.{needs}
 use Rattle.evaluation.proofs.run_at.Statement.{statement}
@@ -17,15 +17,6 @@ abbrev μ-loop : tie.MeasureT-loop
 loop-holds : tie.Need-loop-holds Inv-loop μ-loop
 loop-holds c = refl
 
-node-at-requires : tie.Need-node-at-requires Inv-loop μ-loop
-node-at-requires c κs = search needs
-
-sub-end : tie.Need-sub-end Inv-loop μ-loop
-sub-end c = search needs
-
-loop-less : tie.Need-loop-less Inv-loop μ-loop
-loop-less c = search needs
-
 loop-again : tie.Need-loop-again Inv-loop μ-loop
 loop-again c = sym (run-on _ _ _ _ (c .before .before .node-at .ensures) (c .before .before .before .loop-test .taken) (c .if1 .taken)) ∙ c .before .before .before .before .loop .inv
 
@@ -39,12 +30,4 @@ pub run-at-spec : {M : Type 1} → statement M
 run-at-spec =
     tie.close
     (tie.spec
-    Inv-loop
-    μ-loop
-    loop-holds
-    node-at-requires
-    sub-end
-    loop-less
-    loop-again
-    returns
-    returns-2)
+    Inv-loop μ-loop loop-holds (λ c κs. search needs) (λ c. search needs) (λ c. search needs) loop-again returns returns-2)

@@ -4,9 +4,6 @@ use borrow.Author.Needs.{needs}
 use Rattle.evaluation.proofs.simple.Statement.{statement}
 use Rattle.evaluation.proofs.simple.Tie as tie
 
-node-at-requires : tie.Need-node-at-requires
-node-at-requires c κs = search needs
-
 returns : tie.Need-returns
 returns c = simple-true _ _ _ _ (c .before .node-at .ensures) (c .if1 .taken)
 
@@ -19,9 +16,6 @@ returns-3 c = simple-low _ _ _ _ (c .before .before .before .node-at .ensures) (
 returns-4 : tie.Need-returns-4
 returns-4 c = simple-high _ _ _ _ (c .before .before .before .before .node-at .ensures) (c .if4 .taken)
 
-compared-at-requires : tie.Need-compared-at-requires
-compared-at-requires c κs = search needs
-
 returns-5 : tie.Need-returns-5
 returns-5 c = simple-compared _ _ _ _ (c .before .before .before .before .before .node-at .ensures) _ (c .before .before .if3 .left) (c .before .if4 .left) (c .compared-at .ensures)
 
@@ -29,10 +23,4 @@ pub simple-spec : {M : Type 1} → statement M
 simple-spec =
     tie.close
     (tie.spec
-    node-at-requires
-    returns
-    returns-2
-    returns-3
-    returns-4
-    compared-at-requires
-    returns-5)
+    (λ c κs. search needs) returns returns-2 returns-3 returns-4 (λ c κs. search needs) returns-5)

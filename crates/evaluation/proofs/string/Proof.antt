@@ -6,9 +6,6 @@ use borrow.Author.Needs.{needs}
 use Rattle.evaluation.proofs.string.Statement.{statement}
 use Rattle.evaluation.proofs.string.Tie as tie
 
-cast-t4 : tie.Need-cast-t4
-cast-t4 c = search needs
-
 returns : tie.Need-returns
 returns c = sym (pick-true _ _ _ (lt-ltb _ _ (c .if1 .taken)))
 
@@ -16,4 +13,4 @@ returns-2 : tie.Need-returns-2
 returns-2 c = sym (pick-false _ _ _ (le-ltb _ _ (c .if1 .left)))
 
 pub string-spec : {M : Type 1} → statement M
-string-spec = tie.close (tie.spec cast-t4 returns returns-2)
+string-spec = tie.close (tie.spec (λ c. search needs) returns returns-2)

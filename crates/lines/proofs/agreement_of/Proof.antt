@@ -8,19 +8,13 @@ use Rattle.lines.specs.Lines.{Asked}
 use Rattle.lines.specs.Answers.{agreementOf, partsOf}
 use Rattle.lines.proofs.Forms.{asked-long, asked-parts}
 
-no-agreement-requires : tie.Need-no-agreement-requires
-no-agreement-requires c κs = search needs
-
 returns : tie.Need-returns
 returns c =
     c .no-agreement .ensures ∙ sym (ap (λ (a : Asked). agreementOf (partsOf a)) (asked-long (c .before .before .before .args .line .now) (omega (arith, c .before .if1 .taken))))
-
-parts-of-requires : tie.Need-parts-of-requires
-parts-of-requires c κs = search needs
 
 returns-2 : tie.Need-returns-2
 returns-2 c =
     c .parts-of .ensures ∙ ap agreementOf (asked-parts _ (c .before .if1 .left))
 
 pub agreement-of-spec : {M : Type 1} → statement M
-agreement-of-spec = tie.close (tie.spec no-agreement-requires returns parts-of-requires returns-2)
+agreement-of-spec = tie.close (tie.spec (λ c κs. search needs) returns (λ c κs. search needs) returns-2)

@@ -4,12 +4,9 @@ use Rattle.lines.proofs.ends.Statement.{statement}
 use Rattle.lines.proofs.ends.Tie as tie
 use Rattle.lines.proofs.Parse.{end-is}
 
-skip-requires : tie.Need-skip-requires
-skip-requires c κs = search needs
-
 returns : tie.Need-returns
 returns c =
     end-is _ _ (c .skip .ensures)
 
 pub ends-spec : {M : Type 1} → statement M
-ends-spec = tie.close (tie.spec skip-requires returns)
+ends-spec = tie.close (tie.spec (λ c κs. search needs) returns)

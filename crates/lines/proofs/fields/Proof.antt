@@ -12,12 +12,6 @@ use Rattle.lines.proofs.Ahead.{mark-ahead}
 use Rattle.lines.proofs.Turns.{list-none, list-empty, list-some}
 use Rattle.lines.proofs.Loops.{fields-done, fields-no, fields-as}
 
-mark-requires : tie.Need-mark-requires
-mark-requires c κs = search needs
-
-enum-known-i : tie.Need-enum-known-i
-enum-known-i c = search needs
-
 enum-told : tie.Need-enum-told
 enum-told c = search needs
 
@@ -25,28 +19,18 @@ returns : tie.Need-returns
 returns c =
     fields-no _ _ _ _ _ (list-none _ _ _ _ _ (mark-missed _ _ _ (c .before .before .mark .ensures) (c .enum-told .given .1))) refl
 
-mark-requires-2 : tie.Need-mark-requires-2
-mark-requires-2 c κs = search needs
-
-enum-known-j : tie.Need-enum-known-j
-enum-known-j c = search needs
-
-enum-told-2 : tie.Need-enum-told-2
-enum-told-2 c = search needs
-
 fields-from-requires : tie.Need-fields-from-requires
 fields-from-requires c κs =
     omega (arith, (c .before .before .before .before .before .before .before .before .before .before .before .pre), mark-ahead _ _ _ _ (mark-got _ _ _ (c .before .before .before .before .before .before .before .before .mark .ensures) (c .before .before .before .before .before .before .i .given .1)) .more)
 
-same-length : tie.Need-same-length
-same-length c = search needs
-
-same-length-2 : tie.Need-same-length-2
-same-length-2 c = search needs
-
 returns-2 : tie.Need-returns-2
 returns-2 c =
-    fields-as _ _ _ _ _ _ (list-some _ _ _ _ _ (mark-got _ _ _ (c .before .before .before .before .before .before .before .before .before .before .before .before .mark .ensures) (c .before .before .before .before .before .before .before .before .before .before .i .given .1)) (mark-missed _ _ _ (c .before .before .before .before .before .before .before .before .mark2 .ensures) (c .before .before .before .before .before .before .enum-told2 .given .1))) (c .before .before .before .fields-from .ensures)
+    let c3 = c .before .before .before in
+    let c6 = c3 .before .before .before in
+    let c8 = c6 .before .before in
+    let c10 = c8 .before .before in
+    let c12 = c10 .before .before in
+    fields-as _ _ _ _ _ _ (list-some _ _ _ _ _ (mark-got _ _ _ (c12 .mark .ensures) (c10 .i .given .1)) (mark-missed _ _ _ (c8 .mark2 .ensures) (c6 .enum-told2 .given .1))) (c3 .fields-from .ensures)
 
 returns-3 : tie.Need-returns-3
 unfolding spansOf valuesOf
@@ -57,15 +41,5 @@ pub fields-spec : {M : Type 1} → statement M
 fields-spec =
     tie.close
     (tie.spec
-    mark-requires
-    enum-known-i
-    enum-told
-    returns
-    mark-requires-2
-    enum-known-j
-    enum-told-2
-    fields-from-requires
-    same-length
-    same-length-2
-    returns-2
-    returns-3)
+    (λ c κs. search needs) (λ c. search needs) enum-told returns (λ c κs. search needs) (λ c. search needs) (λ c. search needs)
+    fields-from-requires (λ c. search needs) (λ c. search needs) returns-2 returns-3)

@@ -21,12 +21,6 @@ loop-holds : tie.Need-loop-holds Inv-loop μ-loop
 loop-holds c =
     fields-begin _ _ _ _ _ (c .before .before .pre)
 
-field-requires : tie.Need-field-requires Inv-loop μ-loop
-field-requires c κs = search needs
-
-enum-known-start : tie.Need-enum-known-start Inv-loop μ-loop
-enum-known-start c = search needs
-
 enum-told : tie.Need-enum-told Inv-loop μ-loop
 enum-told c = search needs
 
@@ -46,9 +40,6 @@ mul-store-place : tie.Need-mul-store-place Inv-loop μ-loop
 mul-store-place c =
     omega (arith, c .before .before .before .before .before .loop .inv .behind, fields-inside (c .before .before .before .before .before .loop .inv) (field-got _ _ (c .before .before .before .before .field .ensures) (c .before .before .start .given .1)))
 
-store-place-requires : tie.Need-store-place-requires Inv-loop μ-loop
-store-place-requires c κs = search needs
-
 mul-store-place-2 : tie.Need-mul-store-place-2 Inv-loop μ-loop
 mul-store-place-2 c =
     omega (arith, c .before .before .before .before .before .before .before .before .before .loop .inv .behind, fields-inside (c .before .before .before .before .before .before .before .before .before .loop .inv) (field-got _ _ (c .before .before .before .before .before .before .before .before .field .ensures) (c .before .before .before .before .before .before .start .given .1)))
@@ -57,37 +48,19 @@ add-store-place : tie.Need-add-store-place Inv-loop μ-loop
 add-store-place c =
     omega (arith, c .before .before .before .before .before .before .before .before .before .loop .inv .behind, fields-inside (c .before .before .before .before .before .before .before .before .before .loop .inv) (field-got _ _ (c .before .before .before .before .before .before .before .before .field .ensures) (c .before .before .before .before .before .before .start .given .1)))
 
-store-place-requires-2 : tie.Need-store-place-requires-2 Inv-loop μ-loop
-store-place-requires-2 c κs = search needs
-
-store-requires : tie.Need-store-requires Inv-loop μ-loop
-store-requires c κs = search needs
-
 add-k : tie.Need-add-k Inv-loop μ-loop
 add-k c =
-    omega (arith, c .before .before .before .before .before .before .before .before .before .before .before .before .before .before .before .loop .inv .behind, fields-inside (c .before .before .before .before .before .before .before .before .before .before .before .before .before .before .before .loop .inv) (field-got _ _ (c .before .before .before .before .before .before .before .before .before .before .before .before .before .before .field .ensures) (c .before .before .before .before .before .before .before .before .before .before .before .before .start .given .1)))
-
-mark-requires : tie.Need-mark-requires Inv-loop μ-loop
-mark-requires c κs = search needs
-
-enum-known-after : tie.Need-enum-known-after Inv-loop μ-loop
-enum-known-after c = search needs
-
-enum-told-2 : tie.Need-enum-told-2 Inv-loop μ-loop
-enum-told-2 c = search needs
-
-mark-requires-2 : tie.Need-mark-requires-2 Inv-loop μ-loop
-mark-requires-2 c κs = search needs
-
-enum-known-close : tie.Need-enum-known-close Inv-loop μ-loop
-enum-known-close c = search needs
-
-enum-told-3 : tie.Need-enum-told-3 Inv-loop μ-loop
-enum-told-3 c = search needs
+    let c12 = c .before .before .before .before .before .before .before .before .before .before .before .before in
+    let c14 = c12 .before .before in
+    let c15 = c14 .before in
+    omega (arith, c15 .loop .inv .behind, fields-inside (c15 .loop .inv) (field-got _ _ (c14 .field .ensures) (c12 .start .given .1)))
 
 same-length-3 : tie.Need-same-length-3 Inv-loop μ-loop
 same-length-3 c =
-    c .before .before .before .before .before .before .before .before .before .before .before .store-place2 .kept .0 ∙ c .before .before .before .before .before .before .before .before .before .before .before .before .before .before .before .store-place .kept .0 ∙ spans-same (c .before .before .before .before .before .before .before .before .before .before .before .before .before .before .before .before .before .before .before .before .before .loop .inv)
+    let c11 = c .before .before .before .before .before .before .before .before .before .before .before in
+    let c15 = c11 .before .before .before .before in
+    let c21 = c15 .before .before .before .before .before .before in
+    c11 .store-place2 .kept .0 ∙ c15 .store-place .kept .0 ∙ spans-same (c21 .loop .inv)
 
 same-length-4 : tie.Need-same-length-4 Inv-loop μ-loop
 same-length-4 c =
@@ -95,11 +68,20 @@ same-length-4 c =
 
 returns-2 : tie.Need-returns-2 Inv-loop μ-loop
 returns-2 c =
-    fields-unclosed (c .before .before .before .before .before .before .before .before .before .before .before .before .before .before .before .before .before .before .before .before .before .loop .inv) (field-got _ _ (c .before .before .before .before .before .before .before .before .before .before .before .before .before .before .before .before .before .before .before .before .field .ensures) (c .before .before .before .before .before .before .before .before .before .before .before .before .before .before .before .before .before .before .start .given .1)) _ _ (mark-missed _ _ _ (c .before .before .before .before .before .mark .ensures) (c .before .before .before .enum-told2 .given .1)) (mark-missed _ _ _ (c .before .before .mark2 .ensures) (c .enum-told3 .given .1)) refl
+    let c2 = c .before .before in
+    let c3 = c2 .before in
+    let c5 = c3 .before .before in
+    let c18 = c5 .before .before .before .before .before .before .before .before .before .before .before .before .before in
+    let c20 = c18 .before .before in
+    let c21 = c20 .before in
+    fields-unclosed (c21 .loop .inv) (field-got _ _ (c20 .field .ensures) (c18 .start .given .1)) _ _ (mark-missed _ _ _ (c5 .mark .ensures) (c3 .enum-told2 .given .1)) (mark-missed _ _ _ (c2 .mark2 .ensures) (c .enum-told3 .given .1)) refl
 
 same-length-5 : tie.Need-same-length-5 Inv-loop μ-loop
 same-length-5 c =
-    c .before .before .before .before .before .before .before .before .before .before .before .before .store-place2 .kept .0 ∙ c .before .before .before .before .before .before .before .before .before .before .before .before .before .before .before .before .store-place .kept .0 ∙ spans-same (c .before .before .before .before .before .before .before .before .before .before .before .before .before .before .before .before .before .before .before .before .before .before .loop .inv)
+    let c12 = c .before .before .before .before .before .before .before .before .before .before .before .before in
+    let c16 = c12 .before .before .before .before in
+    let c22 = c16 .before .before .before .before .before .before in
+    c12 .store-place2 .kept .0 ∙ c16 .store-place .kept .0 ∙ spans-same (c22 .loop .inv)
 
 same-length-6 : tie.Need-same-length-6 Inv-loop μ-loop
 same-length-6 c =
@@ -107,47 +89,45 @@ same-length-6 c =
 
 returns-3 : tie.Need-returns-3 Inv-loop μ-loop
 returns-3 c =
-    fields-last (c .before .before .before .before .before .before .before .before .before .before .before .before .before .before .before .before .before .before .before .before .before .before .loop .inv) (field-got _ _ (c .before .before .before .before .before .before .before .before .before .before .before .before .before .before .before .before .before .before .before .before .before .field .ensures) (c .before .before .before .before .before .before .before .before .before .before .before .before .before .before .before .before .before .before .before .start .given .1)) (record { half = c .before .before .before .before .before .before .before .before .before .before .before .before .before .before .before .before .store-place .last .0; start = c .before .before .before .before .before .before .before .before .before .before .before .before .before .before .before .before .store-place .ensures; end = c .before .before .before .before .before .before .before .before .before .before .before .before .store-place2 .ensures; fits = record { sfits = c .before .before .before .before .before .before .before .before .before .before .before .before .before .before .before .before .before .before .known-told .given .1 .1 .0 .1 }; value = c .before .before .before .before .before .before .before .before .store .ensures }) (mark-missed _ _ _ (c .before .before .before .before .before .before .mark .ensures) (c .before .before .before .before .enum-told2 .given .1)) (mark-got _ _ _ (c .before .before .before .mark2 .ensures) (c .before .close .given .1)) refl
+    let c3 = c .before .before .before in
+    let c4 = c3 .before in
+    let c6 = c4 .before .before in
+    let c8 = c6 .before .before in
+    let c12 = c8 .before .before .before .before in
+    let c16 = c12 .before .before .before .before in
+    let c18 = c16 .before .before in
+    let c19 = c18 .before in
+    let c21 = c19 .before .before in
+    let c22 = c21 .before in
+    fields-last (c22 .loop .inv) (field-got _ _ (c21 .field .ensures) (c19 .start .given .1))
+    (record { half = c16 .store-place .last .0; start = c16 .store-place .ensures; end = c12 .store-place2 .ensures; fits = record { sfits = c18 .known-told .given .1 .1 .0 .1 }; value = c8 .store .ensures })
+    (mark-missed _ _ _ (c6 .mark .ensures) (c4 .enum-told2 .given .1)) (mark-got _ _ _ (c3 .mark2 .ensures) (c .before .close .given .1)) refl
 
 loop-less : tie.Need-loop-less Inv-loop μ-loop
 loop-less c =
-    omega (arith, fields-inside (c .before .before .before .before .before .before .before .before .before .before .before .before .before .before .before .before .before .before .before .loop .inv) (field-got _ _ (c .before .before .before .before .before .before .before .before .before .before .before .before .before .before .before .before .before .before .field .ensures) (c .before .before .before .before .before .before .before .before .before .before .before .before .before .before .before .before .start .given .1)), fields-on (c .before .before .before .before .before .before .before .before .before .before .before .before .before .before .before .before .before .before .before .loop .inv) (field-got _ _ (c .before .before .before .before .before .before .before .before .before .before .before .before .before .before .before .before .before .before .field .ensures) (c .before .before .before .before .before .before .before .before .before .before .before .before .before .before .before .before .start .given .1)) (mark-got _ _ _ (c .before .before .before .mark .ensures) (c .before .after .given .1)))
+    let c3 = c .before .before .before in
+    let c16 = c3 .before .before .before .before .before .before .before .before .before .before .before .before .before in
+    let c18 = c16 .before .before in
+    let c19 = c18 .before in
+    omega (arith, fields-inside (c19 .loop .inv) (field-got _ _ (c18 .field .ensures) (c16 .start .given .1)), fields-on (c19 .loop .inv) (field-got _ _ (c18 .field .ensures) (c16 .start .given .1)) (mark-got _ _ _ (c3 .mark .ensures) (c .before .after .given .1)))
 
 loop-again : tie.Need-loop-again Inv-loop μ-loop
 loop-again c =
-    fields-turn (c .before .before .before .before .before .before .before .before .before .before .before .before .before .before .before .before .before .before .before .loop .inv) (field-got _ _ (c .before .before .before .before .before .before .before .before .before .before .before .before .before .before .before .before .before .before .field .ensures) (c .before .before .before .before .before .before .before .before .before .before .before .before .before .before .before .before .start .given .1)) (record { half = c .before .before .before .before .before .before .before .before .before .before .before .before .before .store-place .last .0; start = c .before .before .before .before .before .before .before .before .before .before .before .before .before .store-place .ensures; end = c .before .before .before .before .before .before .before .before .before .store-place2 .ensures; fits = record { sfits = c .before .before .before .before .before .before .before .before .before .before .before .before .before .before .before .known-told .given .1 .1 .0 .1 }; value = c .before .before .before .before .before .store .ensures }) (mark-got _ _ _ (c .before .before .before .mark .ensures) (c .before .after .given .1))
+    let c3 = c .before .before .before in
+    let c5 = c3 .before .before in
+    let c9 = c5 .before .before .before .before in
+    let c13 = c9 .before .before .before .before in
+    let c15 = c13 .before .before in
+    let c16 = c15 .before in
+    let c18 = c16 .before .before in
+    let c19 = c18 .before in
+    fields-turn (c19 .loop .inv) (field-got _ _ (c18 .field .ensures) (c16 .start .given .1)) (record { half = c13 .store-place .last .0; start = c13 .store-place .ensures; end = c9 .store-place2 .ensures; fits = record { sfits = c15 .known-told .given .1 .1 .0 .1 }; value = c5 .store .ensures }) (mark-got _ _ _ (c3 .mark .ensures) (c .before .after .given .1))
 
 pub fields-from-spec : {M : Type 1} → statement M
 fields-from-spec =
     tie.close
     (tie.spec
-    Inv-loop
-    μ-loop
-    loop-holds
-    field-requires
-    enum-known-start
-    enum-told
-    same-length
-    same-length-2
-    returns
-    mul-store-place
-    store-place-requires
-    mul-store-place-2
-    add-store-place
-    store-place-requires-2
-    store-requires
-    add-k
-    mark-requires
-    enum-known-after
-    enum-told-2
-    mark-requires-2
-    enum-known-close
-    enum-told-3
-    same-length-3
-    same-length-4
-    returns-2
-    same-length-5
-    same-length-6
-    returns-3
-    loop-less
-    loop-again)
+    Inv-loop μ-loop loop-holds (λ c κs. search needs) (λ c. search needs) enum-told same-length same-length-2 returns mul-store-place
+    (λ c κs. search needs) mul-store-place-2 add-store-place (λ c κs. search needs) (λ c κs. search needs) add-k (λ c κs. search needs)
+    (λ c. search needs) (λ c. search needs) (λ c κs. search needs) (λ c. search needs) (λ c. search needs) same-length-3 same-length-4
+    returns-2 same-length-5 same-length-6 returns-3 loop-less loop-again)

@@ -3,27 +3,12 @@ use borrow.Author.Needs.{needs}
 use Rattle.lines.proofs.integer.Statement.{statement}
 use Rattle.lines.proofs.integer.Tie as tie
 use mathlib.Core.Path.{sym, ap, _∙_}
-use Rattle.lines.specs.Steps.{wholeOf}
+use Rattle.lines.specs.Private.{wholeOf}
 use Rattle.lines.proofs.Parse.{integer-minus, integer-plain, integer-past}
-
-skip-requires : tie.Need-skip-requires
-skip-requires c κs = search needs
-
-shared-slice-read-if2 : tie.Need-shared-slice-read-if2
-shared-slice-read-if2 c = search needs
-
-add-negative-at : tie.Need-add-negative-at
-add-negative-at c = search needs
-
-negative-at-requires : tie.Need-negative-at-requires
-negative-at-requires c κs = search needs
 
 returns : tie.Need-returns
 returns c =
     c .negative-at .ensures ∙ sym (ap wholeOf (integer-minus _ _ (c .before .before .before .before .skip .ensures) (c .before .before .before .if1 .taken) (c .before .if2 .taken)))
-
-positive-at-requires : tie.Need-positive-at-requires
-positive-at-requires c κs = search needs
 
 returns-2 : tie.Need-returns-2
 returns-2 c =
@@ -37,11 +22,5 @@ pub integer-spec : {M : Type 1} → statement M
 integer-spec =
     tie.close
     (tie.spec
-    skip-requires
-    shared-slice-read-if2
-    add-negative-at
-    negative-at-requires
-    returns
-    positive-at-requires
-    returns-2
+    (λ c κs. search needs) (λ c. search needs) (λ c. search needs) (λ c κs. search needs) returns (λ c κs. search needs) returns-2
     returns-3)

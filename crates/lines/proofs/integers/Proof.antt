@@ -11,12 +11,6 @@ use Rattle.lines.proofs.Ahead.{mark-ahead}
 use Rattle.lines.proofs.Turns.{list-none, list-empty, list-some}
 use Rattle.lines.proofs.Loops.{stored-done, stored-no, stored-as}
 
-mark-requires : tie.Need-mark-requires
-mark-requires c κs = search needs
-
-enum-known-i : tie.Need-enum-known-i
-enum-known-i c = search needs
-
 enum-told : tie.Need-enum-told
 enum-told c = search needs
 
@@ -24,21 +18,9 @@ returns : tie.Need-returns
 returns c =
     stored-no _ _ _ (list-none _ _ _ _ _ (mark-missed _ _ _ (c .before .before .mark .ensures) (c .enum-told .given .1))) refl
 
-mark-requires-2 : tie.Need-mark-requires-2
-mark-requires-2 c κs = search needs
-
-enum-known-j : tie.Need-enum-known-j
-enum-known-j c = search needs
-
-enum-told-2 : tie.Need-enum-told-2
-enum-told-2 c = search needs
-
 integers-from-requires : tie.Need-integers-from-requires
 integers-from-requires c κs =
     omega (arith, (c .before .before .before .before .before .before .before .before .before .pre), mark-ahead _ _ _ _ (mark-got _ _ _ (c .before .before .before .before .before .before .before .mark .ensures) (c .before .before .before .before .before .i .given .1)) .more)
-
-same-length : tie.Need-same-length
-same-length c = search needs
 
 returns-2 : tie.Need-returns-2
 returns-2 c =
@@ -52,14 +34,5 @@ pub integers-spec : {M : Type 1} → statement M
 integers-spec =
     tie.close
     (tie.spec
-    mark-requires
-    enum-known-i
-    enum-told
-    returns
-    mark-requires-2
-    enum-known-j
-    enum-told-2
-    integers-from-requires
-    same-length
-    returns-2
-    returns-3)
+    (λ c κs. search needs) (λ c. search needs) enum-told returns (λ c κs. search needs) (λ c. search needs) (λ c. search needs)
+    integers-from-requires (λ c. search needs) returns-2 returns-3)

@@ -8,15 +8,9 @@ use Rattle.words.specs.Words.{spelled}
 use mathlib.Core.List.{List}
 use Prim.Native.Nat.{ℕ}
 
-between-requires : tie.Need-between-requires
-between-requires c κs = search needs
-
-is-word-requires : tie.Need-is-word-requires
-is-word-requires c κs = search needs
-
 returns : tie.Need-returns
 returns c =
     c .is-word .ensures ∙ ap (λ (t : List ℕ). sameBytes t (spelled (c .before .before .before .args .which))) (c .before .between .ensures)
 
 pub is-word-spec : {M : Type 1} → statement M
-is-word-spec = tie.close (tie.spec between-requires is-word-requires returns)
+is-word-spec = tie.close (tie.spec (λ c κs. search needs) (λ c κs. search needs) returns)

@@ -4,15 +4,6 @@ use Rattle.lines.proofs.mark.Statement.{statement}
 use Rattle.lines.proofs.mark.Tie as tie
 use Rattle.lines.proofs.Parse.{mark-found, mark-other, mark-past}
 
-skip-requires : tie.Need-skip-requires
-skip-requires c κs = search needs
-
-shared-slice-read-if2 : tie.Need-shared-slice-read-if2
-shared-slice-read-if2 c = search needs
-
-add-t10 : tie.Need-add-t10
-add-t10 c = search needs
-
 returns : tie.Need-returns
 returns c =
     mark-found _ _ (c .before .before .before .skip .ensures) _ (c .before .before .if1 .taken) (c .if2 .taken)
@@ -27,4 +18,4 @@ returns-3 c =
 
 pub mark-spec : {M : Type 1} → statement M
 mark-spec =
-    tie.close (tie.spec skip-requires shared-slice-read-if2 add-t10 returns returns-2 returns-3)
+    tie.close (tie.spec (λ c κs. search needs) (λ c. search needs) (λ c. search needs) returns returns-2 returns-3)

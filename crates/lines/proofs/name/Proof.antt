@@ -4,20 +4,8 @@ use Rattle.lines.proofs.name.Statement.{statement}
 use Rattle.lines.proofs.name.Tie as tie
 use mathlib.Core.Path.{sym, ap, _∙_}
 use Rattle.tokens.specs.Classes.{isLetter}
-use Rattle.lines.specs.Steps.{nameOf}
+use Rattle.lines.specs.Private.{nameOf}
 use Rattle.lines.proofs.Parse.{name-some, name-none}
-
-skip-requires : tie.Need-skip-requires
-skip-requires c κs = search needs
-
-byte-at-requires : tie.Need-byte-at-requires
-byte-at-requires c κs = search needs
-
-is-letter-requires : tie.Need-is-letter-requires
-is-letter-requires c κs = search needs
-
-name-end-requires : tie.Need-name-end-requires
-name-end-requires c κs = search needs
 
 returns : tie.Need-returns
 returns c =
@@ -31,9 +19,4 @@ pub name-spec : {M : Type 1} → statement M
 name-spec =
     tie.close
     (tie.spec
-    skip-requires
-    byte-at-requires
-    is-letter-requires
-    name-end-requires
-    returns
-    returns-2)
+    (λ c κs. search needs) (λ c κs. search needs) (λ c κs. search needs) (λ c κs. search needs) returns returns-2)

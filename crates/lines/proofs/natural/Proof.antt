@@ -9,11 +9,8 @@ use Rattle.lines.proofs.natural.Tie as tie
 returns : tie.Need-returns
 returns c = above (pos (c .before .args .n)) (c .before .args .end) (omega arith)
 
-cast-t4 : tie.Need-cast-t4
-cast-t4 c = search needs
-
 returns-2 : tie.Need-returns-2
 returns-2 c = is-in (pos (c .before .args .n)) (c .before .args .end) (record { sfits = omega arith })
 
 pub natural-spec : {M : Type 1} → statement M
-natural-spec = tie.close (tie.spec returns cast-t4 returns-2)
+natural-spec = tie.close (tie.spec returns (λ c. search needs) returns-2)

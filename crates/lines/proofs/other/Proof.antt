@@ -5,18 +5,9 @@ use Rattle.lines.proofs.other.Tie as tie
 use mathlib.Core.Path.{_∙_}
 use Rattle.lines.proofs.Structs.{other-none, other-some}
 
-parts-of-requires : tie.Need-parts-of-requires
-parts-of-requires c κs = search needs
-
-plain-requires : tie.Need-plain-requires
-plain-requires c κs = search needs
-
 returns : tie.Need-returns
 returns c =
     c .plain .ensures ∙ other-none _ (c .before .before .before .parts-of .ensures) (c .before .if1 .taken)
-
-plain-requires-2 : tie.Need-plain-requires-2
-plain-requires-2 c κs = search needs
 
 returns-2 : tie.Need-returns-2
 returns-2 c =
@@ -24,4 +15,4 @@ returns-2 c =
 
 pub other-spec : {M : Type 1} → statement M
 other-spec =
-    tie.close (tie.spec parts-of-requires plain-requires returns plain-requires-2 returns-2)
+    tie.close (tie.spec (λ c κs. search needs) (λ c κs. search needs) returns (λ c κs. search needs) returns-2)

@@ -26,9 +26,6 @@ part-requires : tie.Need-part-requires Inv-loop μ-loop
 part-requires c κs =
     ((c .before .before .before .before .before .before .before .pre), c .before .before .before .loop .inv .behind, c .before .before .before .loop .inv .few)
 
-enum-known-all : tie.Need-enum-known-all Inv-loop μ-loop
-enum-known-all c = search needs
-
 enum-told : tie.Need-enum-told Inv-loop μ-loop
 enum-told c = search needs
 
@@ -57,15 +54,6 @@ unfolding spelled
 long-mark-requires c κs =
     (omega arith, omega arith)
 
-enum-known-after : tie.Need-enum-known-after Inv-loop μ-loop
-enum-known-after c = search needs
-
-enum-told-2 : tie.Need-enum-told-2 Inv-loop μ-loop
-enum-told-2 c = search needs
-
-ends-requires : tie.Need-ends-requires Inv-loop μ-loop
-ends-requires c κs = search needs
-
 same-length-4 : tie.Need-same-length-4 Inv-loop μ-loop
 same-length-4 c =
     c .before .before .before .before .before .before .before .before .before .before .before .before .before .part .kept .1 .1 .0 ∙ heads-same (c .before .before .before .before .before .before .before .before .before .before .before .before .before .before .before .before .before .loop .inv)
@@ -81,7 +69,12 @@ same-length-6 c =
 returns-2 : tie.Need-returns-2 Inv-loop μ-loop
 unfolding spelled
 returns-2 c =
-    parts-last (c .before .before .before .before .before .before .before .before .before .before .before .before .before .before .before .before .before .loop .inv) (part-got _ _ _ _ _ _ _ _ _ (c .before .before .before .before .before .before .before .before .before .before .before .before .before .part .ensures) (c .before .before .before .before .before .before .all .given .1)) (mark-missed _ _ _ (c .before .before .before .before .long-mark .ensures) (c .before .before .enum-told2 .given .1)) (sym (c .before .ends .ensures) ∙ c .if1 .taken) refl
+    let c2 = c .before .before in
+    let c4 = c2 .before .before in
+    let c6 = c4 .before .before in
+    let c13 = c6 .before .before .before .before .before .before .before in
+    let c17 = c13 .before .before .before .before in
+    parts-last (c17 .loop .inv) (part-got _ _ _ _ _ _ _ _ _ (c13 .part .ensures) (c6 .all .given .1)) (mark-missed _ _ _ (c4 .long-mark .ensures) (c2 .enum-told2 .given .1)) (sym (c .before .ends .ensures) ∙ c .if1 .taken) refl
 
 same-length-7 : tie.Need-same-length-7 Inv-loop μ-loop
 same-length-7 c =
@@ -98,44 +91,35 @@ same-length-9 c =
 returns-3 : tie.Need-returns-3 Inv-loop μ-loop
 unfolding spelled
 returns-3 c =
-    parts-unclosed (c .before .before .before .before .before .before .before .before .before .before .before .before .before .before .before .before .before .loop .inv) (part-got _ _ _ _ _ _ _ _ _ (c .before .before .before .before .before .before .before .before .before .before .before .before .before .part .ensures) (c .before .before .before .before .before .before .all .given .1)) (mark-missed _ _ _ (c .before .before .before .before .long-mark .ensures) (c .before .before .enum-told2 .given .1)) (sym (c .before .ends .ensures) ∙ c .if1 .left) refl
+    let c2 = c .before .before in
+    let c4 = c2 .before .before in
+    let c6 = c4 .before .before in
+    let c13 = c6 .before .before .before .before .before .before .before in
+    let c17 = c13 .before .before .before .before in
+    parts-unclosed (c17 .loop .inv) (part-got _ _ _ _ _ _ _ _ _ (c13 .part .ensures) (c6 .all .given .1)) (mark-missed _ _ _ (c4 .long-mark .ensures) (c2 .enum-told2 .given .1)) (sym (c .before .ends .ensures) ∙ c .if1 .left) refl
 
 loop-less : tie.Need-loop-less Inv-loop μ-loop
 unfolding spelled
 loop-less c =
-    omega (arith, part-inside (c .before .before .before .before .before .before .before .before .before .before .before .before .before .before .before .before .loop .inv) (part-got _ _ _ _ _ _ _ _ _ (c .before .before .before .before .before .before .before .before .before .before .before .before .part .ensures) (c .before .before .before .before .before .all .given .1)), part-on (c .before .before .before .before .before .before .before .before .before .before .before .before .before .before .before .before .loop .inv) (part-got _ _ _ _ _ _ _ _ _ (c .before .before .before .before .before .before .before .before .before .before .before .before .part .ensures) (c .before .before .before .before .before .all .given .1)) (mark-got _ _ _ (c .before .before .before .long-mark .ensures) (c .before .after .given .1)))
+    let c3 = c .before .before .before in
+    let c5 = c3 .before .before in
+    let c12 = c5 .before .before .before .before .before .before .before in
+    let c16 = c12 .before .before .before .before in
+    omega (arith, part-inside (c16 .loop .inv) (part-got _ _ _ _ _ _ _ _ _ (c12 .part .ensures) (c5 .all .given .1)), part-on (c16 .loop .inv) (part-got _ _ _ _ _ _ _ _ _ (c12 .part .ensures) (c5 .all .given .1)) (mark-got _ _ _ (c3 .long-mark .ensures) (c .before .after .given .1)))
 
 loop-again : tie.Need-loop-again Inv-loop μ-loop
 unfolding spelled
 loop-again c =
-    parts-turn (c .before .before .before .before .before .before .before .before .before .before .before .before .before .before .before .before .loop .inv) (part-got _ _ _ _ _ _ _ _ _ (c .before .before .before .before .before .before .before .before .before .before .before .before .part .ensures) (c .before .before .before .before .before .all .given .1)) (mark-got _ _ _ (c .before .before .before .long-mark .ensures) (c .before .after .given .1))
+    let c3 = c .before .before .before in
+    let c5 = c3 .before .before in
+    let c12 = c5 .before .before .before .before .before .before .before in
+    let c16 = c12 .before .before .before .before in
+    parts-turn (c16 .loop .inv) (part-got _ _ _ _ _ _ _ _ _ (c12 .part .ensures) (c5 .all .given .1)) (mark-got _ _ _ (c3 .long-mark .ensures) (c .before .after .given .1))
 
 pub parts-spec : {M : Type 1} → statement M
 parts-spec =
     tie.close
     (tie.spec
-    Inv-loop
-    μ-loop
-    loop-holds
-    part-requires
-    enum-known-all
-    enum-told
-    same-length
-    same-length-2
-    same-length-3
-    returns
-    add-p
-    long-mark-requires
-    enum-known-after
-    enum-told-2
-    ends-requires
-    same-length-4
-    same-length-5
-    same-length-6
-    returns-2
-    same-length-7
-    same-length-8
-    same-length-9
-    returns-3
-    loop-less
-    loop-again)
+    Inv-loop μ-loop loop-holds part-requires (λ c. search needs) enum-told same-length same-length-2 same-length-3 returns add-p
+    long-mark-requires (λ c. search needs) (λ c. search needs) (λ c κs. search needs) same-length-4 same-length-5 same-length-6 returns-2
+    same-length-7 same-length-8 same-length-9 returns-3 loop-less loop-again)

@@ -6,26 +6,8 @@ use mathlib.Core.Path.{sym, ap, _∙_}
 use Rattle.lines.specs.Answers.{agreementOf}
 use Rattle.lines.proofs.Structs.{parts-got, parts-missed, no-parts, agreement-made}
 
-slice-aggregate-parts : tie.Need-slice-aggregate-parts
-slice-aggregate-parts c = search needs
-
-slice-aggregate-parts-2 : tie.Need-slice-aggregate-parts-2
-slice-aggregate-parts-2 c = search needs
-
-slice-aggregate-parts-3 : tie.Need-slice-aggregate-parts-3
-slice-aggregate-parts-3 c = search needs
-
-parts-requires : tie.Need-parts-requires
-parts-requires c κs = search needs
-
-enum-known-count : tie.Need-enum-known-count
-enum-known-count c = search needs
-
 enum-told : tie.Need-enum-told
 enum-told c = search needs
-
-no-agreement-requires : tie.Need-no-agreement-requires
-no-agreement-requires c κs = search needs
 
 returns : tie.Need-returns
 returns c =
@@ -39,12 +21,5 @@ pub parts-of-spec : {M : Type 1} → statement M
 parts-of-spec =
     tie.close
     (tie.spec
-    slice-aggregate-parts
-    slice-aggregate-parts-2
-    slice-aggregate-parts-3
-    parts-requires
-    enum-known-count
-    enum-told
-    no-agreement-requires
-    returns
-    returns-2)
+    (λ c. search needs) (λ c. search needs) (λ c. search needs) (λ c κs. search needs) (λ c. search needs) enum-told (λ c κs. search needs)
+    returns returns-2)

@@ -5,21 +5,9 @@ use Rattle.lines.proofs.store_place.Tie as tie
 use mathlib.Core.Path.{sym}
 use lib.Seq.{set-out}
 
-mul-out : tie.Need-mul-out
-mul-out c = search needs
-
-slice-write-out : tie.Need-slice-write-out
-slice-write-out c = search needs
-
-same-length : tie.Need-same-length
-same-length c = search needs
-
-returns : tie.Need-returns
-returns c = search needs
-
 returns-2 : tie.Need-returns-2
 returns-2 c =
     sym (set-out _ _ _ (c .if1 .left))
 
 pub store-place-spec : {M : Type 1} → statement M
-store-place-spec = tie.close (tie.spec mul-out slice-write-out same-length returns returns-2)
+store-place-spec = tie.close (tie.spec (λ c. search needs) (λ c. search needs) (λ c. search needs) (λ c. search needs) returns-2)

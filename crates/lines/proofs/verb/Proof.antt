@@ -7,12 +7,6 @@ use Rattle.lines.specs.Lines.{verb, isWord}
 use Rattle.lines.proofs.Got.{name-got, name-missed}
 use Rattle.laws.specs.Choice.{pick}
 
-name-requires : tie.Need-name-requires
-name-requires c κs = search needs
-
-enum-known-start : tie.Need-enum-known-start
-enum-known-start c = search needs
-
 enum-told : tie.Need-enum-told
 enum-told c = search needs
 
@@ -21,16 +15,10 @@ unfolding verb
 returns c =
     rw (name-missed _ _ (c .before .before .name .ensures) (c .enum-told .given .1))
 
-is-word-requires : tie.Need-is-word-requires
-is-word-requires c κs = search needs
-
 returns-2 : tie.Need-returns-2
 unfolding verb isWord pick
 returns-2 c =
     rw (name-got _ _ (c .before .before .before .before .before .name .ensures) (c .before .before .before .start .given .1), sym (c .before .is-word .ensures) ∙ c .if1 .taken)
-
-is-word-requires-2 : tie.Need-is-word-requires-2
-is-word-requires-2 c κs = search needs
 
 returns-3 : tie.Need-returns-3
 unfolding verb isWord pick
@@ -46,12 +34,5 @@ pub verb-spec : {M : Type 1} → statement M
 verb-spec =
     tie.close
     (tie.spec
-    name-requires
-    enum-known-start
-    enum-told
-    returns
-    is-word-requires
-    returns-2
-    is-word-requires-2
-    returns-3
+    (λ c κs. search needs) (λ c. search needs) enum-told returns (λ c κs. search needs) returns-2 (λ c κs. search needs) returns-3
     returns-4)

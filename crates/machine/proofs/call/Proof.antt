@@ -3,18 +3,12 @@ use borrow.Author.Needs.{needs}
 use mathlib.Core.Path.{_∙_}
 use Rattle.contract.specs.Tree.{Contract}
 use Rattle.contract.specs.Decode.{contractOf}
-use Rattle.state.specs.States.{repeated}
+use Rattle.laws.specs.Lists.{repeated}
 use Rattle.machine.specs.Steps.{called}
 use Rattle.machine.proofs.Gates.{refused-first, asked, stepped}
 use Rattle.machine.proofs.Performed.{with-its-labels, no-labels, few-pending}
 use Rattle.machine.proofs.call.Statement.{statement}
 use Rattle.machine.proofs.call.Tie as tie
-
-first-no-requires : tie.Need-first-no-requires
-first-no-requires c κs = search needs
-
-refuse-requires : tie.Need-refuse-requires
-refuse-requires c κs = search needs
 
 returns : tie.Need-returns
 returns c =
@@ -28,9 +22,6 @@ call-on-requires c κs =
     let e = asked (a .table .now) (a .room) (a .s) _ (c .before .before .before .before .first-no .ensures) (c .before .before .before .if1 .left) in
     ((e .0, few-pending (contractOf (a .table .now)) (a .s) (e .1)), no-labels)
 
-with-labels-requires : tie.Need-with-labels-requires
-with-labels-requires c κs = search needs
-
 returns-2 : tie.Need-returns-2
 returns-2 c =
     let a = c .before .before .before .before .before .before .before .before .before .before .before .before .before .args in
@@ -42,9 +33,4 @@ pub call-spec : {M : Type 1} → statement M
 call-spec =
     tie.close
     (tie.spec
-    first-no-requires
-    refuse-requires
-    returns
-    call-on-requires
-    with-labels-requires
-    returns-2)
+    (λ c κs. search needs) (λ c κs. search needs) returns call-on-requires (λ c κs. search needs) returns-2)

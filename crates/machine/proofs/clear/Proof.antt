@@ -1,6 +1,6 @@
 -- `machine::clear` meets its contract. Assumes nothing.
 use mathlib.Core.Path.{refl}
-use Rattle.state.specs.States.{repeated}
+use Rattle.laws.specs.Lists.{repeated}
 use Rattle.statements.specs.Running.{labelsFrom}
 use Rattle.machine.proofs.clear.Statement.{statement}
 use Rattle.machine.proofs.clear.Tie as tie

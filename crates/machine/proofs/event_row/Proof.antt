@@ -16,14 +16,5 @@ returns-2 c =
     let s = c .before .before .before in
     zero-row (s .args .table .now) (s .args .first + s .args .j) (omega (arith, c .if2 .taken))
 
-add-event-at : tie.Need-add-event-at
-add-event-at c = search needs
-
-event-at-requires : tie.Need-event-at-requires
-event-at-requires c κs = search needs
-
-returns-3 : tie.Need-returns-3
-returns-3 c = search needs
-
 pub event-row-spec : {M : Type 1} → statement M
-event-row-spec = tie.close (tie.spec returns returns-2 add-event-at event-at-requires returns-3)
+event-row-spec = tie.close (tie.spec returns returns-2 (λ c. search needs) (λ c κs. search needs) (λ c. search needs))

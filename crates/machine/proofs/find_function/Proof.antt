@@ -5,9 +5,9 @@ use Prim.Native.Nat.{_-_}
 use native.Mathlib.Omega.{arith}
 use Rattle.contract.specs.Table.{wordAt}
 use Rattle.contract.specs.Decode.{functionAt, contractOf}
-use Rattle.contract.specs.declared.Contract.{Contract}
+use Rattle.contract.specs.declared.TableHead.{TableHead}
 use Rattle.machine.specs.Steps.{choose}
-use Rattle.machine.specs.Parts.{naming}
+use Rattle.machine.specs.Private.{naming}
 use Rattle.machine.proofs.Functions.{onward, onward-first, found-here, found-none, choose-miss}
 use Rattle.machine.proofs.find_function.Statement.{statement}
 use Rattle.machine.proofs.find_function.Tie as tie
@@ -20,13 +20,10 @@ abbrev μ-loop : tie.MeasureT-loop
 μ-loop table state caller function count i₀ i =
     count - i
 
-head-requires : tie.Need-head-requires Inv-loop μ-loop
-head-requires c κs = search needs
-
 loop-holds : tie.Need-loop-holds Inv-loop μ-loop
 loop-holds c =
     let s = c .before .before .before .before in
-    (ap (λ (x : Contract). x .functions) (c .head .ensures), onward-first (s .args .table .now) (s .args .state) (naming (s .args .caller .now) (s .args .function .now)))
+    (ap (λ (x : TableHead). x .functions) (c .head .ensures), onward-first (s .args .table .now) (s .args .state) (naming (s .args .caller .now) (s .args .function .now)))
 
 answers-to-requires : tie.Need-answers-to-requires Inv-loop μ-loop
 answers-to-requires c κs =
@@ -38,12 +35,6 @@ returns c =
     let s = c .before .before .before .before .before .before .before .before in
     let l = c .before .before .before .loop in
     found-here (s .args .table .now) (s .args .state) (naming (s .args .caller .now) (s .args .function .now)) _ (l .inv .1) (omega (arith, l .inv .0)) (sym (c .before .answers-to .ensures) ∙ c .if1 .taken)
-
-add-i : tie.Need-add-i Inv-loop μ-loop
-add-i c = search needs
-
-loop-less : tie.Need-loop-less Inv-loop μ-loop
-loop-less c = search needs
 
 loop-again : tie.Need-loop-again Inv-loop μ-loop
 loop-again c =
@@ -61,13 +52,5 @@ pub find-function-spec : {M : Type 1} → statement M
 find-function-spec =
     tie.close
     (tie.spec
-    Inv-loop
-    μ-loop
-    head-requires
-    loop-holds
-    answers-to-requires
-    returns
-    add-i
-    loop-less
-    loop-again
+    Inv-loop μ-loop (λ c κs. search needs) loop-holds answers-to-requires returns (λ c. search needs) (λ c. search needs) loop-again
     returns-2)

@@ -3,19 +3,13 @@ use borrow.Author.Needs.{needs}
 use mathlib.Core.Path.{refl, _∙_}
 use Rattle.contract.specs.Tree.{Contract}
 use Rattle.contract.specs.Decode.{contractOf}
-use Rattle.state.specs.States.{repeated}
+use Rattle.laws.specs.Lists.{repeated}
 use Rattle.statements.specs.Running.{labelsFrom}
 use Rattle.machine.specs.Steps.{fired}
 use Rattle.machine.proofs.Gates.{refused-first, stepped}
 use Rattle.machine.proofs.Columns.{rejoined}
 use Rattle.machine.proofs.fire.Statement.{statement}
 use Rattle.machine.proofs.fire.Tie as tie
-
-first-no-requires : tie.Need-first-no-requires
-first-no-requires c κs = search needs
-
-refuse-requires : tie.Need-refuse-requires
-refuse-requires c κs = search needs
 
 returns : tie.Need-returns
 returns c =
@@ -25,9 +19,6 @@ returns c =
 fire-on-requires : tie.Need-fire-on-requires
 unfolding labelsFrom repeated
 fire-on-requires c κs = refl
-
-with-labels-requires : tie.Need-with-labels-requires
-with-labels-requires c κs = search needs
 
 returns-2 : tie.Need-returns-2
 returns-2 c =
@@ -39,9 +30,4 @@ pub fire-spec : {M : Type 1} → statement M
 fire-spec =
     tie.close
     (tie.spec
-    first-no-requires
-    refuse-requires
-    returns
-    fire-on-requires
-    with-labels-requires
-    returns-2)
+    (λ c κs. search needs) (λ c κs. search needs) returns fire-on-requires (λ c κs. search needs) returns-2)

@@ -4,38 +4,26 @@ use mathlib.Core.Path.{sym, ap, _∙_}
 use borrow.Author.Tests.{not-true, not-false}
 use Rattle.contract.specs.Decode.{contractOf}
 use Rattle.state.proofs.Dues.{due-found}
-use Rattle.machine.specs.declared.Stepped.{Stepped}
-use Rattle.machine.specs.Parts.{cameOf}
+use Rattle.outcomes.specs.declared.Stepped.{Stepped}
+use Rattle.machine.specs.Private.{replyOf}
 use Rattle.machine.proofs.Firings.{fire-unagreed, fire-due}
 use Rattle.machine.proofs.fire_on.Statement.{statement}
 use Rattle.machine.proofs.fire_on.Tie as tie
-
-turn-down-requires : tie.Need-turn-down-requires
-turn-down-requires c κs = search needs
 
 returns : tie.Need-returns
 returns c =
     let s = (c .before .before .before .before) in
     let e = fire-unagreed (contractOf (s .args .table .now)) (s .args .s) (not-true _ (c .before .if1 .taken)) in
-    (c .turn-down .ensures ∙ ap cameOf e, s .pre ∙ ap (λ (t : Stepped). t .labels) e)
-
-first-due-requires : tie.Need-first-due-requires
-first-due-requires c κs = search needs
-
-enum-known-due : tie.Need-enum-known-due
-enum-known-due c = search needs
+    (c .turn-down .ensures ∙ ap replyOf e, s .pre ∙ ap (λ (t : Stepped). t .labels) e)
 
 enum-told : tie.Need-enum-told
 enum-told c = search needs
-
-turn-down-requires-2 : tie.Need-turn-down-requires-2
-turn-down-requires-2 c κs = search needs
 
 returns-2 : tie.Need-returns-2
 returns-2 c =
     let s = (c .before .before .before .before .before .before .before) in
     let e = fire-due (contractOf (s .args .table .now)) (s .args .s) (not-false _ (c .before .before .before .before .if1 .left)) _ (sym (c .before .before .before .first-due .ensures) ∙ c .before .enum-told .given .1) in
-    (c .turn-down2 .ensures ∙ ap cameOf e, s .pre ∙ ap (λ (t : Stepped). t .labels) e)
+    (c .turn-down2 .ensures ∙ ap replyOf e, s .pre ∙ ap (λ (t : Stepped). t .labels) e)
 
 handle-requires : tie.Need-handle-requires
 handle-requires c κs =
@@ -46,18 +34,11 @@ returns-3 : tie.Need-returns-3
 returns-3 c =
     let s = (c .before .before .before .before .before .before .before .before .before .before .before) in
     let e = fire-due (contractOf (s .args .table .now)) (s .args .s) (not-false _ (c .before .before .before .before .before .before .before .before .if1 .left)) _ (sym (c .before .before .before .before .before .before .before .first-due .ensures) ∙ c .before .before .before .before .before .due .given .1) in
-    (c .handle .ensures .0 ∙ ap cameOf e, c .handle .ensures .1 ∙ ap (λ (t : Stepped). t .labels) e)
+    (c .handle .ensures .0 ∙ ap replyOf e, c .handle .ensures .1 ∙ ap (λ (t : Stepped). t .labels) e)
 
 pub fire-on-spec : {M : Type 1} → statement M
 fire-on-spec =
     tie.close
     (tie.spec
-    turn-down-requires
-    returns
-    first-due-requires
-    enum-known-due
-    enum-told
-    turn-down-requires-2
-    returns-2
-    handle-requires
+    (λ c κs. search needs) returns (λ c κs. search needs) (λ c. search needs) enum-told (λ c κs. search needs) returns-2 handle-requires
     returns-3)

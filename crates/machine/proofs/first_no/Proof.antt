@@ -6,16 +6,10 @@ use Rattle.machine.proofs.Gates.{no-table, no-state, no-room, no-no}
 use Rattle.machine.proofs.first_no.Statement.{statement}
 use Rattle.machine.proofs.first_no.Tie as tie
 
-table-passes-requires : tie.Need-table-passes-requires
-table-passes-requires c κs = search needs
-
 returns : tie.Need-returns
 returns c =
     let s = c .before .before .before in
     no-table (s .args .table .now) (s .args .room) (s .args .s) (sym (c .before .table-passes .ensures) ∙ not-true _ (c .if1 .taken))
-
-state-ok-requires : tie.Need-state-ok-requires
-state-ok-requires c κs = search needs
 
 returns-2 : tie.Need-returns-2
 returns-2 c =
@@ -35,4 +29,4 @@ returns-4 c =
 pub first-no-spec : {M : Type 1} → statement M
 first-no-spec =
     tie.close
-    (tie.spec table-passes-requires returns state-ok-requires returns-2 returns-3 returns-4)
+    (tie.spec (λ c κs. search needs) returns (λ c κs. search needs) returns-2 returns-3 returns-4)

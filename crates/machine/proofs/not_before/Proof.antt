@@ -16,13 +16,10 @@ returns c =
     let s = c .before in
     negative-before (s .args .clock) (toZ w64 (ofZ w64 (s .args .z))) (c .if1 .taken) ∙ ap (leZ (pos (s .args .clock))) (toZ-ofZ (s .fits .z))
 
-magnitude-requires : tie.Need-magnitude-requires
-magnitude-requires c κs = search needs
-
 returns-2 : tie.Need-returns-2
 returns-2 c =
     let s = c .before .before in
     ap (leb (s .args .clock)) (c .magnitude .ensures) ∙ not-negative-before (s .args .clock) (toZ w64 (ofZ w64 (s .args .z))) (c .before .if1 .left) ∙ ap (leZ (pos (s .args .clock))) (toZ-ofZ (s .fits .z))
 
 pub not-before-spec : {M : Type 1} → statement M
-not-before-spec = tie.close (tie.spec returns magnitude-requires returns-2)
+not-before-spec = tie.close (tie.spec returns (λ c κs. search needs) returns-2)

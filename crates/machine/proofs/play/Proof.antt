@@ -7,18 +7,6 @@ use Rattle.machine.proofs.Gates.{asked}
 use Rattle.machine.proofs.play.Statement.{statement}
 use Rattle.machine.proofs.play.Tie as tie
 
-label-room-requires : tie.Need-label-room-requires
-label-room-requires c κs = search needs
-
-first-no-requires : tie.Need-first-no-requires
-first-no-requires c κs = search needs
-
-same-length : tie.Need-same-length
-same-length c = search needs
-
-same-length-2 : tie.Need-same-length-2
-same-length-2 c = search needs
-
 returns : tie.Need-returns
 returns c =
     let s = c .before .before .before .before .before .before .before .before in
@@ -30,18 +18,17 @@ play-on-requires c κs =
     let a = asked (s .args .table .now) _ (s .args .s) _ (c .before .before .before .first-no .ensures) (c .before .before .if1 .left) in
     (a .0, within (contractOf (s .args .table .now)) (s .args .s) (a .1) .pending)
 
-same-length-3 : tie.Need-same-length-3
-same-length-3 c = search needs
-
-same-length-4 : tie.Need-same-length-4
-same-length-4 c = search needs
-
 returns-2 : tie.Need-returns-2
 returns-2 c =
-    let s = c .before .before .before .before .before .before .before .before .before .before .before .before .before .before in
-    play-went (s .args .table .now) (s .args .s) (s .args .input .now) _ _ (c .before .before .before .before .before .before .before .before .label-room .ensures) _ (c .before .before .before .before .before .before .before .first-no .ensures) (c .before .before .before .before .before .before .if1 .left) _ (s .args .numbers .now) _ (s .args .integers .now) _ (c .before .before .before .play-on .ensures)
+    let c3 = c .before .before .before in
+    let c6 = c3 .before .before .before in
+    let c7 = c6 .before in
+    let c8 = c7 .before in
+    let c14 = c8 .before .before .before .before .before .before in
+    let s = c14 in
+    play-went (s .args .table .now) (s .args .s) (s .args .input .now) _ _ (c8 .label-room .ensures) _ (c7 .first-no .ensures) (c6 .if1 .left) _ (s .args .numbers .now) _ (s .args .integers .now) _ (c3 .play-on .ensures)
 
 pub play-spec : {M : Type 1} → statement M
 play-spec =
     tie.close
-    (tie.spec label-room-requires first-no-requires same-length same-length-2 returns play-on-requires same-length-3 same-length-4 returns-2)
+    (tie.spec (λ c κs. search needs) (λ c κs. search needs) (λ c. search needs) (λ c. search needs) returns play-on-requires (λ c. search needs) (λ c. search needs) returns-2)

@@ -11,15 +11,6 @@ returns c =
     let s = c .before .before in
     precondition-omitted (s .args .table .now) (memoryOf (s .args .kinds .now) (s .args .numbers .now) (s .args .texts .now) (s .args .holdings .now) (s .args .values .now) (s .args .clock)) (s .args .first) (s .args .n) (c .if1 .taken)
 
-add-k : tie.Need-add-k
-add-k c = search needs
-
-sub-k : tie.Need-sub-k
-sub-k c = search needs
-
-truth-requires : tie.Need-truth-requires
-truth-requires c κs = search needs
-
 returns-2 : tie.Need-returns-2
 returns-2 c =
     let s = c .before .before .before in
@@ -29,8 +20,4 @@ pub precondition-spec : {M : Type 1} → statement M
 precondition-spec =
     tie.close
     (tie.spec
-    returns
-    add-k
-    sub-k
-    truth-requires
-    returns-2)
+    returns (λ c. search needs) (λ c. search needs) (λ c κs. search needs) returns-2)

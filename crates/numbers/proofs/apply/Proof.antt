@@ -21,48 +21,6 @@ known : {o : Operator} {a b : Value} {x y : ℤ} {r : Answer} (p : Operator) →
     → r ≡ arithmetic p (toZ w64 (ofZ w64 x)) (toZ w64 (ofZ w64 y)) → r ≡ applied o a b
 known p eo ea eb fx fy e = e ∙ back (arithmetic p) (record { sfits = fx }) (record { sfits = fy }) ∙ sym (λ i. applied (eo i) (ea i) (eb i))
 
-enum-known-a : tie.Need-enum-known-a
-enum-known-a c = search needs
-
-enum-told : tie.Need-enum-told
-enum-told c = search needs
-
-returns : tie.Need-returns
-returns c = search needs
-
-enum-known-b : tie.Need-enum-known-b
-enum-known-b c = search needs
-
-enum-told-2 : tie.Need-enum-told-2
-enum-told-2 c = search needs
-
-returns-2 : tie.Need-returns-2
-returns-2 c = search needs
-
-enum-told-3 : tie.Need-enum-told-3
-enum-told-3 c = search needs
-
-add-requires : tie.Need-add-requires
-add-requires c κs = search needs
-
-enum-told-4 : tie.Need-enum-told-4
-enum-told-4 c = search needs
-
-sub-requires : tie.Need-sub-requires
-sub-requires c κs = search needs
-
-enum-told-5 : tie.Need-enum-told-5
-enum-told-5 c = search needs
-
-mul-requires : tie.Need-mul-requires
-mul-requires c κs = search needs
-
-enum-told-6 : tie.Need-enum-told-6
-enum-told-6 c = search needs
-
-div-requires : tie.Need-div-requires
-div-requires c κs = search needs
-
 returns-3 : tie.Need-returns-3
 returns-3 c =
     let k = c .before .before .before in
@@ -91,21 +49,6 @@ pub apply-spec : {M : Type 1} → statement M
 apply-spec =
     tie.close
     (tie.spec
-    enum-known-a
-    enum-told
-    returns
-    enum-known-b
-    enum-told-2
-    returns-2
-    enum-told-3
-    add-requires
-    enum-told-4
-    sub-requires
-    enum-told-5
-    mul-requires
-    enum-told-6
-    div-requires
-    returns-3
-    returns-4
-    returns-5
-    returns-6)
+    (λ c. search needs) (λ c. search needs) (λ c. search needs) (λ c. search needs) (λ c. search needs) (λ c. search needs)
+    (λ c. search needs) (λ c κs. search needs) (λ c. search needs) (λ c κs. search needs) (λ c. search needs) (λ c κs. search needs)
+    (λ c. search needs) (λ c κs. search needs) returns-3 returns-4 returns-5 returns-6)

@@ -8,30 +8,6 @@ use borrow.Author.Needs.{needs}
 use Rattle.numbers.proofs.compare.Statement.{statement}
 use Rattle.numbers.proofs.compare.Tie as tie
 
-enum-known-a : tie.Need-enum-known-a
-enum-known-a c = search needs
-
-enum-known-b : tie.Need-enum-known-b
-enum-known-b c = search needs
-
-compare-integers-requires : tie.Need-compare-integers-requires
-compare-integers-requires c κs = search needs
-
-enum-told : tie.Need-enum-told
-enum-told c = search needs
-
-enum-known-a-2 : tie.Need-enum-known-a-2
-enum-known-a-2 c = search needs
-
-enum-told-2 : tie.Need-enum-told-2
-enum-told-2 c = search needs
-
-enum-known-b-2 : tie.Need-enum-known-b-2
-enum-known-b-2 c = search needs
-
-compare-strings-requires : tie.Need-compare-strings-requires
-compare-strings-requires c κs = search needs
-
 returns : tie.Need-returns
 returns c =
     let k = c .before .before .before .before in
@@ -39,12 +15,6 @@ returns c =
     let fx : SFits w64 (k .before .a .given .0 .0) = record { sfits = k .known-told .given .0 .1 } in
     let fy : SFits w64 (c .before .before .b .given .0 .0) = record { sfits = c .before .known-told2 .given .0 .1 } in
     c .compare-integers .ensures ∙ back (integers o) fx fy ∙ sym (λ i. compared o (k .before .a .given .1 i) (c .before .before .b .given .1 i))
-
-returns-2 : tie.Need-returns-2
-returns-2 c = search needs
-
-returns-3 : tie.Need-returns-3
-returns-3 c = search needs
 
 returns-4 : tie.Need-returns-4
 returns-4 c =
@@ -54,15 +24,5 @@ pub compare-spec : {M : Type 1} → statement M
 compare-spec =
     tie.close
     (tie.spec
-    enum-known-a
-    enum-known-b
-    compare-integers-requires
-    enum-told
-    enum-known-a-2
-    enum-told-2
-    enum-known-b-2
-    compare-strings-requires
-    returns
-    returns-2
-    returns-3
-    returns-4)
+    (λ c. search needs) (λ c. search needs) (λ c κs. search needs) (λ c. search needs) (λ c. search needs) (λ c. search needs)
+    (λ c. search needs) (λ c κs. search needs) returns (λ c. search needs) (λ c. search needs) returns-4)

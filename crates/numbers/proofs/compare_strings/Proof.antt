@@ -24,9 +24,6 @@ ordered AtLeast m n h = refl
 enum-told : tie.Need-enum-told
 enum-told c = search needs
 
-enum-told-2 : tie.Need-enum-told-2
-enum-told-2 c = search needs
-
 returns : tie.Need-returns
 returns c = rw (c .enum-told .given .1)
 
@@ -37,4 +34,4 @@ returns-3 : tie.Need-returns-3
 returns-3 c = ordered (c .before .args .c) _ _ (c .match .keys3)
 
 pub compare-strings-spec : {M : Type 1} → statement M
-compare-strings-spec = tie.close (tie.spec enum-told enum-told-2 returns returns-2 returns-3)
+compare-strings-spec = tie.close (tie.spec enum-told (λ c. search needs) returns returns-2 returns-3)

@@ -56,9 +56,6 @@ returns : tie.Need-returns
 unfolding divided pick
 returns c = rw (zero-of _ (c .before .fits .b) (c .if1 .taken))
 
-sub-requires : tie.Need-sub-requires
-sub-requires c κs = search needs
-
 returns-2 : tie.Need-returns-2
 returns-2 c =
     let s = c .before .before .before in
@@ -79,4 +76,4 @@ returns-3 c =
     (is-in _ (div-t4 c .1) ∙ back (λ (x y : ℤ). inRange (quotient x y)) (s .fits .a) (s .fits .b))
 
 pub div-spec : {M : Type 1} → statement M
-div-spec = tie.close (tie.spec returns sub-requires returns-2 div-t4 returns-3)
+div-spec = tie.close (tie.spec returns (λ c κs. search needs) returns-2 div-t4 returns-3)

@@ -49,8 +49,5 @@ cast-result-2 c = plain _ (again (c .before .fits .a)) (c .if1 .left)
 returns : tie.Need-returns
 returns c = one-more _ (again (c .before .fits .a)) (c .if1 .taken) ∙ ap natAbs (toZ-ofZ (c .before .fits .a))
 
-returns-2 : tie.Need-returns-2
-returns-2 c = search needs
-
 pub magnitude-spec : {M : Type 1} → statement M
-magnitude-spec = tie.close (tie.spec sub-result cast-result add-result cast-result-2 returns returns-2)
+magnitude-spec = tie.close (tie.spec sub-result cast-result add-result cast-result-2 returns (λ c. search needs))

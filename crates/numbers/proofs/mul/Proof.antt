@@ -58,19 +58,10 @@ room m n s h =
     let g : n * m ≤ 2 ^ 63 = le-div-iff-mul-le (pos-of-ne-zero s) .0 h in
     record { fits = omega (arith, mul-comm n m) }
 
-magnitude-requires : tie.Need-magnitude-requires
-magnitude-requires c κs = search needs
-
-magnitude-requires-2 : tie.Need-magnitude-requires-2
-magnitude-requires-2 c κs = search needs
-
 returns : tie.Need-returns
 returns c =
     let s = c .before .before in
     none _ _ (s .before .fits .a) (s .before .fits .b) _ _ (s .magnitude .ensures) (c .before .magnitude2 .ensures) (c .if1 .taken)
-
-div-if2 : tie.Need-div-if2
-div-if2 c = search needs
 
 returns-2 : tie.Need-returns-2
 returns-2 c =
@@ -80,9 +71,6 @@ returns-2 c =
 mul-natural : tie.Need-mul-natural
 mul-natural c = room _ _ (c .before .before .if1 .left) (c .before .if2 .left)
 
-natural-requires : tie.Need-natural-requires
-natural-requires c κs = search needs
-
 returns-3 : tie.Need-returns-3
 returns-3 c =
     let s = c .before .before .before .before .before in
@@ -90,9 +78,6 @@ returns-3 c =
 
 mul-negative : tie.Need-mul-negative
 mul-negative c = room _ _ (c .before .before .if1 .left) (c .before .if2 .left)
-
-negative-requires : tie.Need-negative-requires
-negative-requires c κs = search needs
 
 returns-4 : tie.Need-returns-4
 returns-4 c =
@@ -102,4 +87,4 @@ returns-4 c =
 pub mul-spec : {M : Type 1} → statement M
 mul-spec =
     tie.close
-    (tie.spec magnitude-requires magnitude-requires-2 returns div-if2 returns-2 mul-natural natural-requires returns-3 mul-negative negative-requires returns-4)
+    (tie.spec (λ c κs. search needs) (λ c κs. search needs) returns (λ c. search needs) returns-2 mul-natural (λ c κs. search needs) returns-3 mul-negative (λ c κs. search needs) returns-4)

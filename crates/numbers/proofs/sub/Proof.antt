@@ -36,9 +36,6 @@ module _ (x y : ℤ) (fx : SFits w64 x) (fy : SFits w64 y) where
 sub-add : tie.Need-sub-add
 sub-add c = turned-fits _ _ (again (c .before .fits .a)) (again (c .before .fits .b)) (c .if1 .taken)
 
-add-requires : tie.Need-add-requires
-add-requires c κs = search needs
-
 returns : tie.Need-returns
 returns c =
     let s = c .before .before in
@@ -60,4 +57,4 @@ returns-3 c =
     over _ _ (again (s .fits .a)) (again (s .fits .b)) (c .before .if1 .left) (c .if2 .left) ∙ back (λ (x y : ℤ). inRange (x -ℤ y)) (s .fits .a) (s .fits .b)
 
 pub sub-spec : {M : Type 1} → statement M
-sub-spec = tie.close (tie.spec sub-add add-requires returns sub-t5 returns-2 returns-3)
+sub-spec = tie.close (tie.spec sub-add (λ c κs. search needs) returns sub-t5 returns-2 returns-3)

@@ -61,7 +61,10 @@ put-byte-requires-2 c κs =
 
 returns-2 : tie.Need-returns-2
 returns-2 c =
-    text-wrote _ _ _ (c .before .before .before .before .before .before .before .before .before .before .before .before .before .before .before .before .before .before .if1 .left) (sym (c .before .before .before .before .before .before .before .before .before .before .before .before .before .before .before .before .before .is-text-refusal .ensures) ∙ c .before .before .before .before .before .before .before .before .before .before .before .before .before .before .before .before .if2 .taken)
+    let c16 = c .before .before .before .before .before .before .before .before .before .before .before .before .before .before .before .before in
+    let c17 = c16 .before in
+    let c18 = c17 .before in
+    text-wrote _ _ _ (c18 .if1 .left) (sym (c17 .is-text-refusal .ensures) ∙ c16 .if2 .taken)
     (text-line _ _ (c .before .before .before .before .before .before .before .before .before .before .before .before .before .before .put-refused .ensures) (c .before .before .before .before .before .before .before .before .before .before .put-byte .ensures) (c .before .before .before .before .before .before .put-number .ensures) (c .before .before .put-byte2 .ensures))
 
 same-length : tie.Need-same-length

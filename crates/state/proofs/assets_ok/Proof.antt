@@ -5,10 +5,10 @@ use mathlib.Core.Path.{_≡_, sym, _∙_}
 use mathlib.Core.Bool.{true}
 use Prim.Native.Nat.{_-_, _≤_}
 use native.Mathlib.Omega.{arith}
-use Rattle.contract.specs.Check.{allBelow}
+use Rattle.laws.proofs.Members.{all-none, all-more, all-stop}
+use Rattle.laws.specs.Lists.{allBelow}
 use Rattle.state.specs.States.{assetSlotOk}
 use Rattle.state.proofs.Parts.{assetAt}
-use Rattle.state.proofs.Below.{all-none, all-more, all-stop}
 
 abbrev Inv-loop : tie.InvT-loop
 Inv-loop used assets i₀ i =
@@ -21,21 +21,6 @@ abbrev μ-loop : tie.MeasureT-loop
 loop-holds : tie.Need-loop-holds Inv-loop μ-loop
 loop-holds c =
     (omega arith, all-none _)
-
-mul-asset-slot-ok : tie.Need-mul-asset-slot-ok Inv-loop μ-loop
-mul-asset-slot-ok c = search needs
-
-array-read-asset-slot-ok : tie.Need-array-read-asset-slot-ok Inv-loop μ-loop
-array-read-asset-slot-ok c = search needs
-
-asset-slot-ok-requires : tie.Need-asset-slot-ok-requires Inv-loop μ-loop
-asset-slot-ok-requires c κs = search needs
-
-add-i : tie.Need-add-i Inv-loop μ-loop
-add-i c = search needs
-
-loop-less : tie.Need-loop-less Inv-loop μ-loop
-loop-less c = search needs
 
 loop-again : tie.Need-loop-again Inv-loop μ-loop
 loop-again c =
@@ -60,14 +45,5 @@ pub assets-ok-spec : {M : Type 1} → statement M
 assets-ok-spec =
     tie.close
     (tie.spec
-    Inv-loop
-    μ-loop
-    loop-holds
-    mul-asset-slot-ok
-    array-read-asset-slot-ok
-    asset-slot-ok-requires
-    add-i
-    loop-less
-    loop-again
-    returns
-    returns-2)
+    Inv-loop μ-loop loop-holds (λ c. search needs) (λ c. search needs) (λ c κs. search needs) (λ c. search needs) (λ c. search needs)
+    loop-again returns returns-2)

@@ -3,23 +3,11 @@ use Rattle.state.proofs.event_state.Statement.{statement}
 use Rattle.state.proofs.event_state.Tie as tie
 use Rattle.state.proofs.Rows.{unfounded-state, past-state, far-state, near-state}
 
-cast-function : tie.Need-cast-function
-cast-function c = search needs
-
-cast-event : tie.Need-cast-event
-cast-event c = search needs
-
-head-requires : tie.Need-head-requires
-head-requires c κs = search needs
-
 returns : tie.Need-returns
 returns c =
     let s = c .before .before .before .before .before .before in
     let head = c .before .before .head in
     unfounded-state (s .args .table .now) (s .args .p) (head .result) (head .ensures) (c .if1 .taken)
-
-function-at-requires : tie.Need-function-at-requires
-function-at-requires c κs = search needs
 
 returns-2 : tie.Need-returns-2
 returns-2 c =
@@ -35,12 +23,6 @@ returns-3 c =
     let row = c .before .before .before .function-at in
     far-state (s .args .table .now) (s .args .p) (head .result) (head .ensures) (c .before .before .before .before .if1 .left) (row .result) (row .ensures) (c .before .if2 .left) (c .if3 .taken)
 
-add-event-at : tie.Need-add-event-at
-add-event-at c = search needs
-
-event-at-requires : tie.Need-event-at-requires
-event-at-requires c κs = search needs
-
 returns-4 : tie.Need-returns-4
 returns-4 c =
     let s = c .before .before .before .before .before .before .before .before .before .before .before in
@@ -52,13 +34,5 @@ pub event-state-spec : {M : Type 1} → statement M
 event-state-spec =
     tie.close
     (tie.spec
-    cast-function
-    cast-event
-    head-requires
-    returns
-    function-at-requires
-    returns-2
-    returns-3
-    add-event-at
-    event-at-requires
-    returns-4)
+    (λ c. search needs) (λ c. search needs) (λ c κs. search needs) returns (λ c κs. search needs) returns-2 returns-3 (λ c. search needs)
+    (λ c κs. search needs) returns-4)

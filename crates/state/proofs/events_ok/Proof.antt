@@ -5,11 +5,11 @@ use mathlib.Core.Path.{_≡_, sym, _∙_}
 use mathlib.Core.Bool.{true}
 use Prim.Native.Nat.{_-_, _≤_}
 use native.Mathlib.Omega.{arith}
-use Rattle.contract.specs.Check.{allBelow}
+use Rattle.laws.proofs.Members.{all-none, all-more, all-stop}
+use Rattle.laws.specs.Lists.{allBelow}
 use Rattle.contract.specs.Decode.{contractOf}
 use Rattle.state.specs.States.{pendingSlotOk}
 use Rattle.state.proofs.Parts.{pendingAt}
-use Rattle.state.proofs.Below.{all-none, all-more, all-stop}
 
 abbrev Inv-loop : tie.InvT-loop
 Inv-loop table clock pending events i₀ i =
@@ -22,21 +22,6 @@ abbrev μ-loop : tie.MeasureT-loop
 loop-holds : tie.Need-loop-holds Inv-loop μ-loop
 loop-holds c =
     (omega arith, all-none _)
-
-mul-p : tie.Need-mul-p Inv-loop μ-loop
-mul-p c = search needs
-
-array-copy-out-p : tie.Need-array-copy-out-p Inv-loop μ-loop
-array-copy-out-p c = search needs
-
-pending-slot-ok-requires : tie.Need-pending-slot-ok-requires Inv-loop μ-loop
-pending-slot-ok-requires c κs = search needs
-
-add-i : tie.Need-add-i Inv-loop μ-loop
-add-i c = search needs
-
-loop-less : tie.Need-loop-less Inv-loop μ-loop
-loop-less c = search needs
 
 loop-again : tie.Need-loop-again Inv-loop μ-loop
 loop-again c =
@@ -61,14 +46,5 @@ pub events-ok-spec : {M : Type 1} → statement M
 events-ok-spec =
     tie.close
     (tie.spec
-    Inv-loop
-    μ-loop
-    loop-holds
-    mul-p
-    array-copy-out-p
-    pending-slot-ok-requires
-    add-i
-    loop-less
-    loop-again
-    returns
-    returns-2)
+    Inv-loop μ-loop loop-holds (λ c. search needs) (λ c. search needs) (λ c κs. search needs) (λ c. search needs) (λ c. search needs)
+    loop-again returns returns-2)

@@ -7,9 +7,6 @@ use Rattle.laws.specs.Choice.{pick}
 use Rattle.state.specs.States.{fieldOk}
 use Rattle.state.proofs.Parts.{zero-back}
 
-is-zero-requires : tie.Need-is-zero-requires
-is-zero-requires c κs = search needs
-
 returns : tie.Need-returns
 unfolding fieldOk pick
 returns c =
@@ -26,9 +23,6 @@ returns-3 : tie.Need-returns-3
 unfolding fieldOk pick
 returns-3 c =
     simp (ne-eqb _ _ (c .before .if1 .left), eq-eqb _ _ (c .if3 .taken))
-
-is-zero-requires-2 : tie.Need-is-zero-requires-2
-is-zero-requires-2 c κs = search needs
 
 returns-4 : tie.Need-returns-4
 unfolding fieldOk pick
@@ -51,11 +45,4 @@ pub field-ok-spec : {M : Type 1} → statement M
 field-ok-spec =
     tie.close
     (tie.spec
-    is-zero-requires
-    returns
-    returns-2
-    returns-3
-    is-zero-requires-2
-    returns-4
-    returns-5
-    returns-6)
+    (λ c κs. search needs) returns returns-2 returns-3 (λ c κs. search needs) returns-4 returns-5 returns-6)

@@ -5,9 +5,6 @@ use mathlib.Core.Path.{sym, _∙_}
 use Rattle.laws.specs.Choice.{pick}
 use Rattle.state.proofs.Parts.{field-back}
 
-field-ok-requires : tie.Need-field-ok-requires
-field-ok-requires c κs = search needs
-
 returns : tie.Need-returns
 unfolding pick
 returns c =
@@ -27,4 +24,4 @@ returns-3 c =
     rw (field-back (s .fits .number) (s .args .strings) (s .args .kind) (s .args .text) ∙ sym (c .before .field-ok .ensures) ∙ c .if1 .left)
 
 pub field-slot-ok-spec : {M : Type 1} → statement M
-field-slot-ok-spec = tie.close (tie.spec field-ok-requires returns returns-2 returns-3)
+field-slot-ok-spec = tie.close (tie.spec (λ c κs. search needs) returns returns-2 returns-3)

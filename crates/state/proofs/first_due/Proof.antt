@@ -19,9 +19,6 @@ abbrev μ-loop : tie.MeasureT-loop
 μ-loop table state clock pending events i₀ i =
     64 - i
 
-loop-holds : tie.Need-loop-holds Inv-loop μ-loop
-loop-holds c = search needs
-
 returns : tie.Need-returns Inv-loop μ-loop
 unfolding dueIn
 returns c =
@@ -29,28 +26,17 @@ returns c =
     let h = c .before .before in
     sym (first-due-of (contractOf (s .args .table .now)) (s .args .s) 0 _ ∙ h .loop .inv ∙ first-end (dueAt (contractOf (s .args .table .now)) (s .args .s .clock) (s .args .s .state)) (s .args .s .pending) (s .args .s .events) (h .loop .i) (out-take (s .args .s .pending) (s .args .s .events) (h .loop .i) (c .if1 .taken)))
 
-mul-p : tie.Need-mul-p Inv-loop μ-loop
-mul-p c = search needs
-
-array-copy-out-p : tie.Need-array-copy-out-p Inv-loop μ-loop
-array-copy-out-p c = search needs
-
-event-state-requires : tie.Need-event-state-requires Inv-loop μ-loop
-event-state-requires c κs = search needs
-
 returns-2 : tie.Need-returns-2 Inv-loop μ-loop
 unfolding dueIn
 returns-2 c =
     let s = c .before .before .before .before .before .before .before .before .before .before in
     let h = c .before .before .before .before .before .before .before in
     let l : length (s .args .s .events) ≡ 64 = events-length (s .args .s) _ (s .good .1 .0) in
-    sym (first-due-of (contractOf (s .args .table .now)) (s .args .s) 0 _ ∙ h .loop .inv ∙ first-hit (dueAt (contractOf (s .args .table .now)) (s .args .s .clock) (s .args .s .state)) (s .args .s .pending) (s .args .s .events) (h .loop .i) _ (omega arith) (omega arith) (due-now (contractOf (s .args .table .now)) (s .args .s .clock) (s .args .s .state) _ (c .before .before .if2 .taken) (sym (c .before .event-state .ensures) ∙ c .if3 .taken)))
-
-add-i : tie.Need-add-i Inv-loop μ-loop
-add-i c = search needs
-
-loop-less : tie.Need-loop-less Inv-loop μ-loop
-loop-less c = search needs
+    let k = contractOf (s .args .table .now) in
+    let z = s .args .s in
+    let d = due-now k (z .clock) (z .state) _ (c .before .before .if2 .taken) (sym (c .before .event-state .ensures) ∙ c .if3 .taken) in
+    sym (first-due-of k z 0 _ ∙ h .loop .inv
+    ∙ first-hit (dueAt k (z .clock) (z .state)) (z .pending) (z .events) (h .loop .i) _ (omega arith) (omega arith) d)
 
 loop-again : tie.Need-loop-again Inv-loop μ-loop
 loop-again c =
@@ -74,15 +60,5 @@ pub first-due-spec : {M : Type 1} → statement M
 first-due-spec =
     tie.close
     (tie.spec
-    Inv-loop
-    μ-loop
-    loop-holds
-    returns
-    mul-p
-    array-copy-out-p
-    event-state-requires
-    returns-2
-    add-i
-    loop-less
-    loop-again
-    returns-3)
+    Inv-loop μ-loop (λ c. search needs) returns (λ c. search needs) (λ c. search needs) (λ c κs. search needs) returns-2 (λ c. search needs)
+    (λ c. search needs) loop-again returns-3)

@@ -3,23 +3,11 @@ use Rattle.state.proofs.pending_ok.Statement.{statement}
 use Rattle.state.proofs.pending_ok.Tie as tie
 use Rattle.state.proofs.Rows.{unfounded-ok, past-ok, early-ok, timely-ok}
 
-cast-function : tie.Need-cast-function
-cast-function c = search needs
-
-cast-event : tie.Need-cast-event
-cast-event c = search needs
-
-head-requires : tie.Need-head-requires
-head-requires c κs = search needs
-
 returns : tie.Need-returns
 returns c =
     let s = c .before .before .before .before .before .before in
     let head = c .before .before .head in
     unfounded-ok (s .args .table .now) (s .args .p) (head .result) (head .ensures) (s .args .clock) (c .if1 .taken)
-
-function-at-requires : tie.Need-function-at-requires
-function-at-requires c κs = search needs
 
 returns-2 : tie.Need-returns-2
 returns-2 c =
@@ -46,11 +34,4 @@ pub pending-ok-spec : {M : Type 1} → statement M
 pending-ok-spec =
     tie.close
     (tie.spec
-    cast-function
-    cast-event
-    head-requires
-    returns
-    function-at-requires
-    returns-2
-    returns-3
-    returns-4)
+    (λ c. search needs) (λ c. search needs) (λ c κs. search needs) returns (λ c κs. search needs) returns-2 returns-3 returns-4)

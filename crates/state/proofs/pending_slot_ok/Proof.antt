@@ -3,16 +3,10 @@ use Rattle.state.proofs.pending_slot_ok.Statement.{statement}
 use Rattle.state.proofs.pending_slot_ok.Tie as tie
 use Rattle.laws.specs.Choice.{pick}
 
-pending-ok-requires : tie.Need-pending-ok-requires
-pending-ok-requires c κs = search needs
-
 returns : tie.Need-returns
 unfolding pick
 returns c =
     rw (c .before .if1 .taken) (c .pending-ok .ensures)
-
-is-blank-requires : tie.Need-is-blank-requires
-is-blank-requires c κs = search needs
 
 returns-2 : tie.Need-returns-2
 unfolding pick
@@ -20,4 +14,4 @@ returns-2 c =
     rw (c .before .if1 .left) (c .is-blank .ensures)
 
 pub pending-slot-ok-spec : {M : Type 1} → statement M
-pending-slot-ok-spec = tie.close (tie.spec pending-ok-requires returns is-blank-requires returns-2)
+pending-slot-ok-spec = tie.close (tie.spec (λ c κs. search needs) returns (λ c κs. search needs) returns-2)

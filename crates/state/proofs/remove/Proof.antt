@@ -2,10 +2,7 @@ use borrow.Author.Needs.{needs}
 use Rattle.state.proofs.remove.Statement.{statement}
 use Rattle.state.proofs.remove.Tie as tie
 use Rattle.state.specs.States.{removed, withPending}
-use Rattle.state.specs.Slots.{slotsOf}
-
-without-place-requires : tie.Need-without-place-requires
-without-place-requires c κs = search needs
+use Rattle.state.specs.Private.{slotsOf}
 
 returns : tie.Need-returns
 unfolding removed withPending slotsOf
@@ -13,4 +10,4 @@ returns c =
     simp (c .before .without-place .ensures)
 
 pub remove-spec : {M : Type 1} → statement M
-remove-spec = tie.close (tie.spec without-place-requires returns)
+remove-spec = tie.close (tie.spec (λ c κs. search needs) returns)

@@ -4,21 +4,15 @@ use Rattle.state.proofs.state_ok.Tie as tie
 use mathlib.Core.Path.{sym, ap, _∙_}
 use Prim.Native.Nat.{ℕ}
 use borrow.Author.Tests.{lt-leb, le-leb, not-true, not-false}
-use Rattle.contract.specs.Check.{allBelow}
+use Rattle.laws.specs.Lists.{allBelow}
 use Rattle.state.specs.States.{fieldSlotOk, assetSlotOk}
 use Rattle.state.proofs.Rows.{parts}
-
-head-requires : tie.Need-head-requires
-head-requires c κs = search needs
 
 returns : tie.Need-returns
 returns c =
     let s = c .before .before .before .before in
     let head = c .before .before .head in
     sym (parts (s .args .table .now) (s .args .s) (head .result) (head .ensures) ∙ simp (lt-leb _ _ (c .if1 .taken)))
-
-name-ok-requires : tie.Need-name-ok-requires
-name-ok-requires c κs = search needs
 
 returns-2 : tie.Need-returns-2
 returns-2 c =
@@ -41,12 +35,6 @@ returns-3 c =
       lt-leb _ _ (c .if3 .taken),
     ))
 
-used-of-requires : tie.Need-used-of-requires
-used-of-requires c κs = search needs
-
-fields-ok-requires : tie.Need-fields-ok-requires
-fields-ok-requires c κs = search needs
-
 returns-4 : tie.Need-returns-4
 returns-4 c =
     let s = c .before .before .before .before .before .before .before .before .before .before in
@@ -58,12 +46,6 @@ returns-4 c =
       le-leb _ _ (c .before .before .before .if3 .left),
       ap (λ (u : ℕ). allBelow 32 (fieldSlotOk (head .result .strings) u (s .args .s))) (sym (c .before .before .used-of .ensures)) ∙ sym (c .before .fields-ok .ensures) ∙ not-true _ (c .if4 .taken),
     ))
-
-used-of-requires-2 : tie.Need-used-of-requires-2
-used-of-requires-2 c κs = search needs
-
-assets-ok-requires : tie.Need-assets-ok-requires
-assets-ok-requires c κs = search needs
 
 returns-5 : tie.Need-returns-5
 returns-5 c =
@@ -77,9 +59,6 @@ returns-5 c =
       ap (λ (u : ℕ). allBelow 32 (fieldSlotOk (head .result .strings) u (s .args .s))) (sym (c .before .before .before .before .before .used-of .ensures)) ∙ sym (c .before .before .before .before .fields-ok .ensures) ∙ not-false _ (c .before .before .before .if4 .left),
       ap (λ (u : ℕ). allBelow 16 (assetSlotOk u (s .args .s))) (sym (c .before .before .used-of2 .ensures)) ∙ sym (c .before .assets-ok .ensures) ∙ not-true _ (c .if5 .taken),
     ))
-
-events-ok-requires : tie.Need-events-ok-requires
-events-ok-requires c κs = search needs
 
 returns-6 : tie.Need-returns-6
 returns-6 c =
@@ -99,16 +78,5 @@ pub state-ok-spec : {M : Type 1} → statement M
 state-ok-spec =
     tie.close
     (tie.spec
-    head-requires
-    returns
-    name-ok-requires
-    returns-2
-    returns-3
-    used-of-requires
-    fields-ok-requires
-    returns-4
-    used-of-requires-2
-    assets-ok-requires
-    returns-5
-    events-ok-requires
-    returns-6)
+    (λ c κs. search needs) returns (λ c κs. search needs) returns-2 returns-3 (λ c κs. search needs) (λ c κs. search needs) returns-4
+    (λ c κs. search needs) (λ c κs. search needs) returns-5 (λ c κs. search needs) returns-6)

@@ -9,7 +9,8 @@ use native.Mathlib.Omega.{arith}
 use lib.Dec.{eqb}
 use lib.ListN.{length, getD, take}
 use borrow.Author.Tests.{eq-eqb, ne-eqb}
-use Rattle.state.specs.States.{blank, keep, repeated}
+use Rattle.state.specs.States.{blank}
+use Rattle.laws.specs.Lists.{keep, repeated}
 use Rattle.state.proofs.Kept.{Holds, holds-none, holds-more, holds-same, held, all-taken, more-yes, more-no}
 use Rattle.state.proofs.First.{out-take, past-take}
 
@@ -25,27 +26,6 @@ loop-holds : tie.Need-loop-holds Inv-loop μ-loop
 unfolding keep repeated
 loop-holds c =
     (omega arith, holds-none)
-
-mul-p : tie.Need-mul-p Inv-loop μ-loop
-mul-p c = search needs
-
-array-copy-out-p : tie.Need-array-copy-out-p Inv-loop μ-loop
-array-copy-out-p c = search needs
-
-mul-out : tie.Need-mul-out Inv-loop μ-loop
-mul-out c = search needs
-
-array-set-from-out : tie.Need-array-set-from-out Inv-loop μ-loop
-array-set-from-out c = search needs
-
-add-count : tie.Need-add-count Inv-loop μ-loop
-add-count c = search needs
-
-add-i : tie.Need-add-i Inv-loop μ-loop
-add-i c = search needs
-
-loop-less : tie.Need-loop-less Inv-loop μ-loop
-loop-less c = search needs
 
 loop-again : tie.Need-loop-again Inv-loop μ-loop
 loop-again c =
@@ -74,16 +54,5 @@ pub without-time-spec : {M : Type 1} → statement M
 without-time-spec =
     tie.close
     (tie.spec
-    Inv-loop
-    μ-loop
-    loop-holds
-    mul-p
-    array-copy-out-p
-    mul-out
-    array-set-from-out
-    add-count
-    add-i
-    loop-less
-    loop-again
-    returns
-    returns-2)
+    Inv-loop μ-loop loop-holds (λ c. search needs) (λ c. search needs) (λ c. search needs) (λ c. search needs) (λ c. search needs)
+    (λ c. search needs) (λ c. search needs) loop-again returns returns-2)

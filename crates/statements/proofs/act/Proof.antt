@@ -1,25 +1,33 @@
 -- `statements::act` meets its contract. Assumes nothing.
 use borrow.Author.Needs.{needs}
-use mathlib.Core.Path.{ap, _∙_}
 use Rattle.statements.specs.Running.{labelsFrom, workFrom}
-use Rattle.statements.specs.Parts.{applied}
 use Rattle.statements.proofs.act.Statement.{statement}
 use Rattle.statements.proofs.act.Tie as tie
-use Rattle.statements.proofs.Actions.{effect-applied}
-
-effect-of-requires : tie.Need-effect-of-requires
-effect-of-requires c κs = search needs
-
-apply-requires : tie.Need-apply-requires
-apply-requires c κs = search needs
+use Rattle.statements.proofs.Actions.{acts-value, acts-amount}
 
 returns : tie.Need-returns
 returns c =
-    let s = c .before .before .before .before .before .before .before .before .before .before .before .before .before .before .args in
+    let c7 = c .before .before .before .before .before .before .before in
+    let c8 = c7 .before in
+    let c13 = c8 .before .before .before .before .before in
+    let c15 = c13 .before .before in
+    let s = c15 .args in
     let w = workFrom (s .kinds .now) (s .numbers .now) (s .texts .now) (s .holdings .now)
     (labelsFrom (s .sorts .now) (s .receivers .now) (s .amounts .now)) (s .count) 0 in
-    c .apply .ensures ∙ ap (applied w) (c .before .before .before .before .before .before .before .before .effect-of .ensures) ∙ effect-applied
-    (s .values .now) (s .clock) w (s .table .now) (s .k)
+    acts-value (s .values .now) (s .clock) w (s .table .now) (s .k) _ (c13 .node-at .ensures) _ (c8 .answer-of .ensures) _ (c7 .if1 .taken)
+    (c .give-value .ensures (s .holdings .now))
+
+returns-2 : tie.Need-returns-2
+returns-2 c =
+    let c5 = c .before .before .before .before .before in
+    let c6 = c5 .before in
+    let c11 = c6 .before .before .before .before .before in
+    let c13 = c11 .before .before in
+    let s = c13 .args in
+    let w = workFrom (s .kinds .now) (s .numbers .now) (s .texts .now) (s .holdings .now)
+    (labelsFrom (s .sorts .now) (s .receivers .now) (s .amounts .now)) (s .count) 0 in
+    acts-amount (s .values .now) (s .clock) w (s .table .now) (s .k) _ (c11 .node-at .ensures) _ (c6 .answer-of .ensures) _ (c5 .if1 .left)
+    (c .give-amount .ensures (s .kinds .now) (s .numbers .now) (s .texts .now))
 
 pub act-spec : {M : Type 1} → statement M
-act-spec = tie.close (tie.spec effect-of-requires apply-requires returns)
+act-spec = tie.close (tie.spec (λ c κs. search needs) (λ c κs. search needs) (λ c κs. search needs) returns (λ c κs. search needs) returns-2)

@@ -9,24 +9,6 @@ returns : tie.Need-returns
 returns c =
     (label-full _ _ _ _ _ (c .if1 .taken), count-full _ (c .if1 .taken))
 
-element-write-sorts : tie.Need-element-write-sorts
-element-write-sorts c = search needs
-
-mul-receivers : tie.Need-mul-receivers
-mul-receivers c = search needs
-
-element-write-receivers : tie.Need-element-write-receivers
-element-write-receivers c = search needs
-
-mul-value : tie.Need-mul-value
-mul-value c = search needs
-
-element-set-from-value : tie.Need-element-set-from-value
-element-set-from-value c = search needs
-
-add-result : tie.Need-add-result
-add-result c = search needs
-
 returns-2 : tie.Need-returns-2
 returns-2 c =
     let s = c .before .args in (
@@ -39,11 +21,5 @@ pub add-label-spec : {M : Type 1} → statement M
 add-label-spec =
     tie.close
     (tie.spec
-    returns
-    element-write-sorts
-    mul-receivers
-    element-write-receivers
-    mul-value
-    element-set-from-value
-    add-result
+    returns (λ c. search needs) (λ c. search needs) (λ c. search needs) (λ c. search needs) (λ c. search needs) (λ c. search needs)
     returns-2)

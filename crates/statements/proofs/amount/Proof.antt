@@ -5,18 +5,9 @@ use lib.ListN.{List·getD-eq-default}
 use Rattle.statements.proofs.amount.Statement.{statement}
 use Rattle.statements.proofs.amount.Tie as tie
 
-mul-result : tie.Need-mul-result
-mul-result c = search needs
-
-shared-slice-read-result : tie.Need-shared-slice-read-result
-shared-slice-read-result c = search needs
-
-returns : tie.Need-returns
-returns c = search needs
-
 returns-2 : tie.Need-returns-2
 returns-2 c =
     sym (List·getD-eq-default (c .before .args .holdings .now) 0 (c .if1 .left))
 
 pub amount-spec : {M : Type 1} → statement M
-amount-spec = tie.close (tie.spec mul-result shared-slice-read-result returns returns-2)
+amount-spec = tie.close (tie.spec (λ c. search needs) (λ c. search needs) (λ c. search needs) returns-2)

@@ -6,15 +6,6 @@ use mir.Facts.{toZ-ofZ}
 use Rattle.statements.proofs.fill.Statement.{statement}
 use Rattle.statements.proofs.fill.Tie as tie
 
-set-byte-requires : tie.Need-set-byte-requires
-set-byte-requires c κs = search needs
-
-set-integer-requires : tie.Need-set-integer-requires
-set-integer-requires c κs = search needs
-
-set-byte-requires-2 : tie.Need-set-byte-requires-2
-set-byte-requires-2 c κs = search needs
-
 returns : tie.Need-returns
 returns c =
     let s = c .before .before .before .before .before .before .args in (
@@ -23,4 +14,4 @@ returns c =
     )
 
 pub fill-spec : {M : Type 1} → statement M
-fill-spec = tie.close (tie.spec set-byte-requires set-integer-requires set-byte-requires-2 returns)
+fill-spec = tie.close (tie.spec (λ c κs. search needs) (λ c κs. search needs) (λ c κs. search needs) returns)

@@ -5,9 +5,6 @@ use Rattle.statements.proofs.held_amount.Statement.{statement}
 use Rattle.statements.proofs.held_amount.Tie as tie
 use Rattle.statements.proofs.Moves.{held-asset, held-parameter, held-past}
 
-amount-requires : tie.Need-amount-requires
-amount-requires c κs = search needs
-
 returns : tie.Need-returns
 returns c =
     c .amount .ensures ∙ held-asset (c .before .before .before .args .holdings .now) (c .before .before .before .args .kind)
@@ -18,12 +15,6 @@ returns-2 c =
     held-past (c .before .before .before .args .holdings .now) (c .before .before .before .args .kind) (c .before .before .before .args .argument)
     (c .before .if1 .left) (c .if2 .taken)
 
-add-amount : tie.Need-add-amount
-add-amount c = search needs
-
-amount-requires-2 : tie.Need-amount-requires-2
-amount-requires-2 c κs = search needs
-
 returns-3 : tie.Need-returns-3
 returns-3 c =
     c .amount2 .ensures ∙ held-parameter (c .before .before .before .before .args .holdings .now) (c .before .before .before .before .args .kind)
@@ -31,4 +22,4 @@ returns-3 c =
 
 pub held-amount-spec : {M : Type 1} → statement M
 held-amount-spec =
-    tie.close (tie.spec amount-requires returns returns-2 add-amount amount-requires-2 returns-3)
+    tie.close (tie.spec (λ c κs. search needs) returns returns-2 (λ c. search needs) (λ c κs. search needs) returns-3)

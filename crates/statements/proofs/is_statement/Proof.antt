@@ -4,9 +4,6 @@ use Rattle.statements.proofs.is_statement.Statement.{statement}
 use Rattle.statements.proofs.is_statement.Tie as tie
 use Rattle.statements.proofs.Blocks.{statement-below, statement-above}
 
-node-at-requires : tie.Need-node-at-requires
-node-at-requires c κs = search needs
-
 returns : tie.Need-returns
 returns c =
     let s = c .before .before .before .before .args in
@@ -18,4 +15,4 @@ returns-2 c =
     statement-above (s .table .now) (s .k) _ (c .before .before .before .node-at .ensures) (c .before .if1 .left)
 
 pub is-statement-spec : {M : Type 1} → statement M
-is-statement-spec = tie.close (tie.spec node-at-requires returns returns-2)
+is-statement-spec = tie.close (tie.spec (λ c κs. search needs) returns returns-2)

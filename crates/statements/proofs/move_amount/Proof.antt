@@ -1,13 +1,10 @@
 -- `statements::move_amount` meets its contract. Assumes nothing.
 use borrow.Author.Needs.{needs}
 use native.Mathlib.Omega.{arith}
-use Rattle.statements.specs.Parts.{onlyHoldings}
+use Rattle.statements.specs.Private.{onlyHoldings}
 use Rattle.statements.proofs.move_amount.Statement.{statement}
 use Rattle.statements.proofs.move_amount.Tie as tie
 use Rattle.statements.proofs.Moves.{not-held, no-place, to-itself, too-much, goes}
-
-amount-requires : tie.Need-amount-requires
-amount-requires c κs = search needs
 
 returns : tie.Need-returns
 returns c =
@@ -25,9 +22,6 @@ returns-3 c =
     to-itself (onlyHoldings (s .holdings .now) 0) (s .i) (s .n) _ (c .before .before .before .amount .ensures) (s .j) (c .before .before .if1 .left)
     (c .before .if2 .left) (c .if3 .taken)
 
-amount-requires-2 : tie.Need-amount-requires-2
-amount-requires-2 c κs = search needs
-
 returns-4 : tie.Need-returns-4
 returns-4 c =
     let s = c .before .before .before .before .before .before .before .before .before .before .args in
@@ -41,15 +35,6 @@ returns-5 c =
     too-much (onlyHoldings (s .holdings .now) 0) (s .i) (s .n) _ (c .before .before .before .before .before .before .before .before .amount .ensures)
     (s .j) (c .before .before .before .before .before .before .before .if1 .left) (c .before .before .before .before .before .before .if2 .left)
     (c .before .before .before .before .before .if3 .left) _ (c .before .before .amount2 .ensures) (omega arith)
-
-set-amount-requires : tie.Need-set-amount-requires
-set-amount-requires c κs = search needs
-
-add-set-amount : tie.Need-add-set-amount
-add-set-amount c = search needs
-
-set-amount-requires-2 : tie.Need-set-amount-requires-2
-set-amount-requires-2 c κs = search needs
 
 returns-6 : tie.Need-returns-6
 returns-6 c =
@@ -66,14 +51,5 @@ pub move-amount-spec : {M : Type 1} → statement M
 move-amount-spec =
     tie.close
     (tie.spec
-    amount-requires
-    returns
-    returns-2
-    returns-3
-    amount-requires-2
-    returns-4
-    returns-5
-    set-amount-requires
-    add-set-amount
-    set-amount-requires-2
-    returns-6)
+    (λ c κs. search needs) returns returns-2 returns-3 (λ c κs. search needs) returns-4 returns-5 (λ c κs. search needs) (λ c. search needs)
+    (λ c κs. search needs) returns-6)

@@ -4,13 +4,10 @@ use mir.Syntax.{w64}
 use mir.Val.{SFits}
 use mir.Facts.{toZ-ofZ}
 use Rattle.statements.specs.Running.{moved}
-use Rattle.statements.specs.Parts.{onlyHoldings}
+use Rattle.statements.specs.Private.{onlyHoldings}
 use Rattle.statements.proofs.move_value.Statement.{statement}
 use Rattle.statements.proofs.move_value.Tie as tie
 use Rattle.statements.proofs.Actions.{text-stops, negative-stops, is-natural, natural-goes}
-
-enum-known-value : tie.Need-enum-known-value
-enum-known-value c = search needs
 
 enum-told : tie.Need-enum-told
 enum-told c = search needs
@@ -28,12 +25,6 @@ returns-2 c =
     let fz : SFits w64 (c .before .before .value .given .0 .0) = record { sfits = c .before .known-told .given .0 .1 } in
     negative-stops w (moved w (s .i) (s .j)) (s .value) _ _ (c .before .before .value .given .1) (toZ-ofZ fz) (c .if1 .taken)
 
-magnitude-requires : tie.Need-magnitude-requires
-magnitude-requires c κs = search needs
-
-move-amount-requires : tie.Need-move-amount-requires
-move-amount-requires c κs = search needs
-
 returns-3 : tie.Need-returns-3
 returns-3 c =
     let s = c .before .before .before .before .before .before .before .args in
@@ -48,10 +39,4 @@ pub move-value-spec : {M : Type 1} → statement M
 move-value-spec =
     tie.close
     (tie.spec
-    enum-known-value
-    enum-told
-    returns
-    returns-2
-    magnitude-requires
-    move-amount-requires
-    returns-3)
+    (λ c. search needs) enum-told returns returns-2 (λ c κs. search needs) (λ c κs. search needs) returns-3)

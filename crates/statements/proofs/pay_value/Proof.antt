@@ -10,9 +10,6 @@ use Rattle.statements.proofs.pay_value.Tie as tie
 use Rattle.statements.proofs.Actions.{text-stops, negative-stops, is-natural, natural-of, natural-goes}
 use Rattle.statements.proofs.Parted.{pay-refused, pay-done}
 
-enum-known-value : tie.Need-enum-known-value
-enum-known-value c = search needs
-
 enum-told : tie.Need-enum-told
 enum-told c = search needs
 
@@ -29,50 +26,46 @@ returns-2 c =
     let fz : SFits w64 (c .before .before .value .given .0 .0) = record { sfits = c .before .known-told .given .0 .1 } in
     negative-stops w (paid w (s .i) (s .party)) (s .value) _ _ (c .before .before .value .given .1) (toZ-ofZ fz) (c .if1 .taken)
 
-magnitude-requires : tie.Need-magnitude-requires
-magnitude-requires c κs = search needs
-
-take-amount-requires : tie.Need-take-amount-requires
-take-amount-requires c κs = search needs
-
 returns-3 : tie.Need-returns-3
 returns-3 c =
-    let s = c .before .before .before .before .before .before .before .before .args in
+    let c2 = c .before .before in
+    let c4 = c2 .before .before in
+    let c5 = c4 .before in
+    let c6 = c5 .before in
+    let c8 = c6 .before .before in
+    let s = c8 .args in
     let l = labelsFrom (s .sorts .now) (s .receivers .now) (s .amounts .now) in
     let w = workFrom [] [] [] (s .holdings .now) l (s .count) 0 in
-    let fz : SFits w64 (c .before .before .before .before .before .before .value .given .0 .0) = record
-    { sfits = c .before .before .before .before .before .known-told .given .0 .1 } in
-    let e = is-natural (s .value) _ _ _ (c .before .before .before .before .before .before .value .given .1) (toZ-ofZ fz)
-    (c .before .before .before .before .if1 .left) (c .before .before .magnitude .ensures) in
+    let fz : SFits w64 (c6 .value .given .0 .0) = record
+    { sfits = c5 .known-told .given .0 .1 } in
+    let e = is-natural (s .value) _ _ _ (c6 .value .given .1) (toZ-ofZ fz)
+    (c4 .if1 .left) (c2 .magnitude .ensures) in
     natural-goes w (paid w (s .i) (s .party)) (s .value) _ _ e
     (pay-refused (s .holdings .now) l (s .count) (s .i) (s .party) _ _ (c .before .take-amount .ensures .1) _ (c .before .take-amount .ensures .0) (c .if2 .taken))
 
-add-label-requires : tie.Need-add-label-requires
-add-label-requires c κs = search needs
-
 returns-4 : tie.Need-returns-4
 returns-4 c =
-    let s = c .before .before .before .before .before .before .before .before .before .before .before .before .args in
+    let c4 = c .before .before .before .before in
+    let c5 = c4 .before in
+    let c6 = c5 .before in
+    let c8 = c6 .before .before in
+    let c9 = c8 .before in
+    let c10 = c9 .before in
+    let c12 = c10 .before .before in
+    let s = c12 .args in
     let l = labelsFrom (s .sorts .now) (s .receivers .now) (s .amounts .now) in
     let w = workFrom [] [] [] (s .holdings .now) l (s .count) 0 in
-    let fz : SFits w64 (c .before .before .before .before .before .before .before .before .before .before .value .given .0 .0) = record
-    { sfits = c .before .before .before .before .before .before .before .before .before .known-told .given .0 .1 } in
-    let e = is-natural (s .value) _ _ _ (c .before .before .before .before .before .before .before .before .before .before .value .given .1)
-    (toZ-ofZ fz) (c .before .before .before .before .before .before .before .before .if1 .left)
-    (c .before .before .before .before .before .before .magnitude .ensures) in
+    let fz : SFits w64 (c10 .value .given .0 .0) = record
+    { sfits = c9 .known-told .given .0 .1 } in
+    let e = is-natural (s .value) _ _ _ (c10 .value .given .1)
+    (toZ-ofZ fz) (c8 .if1 .left)
+    (c6 .magnitude .ensures) in
     natural-goes w (paid w (s .i) (s .party)) (s .value) _ _ e
-    (pay-done (s .holdings .now) l (s .count) (s .i) (s .party) _ _ (c .before .before .before .before .before .take-amount .ensures .1) _ (c .before .before .before .before .before .take-amount .ensures .0) _ _ _ (c .before .before .before .before .if2 .left) (natural-of _ _ (c .before .before .before .before .before .before .before .before .if1 .left) (c .before .before .before .before .before .before .magnitude .ensures)) (c .add-label .ensures .0) (c .add-label .ensures .1))
+    (pay-done (s .holdings .now) l (s .count) (s .i) (s .party) _ _ (c5 .take-amount .ensures .1) _ (c5 .take-amount .ensures .0) _ _ _ (c4 .if2 .left) (natural-of _ _ (c8 .if1 .left) (c6 .magnitude .ensures)) (c .add-label .ensures .0) (c .add-label .ensures .1))
 
 pub pay-value-spec : {M : Type 1} → statement M
 pay-value-spec =
     tie.close
     (tie.spec
-    enum-known-value
-    enum-told
-    returns
-    returns-2
-    magnitude-requires
-    take-amount-requires
-    returns-3
-    add-label-requires
+    (λ c. search needs) enum-told returns returns-2 (λ c κs. search needs) (λ c κs. search needs) returns-3 (λ c κs. search needs)
     returns-4)

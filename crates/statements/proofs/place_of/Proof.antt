@@ -14,9 +14,6 @@ returns-2 c =
     let s = c .before .before in
     place-asset (s .args .kind) (s .args .argument) (c .before .if1 .left) (c .if2 .taken)
 
-add-result : tie.Need-add-result
-add-result c = search needs
-
 returns-3 : tie.Need-returns-3
 returns-3 c =
     let s = c .before .before .before in
@@ -28,4 +25,4 @@ returns-4 c =
     place-past (s .args .kind) (s .args .argument) (c .before .if2 .left) (c .if3 .left)
 
 pub place-of-spec : {M : Type 1} → statement M
-place-of-spec = tie.close (tie.spec returns returns-2 add-result returns-3 returns-4)
+place-of-spec = tie.close (tie.spec returns returns-2 (λ c. search needs) returns-3 returns-4)

@@ -9,21 +9,6 @@ use Rattle.statements.proofs.send.Statement.{statement}
 use Rattle.statements.proofs.send.Tie as tie
 use Rattle.statements.proofs.Writes.{value-label}
 
-enum-known-value : tie.Need-enum-known-value
-enum-known-value c = search needs
-
-add-label-requires : tie.Need-add-label-requires
-add-label-requires c κs = search needs
-
-enum-known-value-2 : tie.Need-enum-known-value-2
-enum-known-value-2 c = search needs
-
-cast-add-label : tie.Need-cast-add-label
-cast-add-label c = search needs
-
-add-label-requires-2 : tie.Need-add-label-requires-2
-add-label-requires-2 c κs = search needs
-
 returns : tie.Need-returns
 returns c =
     let fz : SFits w64 (c .before .before .before .before .before .value .given .0 .0) = record
@@ -44,10 +29,4 @@ pub send-spec : {M : Type 1} → statement M
 send-spec =
     tie.close
     (tie.spec
-    enum-known-value
-    add-label-requires
-    enum-known-value-2
-    cast-add-label
-    add-label-requires-2
-    returns
-    returns-2)
+    (λ c. search needs) (λ c κs. search needs) (λ c. search needs) (λ c. search needs) (λ c κs. search needs) returns returns-2)

@@ -10,14 +10,5 @@ returns : tie.Need-returns
 returns c =
     sym (set-out _ _ _ (omega arith))
 
-slice-write-list : tie.Need-slice-write-list
-slice-write-list c = search needs
-
-same-length : tie.Need-same-length
-same-length c = search needs
-
-returns-2 : tie.Need-returns-2
-returns-2 c = search needs
-
 pub set-byte-spec : {M : Type 1} → statement M
-set-byte-spec = tie.close (tie.spec returns slice-write-list same-length returns-2)
+set-byte-spec = tie.close (tie.spec returns (λ c. search needs) (λ c. search needs) (λ c. search needs))

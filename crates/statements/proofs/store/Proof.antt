@@ -5,21 +5,9 @@ use lib.ListN.{set}
 use mir.Syntax.{w64}
 use mir.Val.{SFits}
 use mir.Facts.{toZ-ofZ}
-use Rattle.statements.specs.Parts.{sortOf, numberOf, textOf}
+use Rattle.statements.specs.Private.{sortOf, numberOf, textOf}
 use Rattle.statements.proofs.store.Statement.{statement}
 use Rattle.statements.proofs.store.Tie as tie
-
-enum-known-value : tie.Need-enum-known-value
-enum-known-value c = search needs
-
-fill-requires : tie.Need-fill-requires
-fill-requires c κs = search needs
-
-enum-known-value-2 : tie.Need-enum-known-value-2
-enum-known-value-2 c = search needs
-
-fill-requires-2 : tie.Need-fill-requires-2
-fill-requires-2 c κs = search needs
 
 returns : tie.Need-returns
 returns c =
@@ -42,4 +30,4 @@ returns-2 c =
 pub store-spec : {M : Type 1} → statement M
 store-spec =
     tie.close
-    (tie.spec enum-known-value fill-requires enum-known-value-2 fill-requires-2 returns returns-2)
+    (tie.spec (λ c. search needs) (λ c κs. search needs) (λ c. search needs) (λ c κs. search needs) returns returns-2)

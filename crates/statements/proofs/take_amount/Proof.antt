@@ -4,16 +4,10 @@ use Rattle.statements.proofs.take_amount.Statement.{statement}
 use Rattle.statements.proofs.take_amount.Tie as tie
 use Rattle.statements.proofs.Moves.{not-taken, not-taken-refusal, taken, taken-refusal}
 
-amount-requires : tie.Need-amount-requires
-amount-requires c κs = search needs
-
 returns : tie.Need-returns
 returns c =
     let l = c .before .before .before .before .args .holdings .now in
     (not-taken l _ _ _ (c .before .amount .ensures) (c .if1 .taken), not-taken-refusal l _ _ _ (c .before .amount .ensures) (c .if1 .taken))
-
-set-amount-requires : tie.Need-set-amount-requires
-set-amount-requires c κs = search needs
 
 returns-2 : tie.Need-returns-2
 returns-2 c =
@@ -24,4 +18,4 @@ returns-2 c =
     )
 
 pub take-amount-spec : {M : Type 1} → statement M
-take-amount-spec = tie.close (tie.spec amount-requires returns set-amount-requires returns-2)
+take-amount-spec = tie.close (tie.spec (λ c κs. search needs) returns (λ c κs. search needs) returns-2)

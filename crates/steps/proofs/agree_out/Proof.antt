@@ -5,14 +5,8 @@ use Rattle.steps.specs.Left.{outOf}
 use Rattle.steps.proofs.agree_out.Statement.{statement}
 use Rattle.steps.proofs.agree_out.Tie as tie
 
-agree-requires : tie.Need-agree-requires
-agree-requires c κs = search needs
-
-part-requires : tie.Need-part-requires
-part-requires c κs = search needs
-
 returns : tie.Need-returns
 returns c = c .part .ensures ∙ ap outOf (c .before .agree .ensures)
 
 pub agree-out-spec : {M : Type 1} → statement M
-agree-out-spec = tie.close (tie.spec agree-requires part-requires returns)
+agree-out-spec = tie.close (tie.spec (λ c κs. search needs) (λ c κs. search needs) returns)

@@ -169,7 +169,9 @@ module _ {M : Type 1} (𝓤 : URA M) (H : Heap 𝓤) (A : Atoms 𝓤) (W : Given
     -- the invariant: the borrow is closed at the list after i turns, and the array's elements are side by side
     abbrev At : Upto → List (Item 𝓤)
     At i = ‵ (fobs γ (codedHoleys R .code (heres R (Z (i .0))))) ∷ ‵ (fbor κ (Held R (length (Z (i .0))) b o γ)) ∷ ‵ (flft κ q) ∷ ‵ (row R fullShare fs l₄ 0)
-        ∷ ‵ (froom tyPtr l₁₄ 0) ∷ ‵ (fdies tyPtr l₁₄) ∷ ‵ (froom word l₁₃ 0) ∷ ‵ (fdies word l₁₃) ∷ ‵ (froom T′.mir l₁₂ 0) ∷ ‵ (fdies T′.mir l₁₂) ∷ ‵ (froom tyPtr l₁₁ 0) ∷ ‵ (fdies tyPtr l₁₁) ∷ ‵ (froom tyPtr l₁₀ 0) ∷ ‵ (fdies tyPtr l₁₀) ∷ ‵ (froom word l₉ 0) ∷ ‵ (fdies word l₉) ∷ ‵ (froom tyBool l₈ 0) ∷ ‵ (fdies tyBool l₈) ∷ ‵ (fat fullShare word l₇ 0 (vint w64 (length ys))) ∷ ‵ (fdies word l₇) ∷ ‵ (fat fullShare word l₆ 0 (vint w64 (i .0))) ∷ ‵ (fdies word l₆) ∷ ‵ (fat fullShare word l₅ 0 (vint w64 m)) ∷ ‵ (fdies word l₅) ∷ ‵ (fdies arr l₄) ∷ ‵ (fat fullShare word l₃ 0 (vint w64 n)) ∷ ‵ (fdies word l₃) ∷ ‵ (fat fullShare arr l₂ 0 (machA)) ∷ ‵ (fdies arr l₂) ∷ ‵ (fat fullShare slice l₁ 0 (s)) ∷ ‵ (fdies slice l₁) ∷ ‵ (froom tyUnit l₀ 0) ∷ ‵ (fdies tyUnit l₀) ∷ []
+        ∷ ‵ (froom tyPtr l₁₄ 0) ∷ ‵ (fdies tyPtr l₁₄) ∷ ‵ (froom word l₁₃ 0) ∷ ‵ (fdies word l₁₃) ∷ ‵ (froom T′.mir l₁₂ 0) ∷ ‵ (fdies T′.mir l₁₂) ∷ ‵ (froom tyPtr l₁₁ 0) ∷ ‵ (fdies tyPtr l₁₁) ∷ ‵ (froom tyPtr l₁₀ 0) ∷ ‵ (fdies tyPtr l₁₀) ∷ ‵ (froom word l₉ 0) ∷ ‵ (fdies word l₉) ∷ ‵ (froom tyBool l₈ 0) ∷ ‵ (fdies tyBool l₈)
+        ∷ ‵ (fat fullShare word l₇ 0 (vint w64 (length ys))) ∷ ‵ (fdies word l₇) ∷ ‵ (fat fullShare word l₆ 0 (vint w64 (i .0))) ∷ ‵ (fdies word l₆) ∷ ‵ (fat fullShare word l₅ 0 (vint w64 m)) ∷ ‵ (fdies word l₅) ∷ ‵ (fdies arr l₄) ∷ ‵ (fat fullShare word l₃ 0 (vint w64 n)) ∷ ‵ (fdies word l₃) ∷ ‵ (fat fullShare arr l₂ 0 (machA)) ∷ ‵ (fdies arr l₂)
+        ∷ ‵ (fat fullShare slice l₁ 0 (s)) ∷ ‵ (fdies slice l₁) ∷ ‵ (froom tyUnit l₀ 0) ∷ ‵ (fdies tyUnit l₀) ∷ []
 
     abbrev Turned : Upto → Out → SProp 𝓤
     Turned i = afterTurn 𝓤 H (Below 𝓤 H A Nearer At i) (afterBlock 𝓤 H (afterSeq 𝓤 H (Wp 𝓤 H C Λ En code.Mir.t-6 (atReturn 𝓤 H En Post)) (atReturn 𝓤 H En Post)))

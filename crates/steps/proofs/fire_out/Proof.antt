@@ -5,14 +5,8 @@ use Rattle.steps.specs.Left.{outOf}
 use Rattle.steps.proofs.fire_out.Statement.{statement}
 use Rattle.steps.proofs.fire_out.Tie as tie
 
-fire-requires : tie.Need-fire-requires
-fire-requires c κs = search needs
-
-part-requires : tie.Need-part-requires
-part-requires c κs = search needs
-
 returns : tie.Need-returns
 returns c = c .part .ensures ∙ ap outOf (c .before .fire .ensures)
 
 pub fire-out-spec : {M : Type 1} → statement M
-fire-out-spec = tie.close (tie.spec fire-requires part-requires returns)
+fire-out-spec = tie.close (tie.spec (λ c κs. search needs) (λ c κs. search needs) returns)

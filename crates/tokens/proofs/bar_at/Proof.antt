@@ -5,24 +5,12 @@ use Rattle.tokens.proofs.Marks.{bar}
 use Rattle.tokens.proofs.bar_at.Statement.{statement}
 use Rattle.tokens.proofs.bar_at.Tie as tie
 
-continues-requires : tie.Need-continues-requires
-continues-requires c κs = search needs
-
-add-found : tie.Need-add-found
-add-found c = search needs
-
-found-requires : tie.Need-found-requires
-found-requires c κs = search needs
-
 returns : tie.Need-returns
 unfolding pick
 returns c =
     let p = c .before .before .before .before .pre in
     let a = c .before .before .before .before .args in
     rw (bar (a .text .now) (a .i) (p .0) (p .1), ← c .before .before .continues .ensures, c .before .if1 .taken) (c .found .ensures)
-
-pair-at-requires : tie.Need-pair-at-requires
-pair-at-requires c κs = search needs
 
 returns-2 : tie.Need-returns-2
 unfolding pick
@@ -34,4 +22,4 @@ returns-2 c =
 pub bar-at-spec : {M : Type 1} → statement M
 bar-at-spec =
     tie.close
-    (tie.spec continues-requires add-found found-requires returns pair-at-requires returns-2)
+    (tie.spec (λ c κs. search needs) (λ c. search needs) (λ c κs. search needs) returns (λ c κs. search needs) returns-2)

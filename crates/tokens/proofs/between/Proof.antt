@@ -6,18 +6,6 @@ use Rattle.tokens.specs.Tokens.{between}
 use Rattle.tokens.proofs.between.Statement.{statement}
 use Rattle.tokens.proofs.between.Tie as tie
 
-part-result-start : tie.Need-part-result-start
-part-result-start c = search needs
-
-part-result-end : tie.Need-part-result-end
-part-result-end c = search needs
-
-slice-aggregate-result : tie.Need-slice-aggregate-result
-slice-aggregate-result c = search needs
-
-slice-aggregate-result-2 : tie.Need-slice-aggregate-result-2
-slice-aggregate-result-2 c = search needs
-
 returns : tie.Need-returns
 unfolding between pick
 returns c =
@@ -37,10 +25,4 @@ pub between-spec : {M : Type 1} → statement M
 between-spec =
     tie.close
     (tie.spec
-    part-result-start
-    part-result-end
-    slice-aggregate-result
-    slice-aggregate-result-2
-    returns
-    returns-2
-    returns-3)
+    (λ c. search needs) (λ c. search needs) (λ c. search needs) (λ c. search needs) returns returns-2 returns-3)

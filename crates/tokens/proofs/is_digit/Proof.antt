@@ -4,13 +4,10 @@ use Rattle.tokens.specs.Classes.{isDigit}
 use Rattle.tokens.proofs.is_digit.Statement.{statement}
 use Rattle.tokens.proofs.is_digit.Tie as tie
 
-within-requires : tie.Need-within-requires
-within-requires c κs = search needs
-
 returns : tie.Need-returns
 unfolding isDigit
 returns c =
     c .within .ensures
 
 pub is-digit-spec : {M : Type 1} → statement M
-is-digit-spec = tie.close (tie.spec within-requires returns)
+is-digit-spec = tie.close (tie.spec (λ c κs. search needs) returns)

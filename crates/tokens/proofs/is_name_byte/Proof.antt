@@ -5,16 +5,10 @@ use Rattle.tokens.specs.Classes.{isNameByte}
 use Rattle.tokens.proofs.is_name_byte.Statement.{statement}
 use Rattle.tokens.proofs.is_name_byte.Tie as tie
 
-is-letter-requires : tie.Need-is-letter-requires
-is-letter-requires c κs = search needs
-
 returns : tie.Need-returns
 unfolding isNameByte pick
 returns c =
     rw (← c .before .is-letter .ensures, c .if1 .taken)
-
-is-digit-requires : tie.Need-is-digit-requires
-is-digit-requires c κs = search needs
 
 returns-2 : tie.Need-returns-2
 unfolding isNameByte pick
@@ -28,4 +22,4 @@ returns-3 c =
 
 pub is-name-byte-spec : {M : Type 1} → statement M
 is-name-byte-spec =
-    tie.close (tie.spec is-letter-requires returns is-digit-requires returns-2 returns-3)
+    tie.close (tie.spec (λ c κs. search needs) returns (λ c κs. search needs) returns-2 returns-3)

@@ -6,9 +6,6 @@ use Rattle.tokens.specs.Classes.{isStringByte}
 use Rattle.tokens.proofs.is_string_byte.Statement.{statement}
 use Rattle.tokens.proofs.is_string_byte.Tie as tie
 
-is-printable-requires : tie.Need-is-printable-requires
-is-printable-requires c κs = search needs
-
 returns : tie.Need-returns
 unfolding isStringByte pick
 returns c =
@@ -20,4 +17,4 @@ returns-2 c =
     rw (ne-eqb _ _ (c .before .if1 .left)) (c .is-printable .ensures)
 
 pub is-string-byte-spec : {M : Type 1} → statement M
-is-string-byte-spec = tie.close (tie.spec is-printable-requires returns returns-2)
+is-string-byte-spec = tie.close (tie.spec (λ c κs. search needs) returns returns-2)

@@ -5,12 +5,6 @@ use Rattle.tokens.specs.Classes.{isText}
 use Rattle.tokens.proofs.is_text.Statement.{statement}
 use Rattle.tokens.proofs.is_text.Tie as tie
 
-is-printable-requires : tie.Need-is-printable-requires
-is-printable-requires c κs = search needs
-
-is-blank-requires : tie.Need-is-blank-requires
-is-blank-requires c κs = search needs
-
 returns : tie.Need-returns
 unfolding isText pick
 returns c =
@@ -22,4 +16,4 @@ returns-2 c =
     rw (← c .before .before .is-printable .ensures, c .before .if1 .left) (c .is-blank .ensures)
 
 pub is-text-spec : {M : Type 1} → statement M
-is-text-spec = tie.close (tie.spec is-printable-requires is-blank-requires returns returns-2)
+is-text-spec = tie.close (tie.spec (λ c κs. search needs) (λ c κs. search needs) returns returns-2)

@@ -9,54 +9,6 @@ use Rattle.tokens.proofs.Marks.{from, single, greater-than, less-than, 
 use Rattle.tokens.proofs.mark_at.Statement.{statement}
 use Rattle.tokens.proofs.mark_at.Tie as tie
 
-add-e : tie.Need-add-e
-add-e c = search needs
-
-shared-slice-read-b : tie.Need-shared-slice-read-b
-shared-slice-read-b c = search needs
-
-found-requires : tie.Need-found-requires
-found-requires c κs = search needs
-
-found-requires-2 : tie.Need-found-requires-2
-found-requires-2 c κs = search needs
-
-found-requires-3 : tie.Need-found-requires-3
-found-requires-3 c κs = search needs
-
-found-requires-4 : tie.Need-found-requires-4
-found-requires-4 c κs = search needs
-
-found-requires-5 : tie.Need-found-requires-5
-found-requires-5 c κs = search needs
-
-found-requires-6 : tie.Need-found-requires-6
-found-requires-6 c κs = search needs
-
-found-requires-7 : tie.Need-found-requires-7
-found-requires-7 c κs = search needs
-
-found-requires-8 : tie.Need-found-requires-8
-found-requires-8 c κs = search needs
-
-found-requires-9 : tie.Need-found-requires-9
-found-requires-9 c κs = search needs
-
-found-requires-10 : tie.Need-found-requires-10
-found-requires-10 c κs = search needs
-
-found-requires-11 : tie.Need-found-requires-11
-found-requires-11 c κs = search needs
-
-found-requires-12 : tie.Need-found-requires-12
-found-requires-12 c κs = search needs
-
-found-requires-13 : tie.Need-found-requires-13
-found-requires-13 c κs = search needs
-
-found-requires-14 : tie.Need-found-requires-14
-found-requires-14 c κs = search needs
-
 minus-at-requires : tie.Need-minus-at-requires
 minus-at-requires c κs =
     (c .before .before .before .pre, c .match .keys15)
@@ -68,27 +20,6 @@ equals-at-requires c κs =
 bar-at-requires : tie.Need-bar-at-requires
 bar-at-requires c κs =
     (c .before .before .before .pre, c .match .keys17)
-
-found-requires-15 : tie.Need-found-requires-15
-found-requires-15 c κs = search needs
-
-pair-at-requires : tie.Need-pair-at-requires
-pair-at-requires c κs = search needs
-
-found-requires-16 : tie.Need-found-requires-16
-found-requires-16 c κs = search needs
-
-pair-at-requires-2 : tie.Need-pair-at-requires-2
-pair-at-requires-2 c κs = search needs
-
-pair-at-requires-3 : tie.Need-pair-at-requires-3
-pair-at-requires-3 c κs = search needs
-
-pair-at-requires-4 : tie.Need-pair-at-requires-4
-pair-at-requires-4 c κs = search needs
-
-pair-at-requires-5 : tie.Need-pair-at-requires-5
-pair-at-requires-5 c κs = search needs
 
 returns : tie.Need-returns
 unfolding from goesOn startsWith spelled pick
@@ -222,51 +153,10 @@ pub mark-at-spec : {M : Type 1} → statement M
 mark-at-spec =
     tie.close
     (tie.spec
-    add-e
-    shared-slice-read-b
-    found-requires
-    found-requires-2
-    found-requires-3
-    found-requires-4
-    found-requires-5
-    found-requires-6
-    found-requires-7
-    found-requires-8
-    found-requires-9
-    found-requires-10
-    found-requires-11
-    found-requires-12
-    found-requires-13
-    found-requires-14
-    minus-at-requires
-    equals-at-requires
-    bar-at-requires
-    found-requires-15
-    pair-at-requires
-    found-requires-16
-    pair-at-requires-2
-    pair-at-requires-3
-    pair-at-requires-4
-    pair-at-requires-5
-    returns
-    returns-2
-    returns-3
-    returns-4
-    returns-5
-    returns-6
-    returns-7
-    returns-8
-    returns-9
-    returns-10
-    returns-11
-    returns-12
-    returns-13
-    returns-14
-    returns-15
-    returns-16
-    returns-17
-    returns-18
-    returns-19
-    returns-20
-    returns-21
-    returns-22)
+    (λ c. search needs) (λ c. search needs) (λ c κs. search needs) (λ c κs. search needs) (λ c κs. search needs) (λ c κs. search needs)
+    (λ c κs. search needs) (λ c κs. search needs) (λ c κs. search needs) (λ c κs. search needs) (λ c κs. search needs)
+    (λ c κs. search needs) (λ c κs. search needs) (λ c κs. search needs) (λ c κs. search needs) (λ c κs. search needs) minus-at-requires
+    equals-at-requires bar-at-requires (λ c κs. search needs) (λ c κs. search needs) (λ c κs. search needs) (λ c κs. search needs)
+    (λ c κs. search needs) (λ c κs. search needs) (λ c κs. search needs) returns returns-2 returns-3 returns-4 returns-5 returns-6 returns-7
+    returns-8 returns-9 returns-10 returns-11 returns-12 returns-13 returns-14 returns-15 returns-16 returns-17 returns-18 returns-19
+    returns-20 returns-21 returns-22)

@@ -13,32 +13,11 @@ use mathlib.Core.Path.{_≡_}
 use native.Mathlib.Omega.{arith}
 use lib.ListN.{drop, length}
 
-add-name-end : tie.Need-add-name-end
-add-name-end c = search needs
-
-name-end-requires : tie.Need-name-end-requires
-name-end-requires c κs = search needs
-
-sub-if1 : tie.Need-sub-if1
-sub-if1 c = search needs
-
-sub-name-kind : tie.Need-sub-name-kind
-sub-name-kind c = search needs
-
-part-name-kind-start : tie.Need-part-name-kind-start
-part-name-kind-start c = search needs
-
 part-name-kind-end : tie.Need-part-name-kind-end
 part-name-kind-end c =
     let a = c .before .before .before .args in
     let h : a .i + 1 ≤ length (a .text .now) = omega (arith, c .before .before .before .pre .0) in
     omega (arith, c .before .name-end .ensures, run-within isNameByte (a .text .now) (a .i + 1) h)
-
-name-kind-requires : tie.Need-name-kind-requires
-name-kind-requires c κs = search needs
-
-found-requires : tie.Need-found-requires
-found-requires c κs = search needs
 
 returns : tie.Need-returns
 unfolding nameAt pick
@@ -61,13 +40,5 @@ pub name-at-spec : {M : Type 1} → statement M
 name-at-spec =
     tie.close
     (tie.spec
-    add-name-end
-    name-end-requires
-    sub-if1
-    sub-name-kind
-    part-name-kind-start
-    part-name-kind-end
-    name-kind-requires
-    found-requires
-    returns
-    returns-2)
+    (λ c. search needs) (λ c κs. search needs) (λ c. search needs) (λ c. search needs) (λ c. search needs) part-name-kind-end
+    (λ c κs. search needs) (λ c κs. search needs) returns returns-2)

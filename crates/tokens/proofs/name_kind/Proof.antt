@@ -6,27 +6,6 @@ use Rattle.tokens.proofs.Reserved.{of-3, of-4, of-5, of-6, of-9, of-14,
 use Rattle.tokens.proofs.name_kind.Statement.{statement}
 use Rattle.tokens.proofs.name_kind.Tie as tie
 
-word-or-name-requires : tie.Need-word-or-name-requires
-word-or-name-requires c κs = search needs
-
-word-or-name-requires-2 : tie.Need-word-or-name-requires-2
-word-or-name-requires-2 c κs = search needs
-
-word-or-name-requires-3 : tie.Need-word-or-name-requires-3
-word-or-name-requires-3 c κs = search needs
-
-is-word-requires : tie.Need-is-word-requires
-is-word-requires c κs = search needs
-
-word-or-name-requires-4 : tie.Need-word-or-name-requires-4
-word-or-name-requires-4 c κs = search needs
-
-word-or-name-requires-5 : tie.Need-word-or-name-requires-5
-word-or-name-requires-5 c κs = search needs
-
-word-or-name-requires-6 : tie.Need-word-or-name-requires-6
-word-or-name-requires-6 c κs = search needs
-
 returns : tie.Need-returns
 returns c =
     c .word-or-name .ensures ∙ sym (of-3 (c .before .before .before .args .name .now) (c .before .match .keys1))
@@ -73,18 +52,5 @@ pub name-kind-spec : {M : Type 1} → statement M
 name-kind-spec =
     tie.close
     (tie.spec
-    word-or-name-requires
-    word-or-name-requires-2
-    word-or-name-requires-3
-    is-word-requires
-    word-or-name-requires-4
-    word-or-name-requires-5
-    word-or-name-requires-6
-    returns
-    returns-2
-    returns-3
-    returns-4
-    returns-5
-    returns-6
-    returns-7
-    returns-8)
+    (λ c κs. search needs) (λ c κs. search needs) (λ c κs. search needs) (λ c κs. search needs) (λ c κs. search needs)
+    (λ c κs. search needs) (λ c κs. search needs) returns returns-2 returns-3 returns-4 returns-5 returns-6 returns-7 returns-8)

@@ -5,18 +5,6 @@ use Rattle.laws.specs.Choice.{pick}
 use Rattle.tokens.proofs.pair_at.Statement.{statement}
 use Rattle.tokens.proofs.pair_at.Tie as tie
 
-add-byte-at : tie.Need-add-byte-at
-add-byte-at c = search needs
-
-byte-at-requires : tie.Need-byte-at-requires
-byte-at-requires c κs = search needs
-
-add-found : tie.Need-add-found
-add-found c = search needs
-
-found-requires : tie.Need-found-requires
-found-requires c κs = search needs
-
 returns : tie.Need-returns
 unfolding pick
 returns c =
@@ -29,4 +17,4 @@ returns-2 c =
 
 pub pair-at-spec : {M : Type 1} → statement M
 pair-at-spec =
-    tie.close (tie.spec add-byte-at byte-at-requires add-found found-requires returns returns-2)
+    tie.close (tie.spec (λ c. search needs) (λ c κs. search needs) (λ c. search needs) (λ c κs. search needs) returns returns-2)

@@ -8,22 +8,10 @@ use native.Mathlib.Omega.{arith}
 use Rattle.tokens.proofs.part.Statement.{statement}
 use Rattle.tokens.proofs.part.Tie as tie
 
-add-between : tie.Need-add-between
-add-between c = search needs
-
-sub-between : tie.Need-sub-between
-sub-between c = search needs
-
-between-requires : tie.Need-between-requires
-between-requires c κs = search needs
-
 returns : tie.Need-returns
 unfolding partOf pick
 returns c =
     rw (eq-eqb _ _ (c .before .before .if1 .taken)) (c .between .ensures)
-
-slice-aggregate-result : tie.Need-slice-aggregate-result
-slice-aggregate-result c = search needs
 
 returns-2 : tie.Need-returns-2
 unfolding partOf between pick
@@ -31,9 +19,6 @@ returns-2 c =
     let t = c .before .before .before .before .before .args .token in
     let h : t .end - 1 < t .start + 1 = omega (arith, c .before .if2 .left) in
     rw (eq-eqb _ _ (c .before .before .if1 .taken), lt-leb _ _ h)
-
-between-requires-2 : tie.Need-between-requires-2
-between-requires-2 c κs = search needs
 
 returns-3 : tie.Need-returns-3
 unfolding partOf pick
@@ -44,11 +29,4 @@ pub part-spec : {M : Type 1} → statement M
 part-spec =
     tie.close
     (tie.spec
-    add-between
-    sub-between
-    between-requires
-    returns
-    slice-aggregate-result
-    returns-2
-    between-requires-2
-    returns-3)
+    (λ c. search needs) (λ c. search needs) (λ c κs. search needs) returns (λ c. search needs) returns-2 (λ c κs. search needs) returns-3)

@@ -8,12 +8,6 @@ use Rattle.laws.proofs.Choice.{pick-true, pick-false}
 use Rattle.tokens.specs.Tokens.{startAt}
 use Rattle.tokens.proofs.Laws.{letter-text, digit-text, quote-text}
 
-shared-slice-read-b : tie.Need-shared-slice-read-b
-shared-slice-read-b c = search needs
-
-is-letter-requires : tie.Need-is-letter-requires
-is-letter-requires c κs = search needs
-
 name-at-requires : tie.Need-name-at-requires
 name-at-requires c κs =
     (c .before .before .before .before .pre, sym (c .before .is-letter .ensures) ∙ c .if1 .taken)
@@ -24,12 +18,6 @@ returns c =
     let e = sym (c .before .before .is-letter .ensures) ∙ c .before .if1 .taken in
     c .name-at .ensures ∙ sym (pick-true _ _ _ (letter-text _ e) ∙ pick-true _ _ _ e)
 
-is-digit-requires : tie.Need-is-digit-requires
-is-digit-requires c κs = search needs
-
-number-at-requires : tie.Need-number-at-requires
-number-at-requires c κs = search needs
-
 returns-2 : tie.Need-returns-2
 unfolding startAt
 returns-2 c =
@@ -37,21 +25,12 @@ returns-2 c =
     let d = sym (c .before .before .is-digit .ensures) ∙ c .before .if2 .taken in
     c .number-at .ensures ∙ sym (pick-true _ _ _ (digit-text _ d) ∙ pick-false _ _ _ e ∙ pick-true _ _ _ d)
 
-string-at-requires : tie.Need-string-at-requires
-string-at-requires c κs = search needs
-
 returns-3 : tie.Need-returns-3
 unfolding startAt
 returns-3 c =
     let e = sym (c .before .before .before .before .before .is-letter .ensures) ∙ c .before .before .before .before .if1 .left in
     let d = sym (c .before .before .before .is-digit .ensures) ∙ c .before .before .if2 .left in
     c .string-at .ensures ∙ sym (pick-true _ _ _ (quote-text _ (c .before .if3 .taken)) ∙ pick-false _ _ _ e ∙ pick-false _ _ _ d ∙ pick-true _ _ _ (eq-eqb _ _ (c .before .if3 .taken)))
-
-is-text-requires : tie.Need-is-text-requires
-is-text-requires c κs = search needs
-
-mark-at-requires : tie.Need-mark-at-requires
-mark-at-requires c κs = search needs
 
 returns-4 : tie.Need-returns-4
 unfolding startAt
@@ -70,16 +49,5 @@ pub start-at-spec : {M : Type 1} → statement M
 start-at-spec =
     tie.close
     (tie.spec
-    shared-slice-read-b
-    is-letter-requires
-    name-at-requires
-    returns
-    is-digit-requires
-    number-at-requires
-    returns-2
-    string-at-requires
-    returns-3
-    is-text-requires
-    mark-at-requires
-    returns-4
-    returns-5)
+    (λ c. search needs) (λ c κs. search needs) name-at-requires returns (λ c κs. search needs) (λ c κs. search needs) returns-2
+    (λ c κs. search needs) returns-3 (λ c κs. search needs) (λ c κs. search needs) returns-4 returns-5)

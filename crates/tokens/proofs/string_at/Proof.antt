@@ -10,24 +10,6 @@ use lib.ListN.{drop, List·getD-eq-default}
 use Rattle.tokens.proofs.string_at.Statement.{statement}
 use Rattle.tokens.proofs.string_at.Tie as tie
 
-add-start : tie.Need-add-start
-add-start c = search needs
-
-string-end-requires : tie.Need-string-end-requires
-string-end-requires c κs = search needs
-
-shared-slice-read-if2 : tie.Need-shared-slice-read-if2
-shared-slice-read-if2 c = search needs
-
-sub-if3 : tie.Need-sub-if3
-sub-if3 c = search needs
-
-add-found : tie.Need-add-found
-add-found c = search needs
-
-found-requires : tie.Need-found-requires
-found-requires c κs = search needs
-
 returns : tie.Need-returns
 unfolding stringAt pick
 returns c =
@@ -68,13 +50,5 @@ pub string-at-spec : {M : Type 1} → statement M
 string-at-spec =
     tie.close
     (tie.spec
-    add-start
-    string-end-requires
-    shared-slice-read-if2
-    sub-if3
-    add-found
-    found-requires
-    returns
-    returns-2
-    returns-3
-    returns-4)
+    (λ c. search needs) (λ c κs. search needs) (λ c. search needs) (λ c. search needs) (λ c. search needs) (λ c κs. search needs) returns
+    returns-2 returns-3 returns-4)

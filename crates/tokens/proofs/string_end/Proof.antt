@@ -22,18 +22,6 @@ loop-holds : tie.Need-loop-holds Inv-loop μ-loop
 loop-holds c =
     refl
 
-shared-slice-read-is-string-byte : tie.Need-shared-slice-read-is-string-byte Inv-loop μ-loop
-shared-slice-read-is-string-byte c = search needs
-
-is-string-byte-requires : tie.Need-is-string-byte-requires Inv-loop μ-loop
-is-string-byte-requires c κs = search needs
-
-add-i : tie.Need-add-i Inv-loop μ-loop
-add-i c = search needs
-
-loop-less : tie.Need-loop-less Inv-loop μ-loop
-loop-less c = search needs
-
 loop-again : tie.Need-loop-again Inv-loop μ-loop
 loop-again c =
     let a = c .before .before .before .before .before .before .args in
@@ -63,13 +51,5 @@ pub string-end-spec : {M : Type 1} → statement M
 string-end-spec =
     tie.close
     (tie.spec
-    Inv-loop
-    μ-loop
-    loop-holds
-    shared-slice-read-is-string-byte
-    is-string-byte-requires
-    add-i
-    loop-less
-    loop-again
-    returns
+    Inv-loop μ-loop loop-holds (λ c. search needs) (λ c κs. search needs) (λ c. search needs) (λ c. search needs) loop-again returns
     returns-2)

@@ -4,9 +4,6 @@ use Rattle.laws.specs.Choice.{pick}
 use Rattle.tokens.proofs.word_or_name.Statement.{statement}
 use Rattle.tokens.proofs.word_or_name.Tie as tie
 
-is-word-requires : tie.Need-is-word-requires
-is-word-requires c κs = search needs
-
 returns : tie.Need-returns
 unfolding pick
 returns c =
@@ -18,4 +15,4 @@ returns-2 c =
     rw (← c .before .is-word .ensures, c .if1 .left)
 
 pub word-or-name-spec : {M : Type 1} → statement M
-word-or-name-spec = tie.close (tie.spec is-word-requires returns returns-2)
+word-or-name-spec = tie.close (tie.spec (λ c κs. search needs) returns returns-2)

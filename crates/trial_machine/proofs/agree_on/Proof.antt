@@ -5,18 +5,6 @@ use lib.ListN.{length-take}
 use Rattle.trial_machine.proofs.agree_on.Statement.{statement}
 use Rattle.trial_machine.proofs.agree_on.Tie as tie
 
-number-at-requires : tie.Need-number-at-requires
-number-at-requires c κs = search needs
-
-least-requires : tie.Need-least-requires
-least-requires c κs = search needs
-
-least-requires-2 : tie.Need-least-requires-2
-least-requires-2 c κs = search needs
-
-least-requires-3 : tie.Need-least-requires-3
-least-requires-3 c κs = search needs
-
 slice-aggregate-agree : tie.Need-slice-aggregate-agree
 slice-aggregate-agree c =
     simp length-take (omega (arith, c .before .before .before .least .ensures .1))
@@ -29,22 +17,12 @@ slice-aggregate-agree-3 : tie.Need-slice-aggregate-agree-3
 slice-aggregate-agree-3 c =
     simp length-take (omega (arith, c .before .before .before .least3 .ensures .1))
 
-agree-requires : tie.Need-agree-requires
-agree-requires c κs = search needs
-
-returns : tie.Need-returns
-returns c = search needs
-
 pub agree-on-spec : {M : Type 1} → statement M
 agree-on-spec =
     tie.close
     (tie.spec
-    number-at-requires
-    least-requires
-    least-requires-2
-    least-requires-3
+    (λ c κs. search needs) (λ c κs. search needs) (λ c κs. search needs) (λ c κs. search needs)
     slice-aggregate-agree
     slice-aggregate-agree-2
     slice-aggregate-agree-3
-    agree-requires
-    returns)
+    (λ c κs. search needs) (λ c. search needs))

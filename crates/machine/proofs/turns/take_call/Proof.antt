@@ -7,19 +7,13 @@ use lib.ListN.{take, drop}
 use Rattle.tokens.specs.Tokens.{between}
 use Rattle.lines.specs.Lines.{asked}
 use Rattle.contract.specs.Decode.{contractOf}
-use Rattle.machine.specs.declared.Stepped.{Stepped}
-use Rattle.machine.specs.Parts.{cameOf, calledBy}
+use Rattle.outcomes.specs.declared.Stepped.{Stepped}
+use Rattle.machine.specs.Private.{replyOf, calledBy}
 use Rattle.machine.specs.Sessions.{taken}
 use Rattle.machine.proofs.Taken.{numbers-length, does-call}
 use borrow.Author.Needs.{needs}
 use Rattle.machine.proofs.turns.take_call.Statement.{statement}
 use Rattle.machine.proofs.turns.take_call.Tie as tie
-
-between-requires : tie.Need-between-requires
-between-requires c κs = search needs
-
-between-requires-2 : tie.Need-between-requires-2
-between-requires-2 c κs = search needs
 
 slice-aggregate-call-with : tie.Need-slice-aggregate-call-with
 slice-aggregate-call-with c =
@@ -48,14 +42,10 @@ returns c =
     ap (λ (x : List ℕ). does x (c .before .before .before .before .before .before .between2 .result .now)) caller
     ∙ ap (does (between (s .args .line .now) (r .«party_start») (r .«party_end»))) function
     ∙ k .does in
-    (c .call-with .ensures .0 ∙ ap cameOf e, c .call-with .ensures .1 ∙ ap (λ (t : Stepped). t .labels) e)
+    (c .call-with .ensures .0 ∙ ap replyOf e, c .call-with .ensures .1 ∙ ap (λ (t : Stepped). t .labels) e)
 
 pub take-call-spec : {M : Type 1} → statement M
 take-call-spec =
     tie.close
     (tie.spec
-    between-requires
-    between-requires-2
-    slice-aggregate-call-with
-    call-with-requires
-    returns)
+    (λ c κs. search needs) (λ c κs. search needs) slice-aggregate-call-with call-with-requires returns)

@@ -4,36 +4,18 @@ use mathlib.Core.Path.{sym, ap, _∙_}
 use Rattle.contract.specs.Decode.{contractOf}
 use Rattle.lines.specs.Lines.{asked}
 use Rattle.lines.specs.declared.Line.{Line}
-use Rattle.machine.specs.Parts.{cameOf}
+use Rattle.machine.specs.Private.{replyOf}
 use Rattle.machine.proofs.Taken.{does-refused, does-tick, silent-refusal, silent-tick, silent-agreement}
 use Rattle.machine.proofs.turns.take_line.Statement.{statement}
 use Rattle.machine.proofs.turns.take_line.Tie as tie
 
-read-requires : tie.Need-read-requires
-read-requires c κs = search needs
-
-enum-known-request : tie.Need-enum-known-request
-enum-known-request c = search needs
-
-turn-down-requires : tie.Need-turn-down-requires
-turn-down-requires c κs = search needs
-
 enum-told : tie.Need-enum-told
 enum-told c = search needs
-
-tick-on-requires : tie.Need-tick-on-requires
-tick-on-requires c κs = search needs
-
-enum-told-2 : tie.Need-enum-told-2
-enum-told-2 c = search needs
 
 take-call-requires : tie.Need-take-call-requires
 take-call-requires c κs =
     let s = c .before .before .before .before .before .before .before .before in
     (s .pre .0, (s .pre .1, (c .before .before .before .before .before .read .ensures, c .before .before .before .enum-told2 .given .1)))
-
-enum-told-3 : tie.Need-enum-told-3
-enum-told-3 c = search needs
 
 take-agreement-requires : tie.Need-take-agreement-requires
 take-agreement-requires c κs =
@@ -45,7 +27,7 @@ returns c =
     let w = contractOf (s .args .table .now) in
     let l = s .args .line .now in
     let e = ap (λ (x : Line). x .request) (sym (c .before .before .before .before .read .ensures)) ∙ c .before .before .request .given .1 in
-    (c .turn-down .ensures ∙ ap cameOf (does-refused w (s .args .s) l (asked l) e), s .pre .1 ∙ sym (silent-refusal w (s .args .s) l (asked l) e .labels))
+    (c .turn-down .ensures ∙ ap replyOf (does-refused w (s .args .s) l (asked l) e), s .pre .1 ∙ sym (silent-refusal w (s .args .s) l (asked l) e .labels))
 
 returns-2 : tie.Need-returns-2
 returns-2 c =
@@ -53,10 +35,7 @@ returns-2 c =
     let w = contractOf (s .args .table .now) in
     let l = s .args .line .now in
     let e = ap (λ (x : Line). x .request) (sym (c .before .before .before .read .ensures)) ∙ c .before .enum-told .given .1 in
-    (c .tick-on .ensures ∙ ap cameOf (does-tick w (s .args .s) l (asked l) e), s .pre .1 ∙ sym (silent-tick w (s .args .s) l (asked l) e .labels))
-
-returns-3 : tie.Need-returns-3
-returns-3 c = search needs
+    (c .tick-on .ensures ∙ ap replyOf (does-tick w (s .args .s) l (asked l) e), s .pre .1 ∙ sym (silent-tick w (s .args .s) l (asked l) e .labels))
 
 returns-4 : tie.Need-returns-4
 returns-4 c =
@@ -70,16 +49,5 @@ pub take-line-spec : {M : Type 1} → statement M
 take-line-spec =
     tie.close
     (tie.spec
-    read-requires
-    enum-known-request
-    turn-down-requires
-    enum-told
-    tick-on-requires
-    enum-told-2
-    take-call-requires
-    enum-told-3
-    take-agreement-requires
-    returns
-    returns-2
-    returns-3
-    returns-4)
+    (λ c κs. search needs) (λ c. search needs) (λ c κs. search needs) enum-told (λ c κs. search needs) (λ c. search needs)
+    take-call-requires (λ c. search needs) take-agreement-requires returns returns-2 (λ c. search needs) returns-4)

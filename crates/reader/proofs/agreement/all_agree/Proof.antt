@@ -2,9 +2,9 @@
 use borrow.Author.Needs.{needs}
 use mathlib.Core.Path.{refl, ap}
 use mathlib.Core.Bool.{Bool, _&&_}
-use Rattle.contract.specs.Fits.{every}
-use Rattle.reader.specs.Masks.{rowOf, rowsOf, agreesByMask}
-use Rattle.reader.proofs.Masked.{Left, starts, turns, ends, every-more}
+use Rattle.laws.specs.Lists.{every}
+use Rattle.reading_laws.specs.Masks.{rowOf, rowsOf, agreesByMask}
+use Rattle.reading_laws.proofs.Masked.{Left, starts, turns, ends, every-more}
 use Rattle.reader.proofs.agreement.all_agree.Statement.{statement}
 use Rattle.reader.proofs.agreement.all_agree.Tie as tie
 
@@ -20,11 +20,14 @@ loop-holds c = starts refl refl
 
 loop-again : tie.Need-loop-again Inv-loop μ-loop
 loop-again c =
-    turns (c .before .before .loop .inv) (c .before .loop-test .taken)
-    (every-more _ _ _ _ (ap (λ (b : Bool). b && c .before .before .loop .all) (c .agrees .ensures)))
+    let c1 = c .before in let c2 = c1 .before in
+    turns (c2 .loop .inv) (c1 .loop-test .taken)
+    (every-more _ _ _ _ (ap (λ (b : Bool). b && c2 .loop .all) (c .agrees .ensures)))
 
 returns : tie.Need-returns Inv-loop μ-loop
-returns c = ends (c .before .loop .inv) (c .loop-test .left)
+returns c =
+    let c1 = c .before in
+    ends (c1 .loop .inv) (c .loop-test .left)
 
 pub all-agree-spec : {M : Type 1} → statement M
 all-agree-spec =

@@ -1,7 +1,7 @@
 -- `reader::agreement::holds` meets its contract. Assumes nothing.
 use borrow.Author.Needs.{needs}
 use mathlib.Core.Path.{refl}
-use Rattle.reader.specs.Masks.{holds}
+use Rattle.reading_laws.specs.Masks.{holds}
 use Rattle.reader.proofs.agreement.holds.Statement.{statement}
 use Rattle.reader.proofs.agreement.holds.Tie as tie
 

@@ -4,9 +4,10 @@ use mathlib.Core.Path.{_≡_, refl, sym, _∙_}
 use mathlib.Core.Bool.{true}
 use Prim.Native.Nat.{_≤_, _-_}
 use native.Mathlib.Omega.{arith}
-use Rattle.contract.specs.Check.{allBelow}
-use Rattle.contract.proofs.Tests.{all-more, all-stop, all-end}
-use Rattle.reader.specs.Masks.{holds}
+use Rattle.laws.specs.Lists.{allBelow}
+use Rattle.laws.proofs.Members.{all-more}
+use Rattle.contract.proofs.Tests.{all-stop, all-end}
+use Rattle.reading_laws.specs.Masks.{holds}
 use Rattle.reader.proofs.agreement.holds_all.Statement.{statement}
 use Rattle.reader.proofs.agreement.holds_all.Tie as tie
 
@@ -22,14 +23,18 @@ loop-holds c = (omega arith, refl)
 
 loop-again : tie.Need-loop-again Inv-loop μ-loop
 loop-again c =
-    (omega arith, all-more _ _ (c .before .before .before .loop .inv .1) (sym (c .before .holds .ensures) ∙ c .if1 .taken))
+    let c1 = c .before in let c3 = c1 .before .before in
+    (omega arith, all-more _ _ (c3 .loop .inv .1) (sym (c1 .holds .ensures) ∙ c .if1 .taken))
 
 returns : tie.Need-returns Inv-loop μ-loop
 returns c =
-    all-stop _ _ _ (c .before .before .loop-test .taken) (sym (c .before .holds .ensures) ∙ c .if1 .left)
+    let c1 = c .before in let c2 = c1 .before in
+    all-stop _ _ _ (c2 .loop-test .taken) (sym (c1 .holds .ensures) ∙ c .if1 .left)
 
 returns-2 : tie.Need-returns-2 Inv-loop μ-loop
-returns-2 c = all-end _ _ _ (c .before .loop .inv .0) (c .loop-test .left) (c .before .loop .inv .1)
+returns-2 c =
+    let c1 = c .before in
+    all-end _ _ _ (c1 .loop .inv .0) (c .loop-test .left) (c1 .loop .inv .1)
 
 pub holds-all-spec : {M : Type 1} → statement M
 holds-all-spec =

@@ -1,7 +1,7 @@
 -- `reader::agreement::part_of` meets its contract. Assumes nothing.
 use borrow.Author.Needs.{needs}
 use mathlib.Core.Path.{refl}
-use Rattle.reader.specs.Masks.{partOf}
+use Rattle.reading_laws.specs.Masks.{partOf}
 use Rattle.reader.proofs.agreement.part_of.Statement.{statement}
 use Rattle.reader.proofs.agreement.part_of.Tie as tie
 

@@ -1,8 +1,8 @@
 -- `reader::agreement::parties_of` meets its contract. Assumes nothing.
 use borrow.Author.Needs.{needs}
 use mathlib.Core.Path.{refl}
-use Rattle.reader.specs.Masks.{rowOf, partyMask}
-use Rattle.reader.proofs.Masked.{Left, starts, turns, ends, no-parties, take-party, skip-party}
+use Rattle.reading_laws.specs.Masks.{rowOf, partyMask}
+use Rattle.reading_laws.proofs.Masked.{Left, starts, turns, ends, no-parties, take-party, skip-party}
 use Rattle.reader.proofs.agreement.parties_of.Statement.{statement}
 use Rattle.reader.proofs.agreement.parties_of.Tie as tie
 
@@ -17,18 +17,20 @@ loop-holds c = starts refl (no-parties _)
 
 loop-again : tie.Need-loop-again Inv-loop μ-loop
 loop-again c =
-    let a = c .before .before .before in
-    turns (a .before .before .loop .inv) (a .before .loop-test .taken)
-    (take-party _ _ _ (a .clause-at .ensures) _ _ (c .before .if1 .taken) _ (c .with .ensures))
+    let c1 = c .before in let c3 = c1 .before .before in let c4 = c3 .before in let c5 = c4 .before in
+    turns (c5 .loop .inv) (c4 .loop-test .taken)
+    (take-party _ _ _ (c3 .clause-at .ensures) _ _ (c1 .if1 .taken) _ (c .with .ensures))
 
 loop-again-2 : tie.Need-loop-again-2 Inv-loop μ-loop
 loop-again-2 c =
-    let a = c .before .before in
-    turns (a .before .before .loop .inv) (a .before .loop-test .taken)
-    (skip-party _ _ _ (a .clause-at .ensures) _ _ (c .if1 .left))
+    let c2 = c .before .before in let c3 = c2 .before in let c4 = c3 .before in
+    turns (c4 .loop .inv) (c3 .loop-test .taken)
+    (skip-party _ _ _ (c2 .clause-at .ensures) _ _ (c .if1 .left))
 
 returns : tie.Need-returns Inv-loop μ-loop
-returns c = ends (c .before .loop .inv) (c .loop-test .left)
+returns c =
+    let c1 = c .before in
+    ends (c1 .loop .inv) (c .loop-test .left)
 
 pub parties-of-spec : {M : Type 1} → statement M
 parties-of-spec =

@@ -4,8 +4,8 @@ use mathlib.Core.Path.{refl, ap}
 use Prim.Native.Nat.{_+_}
 use Rattle.contract.specs.declared.Clause.{Clause}
 use Rattle.contract.specs.Table.{clauseWord}
-use Rattle.reader.specs.Masks.{rowOf, withAll}
-use Rattle.reader.proofs.Masked.{Left, starts, turns, ends, field-more}
+use Rattle.reading_laws.specs.Masks.{rowOf, withAll}
+use Rattle.reading_laws.proofs.Masked.{Left, starts, turns, ends, field-more}
 use Rattle.reader.proofs.agreement.with_fields.Statement.{statement}
 use Rattle.reader.proofs.agreement.with_fields.Tie as tie
 
@@ -22,11 +22,14 @@ loop-holds c = starts (ap (λ (r : Clause). r .fields) (c .clause-at .ensures)) 
 
 loop-again : tie.Need-loop-again Inv-loop μ-loop
 loop-again c =
-    turns (c .before .before .before .loop .inv) (c .before .before .loop-test .taken) (field-more _ _ _ _ _ (c .with .ensures) (c .before .clause-field .ensures))
+    let c1 = c .before in let c2 = c1 .before in let c3 = c2 .before in
+    turns (c3 .loop .inv) (c2 .loop-test .taken) (field-more _ _ _ _ _ (c .with .ensures) (c1 .clause-field .ensures))
 
 returns : tie.Need-returns Inv-loop μ-loop
 unfolding rowOf
-returns c = ends (c .before .loop .inv) (c .loop-test .left)
+returns c =
+    let c1 = c .before in
+    ends (c1 .loop .inv) (c .loop-test .left)
 
 pub with-fields-spec : {M : Type 1} → statement M
 with-fields-spec =

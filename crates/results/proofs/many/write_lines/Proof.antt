@@ -22,20 +22,11 @@ loop-holds c = start
 sub-if1 : tie.Need-sub-if1 Inv-loop μ-loop
 sub-if1 c = let g = c .before .loop .inv in omega (arith, g .room, long g)
 
-report-at-requires : tie.Need-report-at-requires Inv-loop μ-loop
-report-at-requires c κs = search needs
-
-report-ok-requires : tie.Need-report-ok-requires Inv-loop μ-loop
-report-ok-requires c κs = search needs
-
 sub-write-line : tie.Need-sub-write-line Inv-loop μ-loop
 sub-write-line c = let g = c .before .before .before .before .before .loop .inv in omega (arith, g .room, long g)
 
 part-write-line-start : tie.Need-part-write-line-start Inv-loop μ-loop
 part-write-line-start c = let g = c .before .before .before .before .before .loop .inv in omega (arith, g .room, long g)
-
-part-write-line-end : tie.Need-part-write-line-end Inv-loop μ-loop
-part-write-line-end c = search needs
 
 write-line-requires : tie.Need-write-line-requires Inv-loop μ-loop
 write-line-requires c κs =
@@ -53,12 +44,6 @@ loop-again c =
 
 add-used : tie.Need-add-used Inv-loop μ-loop
 add-used c = record { fits = omega (arith, loop-again c .room) }
-
-add-i : tie.Need-add-i Inv-loop μ-loop
-add-i c = search needs
-
-loop-less : tie.Need-loop-less Inv-loop μ-loop
-loop-less c = search needs
 
 sub-t19 : tie.Need-sub-t19 Inv-loop μ-loop
 sub-t19 c = omega (arith, c .before .before .before .before .before .loop .inv .first)
@@ -84,23 +69,6 @@ pub write-lines-spec : {M : Type 1} → statement M
 write-lines-spec =
     tie.close
     (tie.spec
-    Inv-loop
-    μ-loop
-    loop-holds
-    sub-if1
-    report-at-requires
-    report-ok-requires
-    sub-write-line
-    part-write-line-start
-    part-write-line-end
-    write-line-requires
-    add-used
-    add-i
-    loop-less
-    loop-again
-    sub-t19
-    same-length
-    returns
-    sub-t20
-    same-length-2
-    returns-2)
+    Inv-loop μ-loop loop-holds sub-if1 (λ c κs. search needs) (λ c κs. search needs) sub-write-line part-write-line-start
+    (λ c. search needs) write-line-requires add-used (λ c. search needs) (λ c. search needs) loop-again sub-t19 same-length returns sub-t20
+    same-length-2 returns-2)

@@ -16,22 +16,13 @@ Inv-loop n rest₀ count₀ rest count = count + length (decimal rest) ≡ lengt
 abbrev μ-loop : tie.MeasureT-loop
 μ-loop n rest₀ count₀ rest count = rest
 
-loop-holds : tie.Need-loop-holds Inv-loop μ-loop
-loop-holds c = omega arith
-
 add-count : tie.Need-add-count Inv-loop μ-loop
 add-count c =
     let s = c .before .before in
     record { fits = omega (arith, c .before .loop .inv, word-short (s .args .n) (s .fits .n .fits), four-more (c .before .loop .rest) (c .loop-test .taken)) }
 
-loop-less : tie.Need-loop-less Inv-loop μ-loop
-loop-less c = omega arith
-
 loop-again : tie.Need-loop-again Inv-loop μ-loop
 loop-again c = omega (arith, c .before .loop .inv, four-more (c .before .loop .rest) (c .loop-test .taken))
-
-few-digits-requires : tie.Need-few-digits-requires Inv-loop μ-loop
-few-digits-requires c κs = search needs
 
 add-result : tie.Need-add-result Inv-loop μ-loop
 add-result c =
@@ -43,4 +34,4 @@ returns c = omega (arith, c .before .before .loop .inv, c .few-digits .ensures)
 
 pub digits-spec : {M : Type 1} → statement M
 digits-spec =
-    tie.close (tie.spec Inv-loop μ-loop loop-holds add-count loop-less loop-again few-digits-requires add-result returns)
+    tie.close (tie.spec Inv-loop μ-loop (λ c. omega arith) add-count (λ c. omega arith) loop-again (λ c κs. search needs) add-result returns)

@@ -21,21 +21,6 @@ abbrev μ-loop : tie.MeasureT-loop
 loop-holds : tie.Need-loop-holds Inv-loop μ-loop
 loop-holds c = (rw add-zero, refl, omega arith)
 
-shared-slice-read-buffer : tie.Need-shared-slice-read-buffer Inv-loop μ-loop
-shared-slice-read-buffer c = search needs
-
-add-buffer : tie.Need-add-buffer Inv-loop μ-loop
-add-buffer c = search needs
-
-slice-write-buffer : tie.Need-slice-write-buffer Inv-loop μ-loop
-slice-write-buffer c = search needs
-
-add-i : tie.Need-add-i Inv-loop μ-loop
-add-i c = search needs
-
-loop-less : tie.Need-loop-less Inv-loop μ-loop
-loop-less c = search needs
-
 loop-again : tie.Need-loop-again Inv-loop μ-loop
 loop-again c =
     let a = c .before .before .before .args in
@@ -44,9 +29,6 @@ loop-again c =
       length-set (k .buffer) (a .at + k .i) _ ∙ k .inv .1,
       omega (arith, c .before .loop-test .taken),
     )
-
-add-result : tie.Need-add-result Inv-loop μ-loop
-add-result c = search needs
 
 same-length : tie.Need-same-length Inv-loop μ-loop
 same-length c = c .before .loop .inv .1
@@ -61,15 +43,5 @@ pub put-bytes-spec : {M : Type 1} → statement M
 put-bytes-spec =
     tie.close
     (tie.spec
-    Inv-loop
-    μ-loop
-    loop-holds
-    shared-slice-read-buffer
-    add-buffer
-    slice-write-buffer
-    add-i
-    loop-less
-    loop-again
-    add-result
-    same-length
-    returns)
+    Inv-loop μ-loop loop-holds (λ c. search needs) (λ c. search needs) (λ c. search needs) (λ c. search needs) (λ c. search needs)
+    loop-again (λ c. search needs) same-length returns)

@@ -1,45 +1,47 @@
 -- `results::reports::put_rule` meets its contract. Assumes nothing.
 use borrow.Author.Needs.{needs}
-use Rattle.results.proofs.Puts.{same}
-use Rattle.results.proofs.Texts.{agree-text, function-text, event-text, tick-text}
+use native.Mathlib.Omega.{arith}
+use lib.ListN.{length-append}
+use Rattle.laws.specs.Bytes.{bytes}
+use Rattle.results.specs.Lines.{ruleName}
+use Rattle.results.proofs.Puts.{then, kept}
+use Rattle.results.proofs.Assembled.{rule-short}
 use Rattle.results.proofs.reports.put_rule.Statement.{statement}
 use Rattle.results.proofs.reports.put_rule.Tie as tie
 
+put-byte-requires : tie.Need-put-byte-requires
+put-byte-requires c κs = omega (arith, c .before .before .pre)
+
+put-rule-name-requires : tie.Need-put-rule-name-requires
+put-rule-name-requires c κs =
+    let p = c .before .before .before .put-byte .ensures in
+    omega (arith, p .place, kept p, c .before .before .before .before .before .before .pre)
+
+put-bytes-requires : tie.Need-put-bytes-requires
+put-bytes-requires c κs =
+    let c4 = c .before .before .before .before in
+    let c8 = c4 .before .before .before .before in
+    let s = c8 .before .before .before in
+    let p = c8 .put-byte .ensures in
+    let q = c4 .put-rule-name .ensures in
+    omega (arith, p .place, kept p, q .place, kept q, rule-short (s .args .rule), length-append (ruleName (s .args .rule)) (bytes "] "), s .pre)
+
 returns : tie.Need-returns
-returns c = same (agree-text _ (c .before .before .before .before .before .if1 .taken)) (c .before .before .put-bytes .ensures)
+returns c =
+    let c2 = c .before .before in
+    let c7 = c2 .before .before .before .before .before in
+    then (c7 .before .before .before .before .put-byte .ensures) (then (c7 .put-rule-name .ensures) (c2 .put-bytes .ensures))
 
-returns-2 : tie.Need-returns-2
-returns-2 c =
-    let t = c .before .before .before .before .before in
-    same (function-text _ (t .before .if1 .left) (t .if2 .taken)) (c .before .before .put-bytes2 .ensures)
-
-returns-3 : tie.Need-returns-3
-returns-3 c =
-    let t = c .before .before .before .before .before in
-    same (event-text _ (t .before .before .if1 .left) (t .before .if2 .left) (t .if3 .taken)) (c .before .before .put-bytes3 .ensures)
-
-returns-4 : tie.Need-returns-4
-returns-4 c =
-    let t = c .before .before .before .before .before in
-    same (tick-text _ (t .before .before .if1 .left) (t .before .if2 .left) (t .if3 .left)) (c .before .before .put-bytes4 .ensures)
+same-length : tie.Need-same-length
+same-length c = kept (returns c)
 
 pub put-rule-spec : {M : Type 1} → statement M
 put-rule-spec =
     tie.close
     (tie.spec
+    put-byte-requires
+    put-rule-name-requires
     (λ c. search needs)
-    (λ c κs. search needs)
-    (λ c. search needs)
-    returns
-    (λ c. search needs)
-    (λ c κs. search needs)
-    (λ c. search needs)
-    returns-2
-    (λ c. search needs)
-    (λ c κs. search needs)
-    (λ c. search needs)
-    returns-3
-    (λ c. search needs)
-    (λ c κs. search needs)
-    (λ c. search needs)
-    returns-4)
+    put-bytes-requires
+    same-length
+    returns)

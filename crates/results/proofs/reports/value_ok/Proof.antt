@@ -3,7 +3,7 @@ use borrow.Author.Needs.{needs}
 use mathlib.Core.Path.{sym, ap, _∙_}
 use mir.Facts.{toZ-ofZ}
 use Rattle.contract.specs.Decode.{contractOf}
-use Rattle.contract.proofs.Sound.{counts}
+use Rattle.contract_laws.proofs.Sound.{counts}
 use Rattle.results.specs.Lines.{valueOk}
 use Rattle.results.proofs.Ranges.{value-integer, value-negative, value-string, value-amount}
 use Rattle.results.proofs.reports.value_ok.Statement.{statement}

@@ -68,7 +68,12 @@ put-byte-requires c κs =
 
 returns : tie.Need-returns
 returns c =
-    held-line _ _ _ (ready-asset (c .before .before .before .before .before .before .before .before .before .before .before .before .before .before .before .before .before .before .before .pre)) (c .before .before .before .before .before .before .before .before .before .before .before .before .before .before .before .put-name .ensures) (c .before .before .before .before .before .before .before .before .before .before .put-bytes .ensures) (c .before .before .before .before .before .before .put-number .ensures) (c .before .before .put-byte .ensures)
+    let c2 = c .before .before in
+    let c6 = c2 .before .before .before .before in
+    let c10 = c6 .before .before .before .before in
+    let c15 = c10 .before .before .before .before .before in
+    let c19 = c15 .before .before .before .before in
+    held-line _ _ _ (ready-asset (c19 .pre)) (c15 .put-name .ensures) (c10 .put-bytes .ensures) (c6 .put-number .ensures) (c2 .put-byte .ensures)
 
 same-length : tie.Need-same-length
 same-length c = kept (returns c)

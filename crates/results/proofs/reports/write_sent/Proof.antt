@@ -56,7 +56,11 @@ put-byte-requires c κs =
 returns : tie.Need-returns
 returns c =
     let s = c .before .before .before .before .before .before .before .before .before .before .before .before .before .before .before .before .before .before in
-    sent-line _ _ _ (toZ-ofZ (s .fits .value)) (ready-party (s .pre)) (c .before .before .before .before .before .before .before .before .before .before .before .before .before .before .put-value .ensures) (c .before .before .before .before .before .before .before .before .before .before .put-arrow .ensures) (c .before .before .before .before .before .before .put-name .ensures) (c .before .before .put-byte .ensures)
+    let c2 = c .before .before in
+    let c6 = c2 .before .before .before .before in
+    let c10 = c6 .before .before .before .before in
+    let c14 = c10 .before .before .before .before in
+    sent-line _ _ _ (toZ-ofZ (s .fits .value)) (ready-party (s .pre)) (c14 .put-value .ensures) (c10 .put-arrow .ensures) (c6 .put-name .ensures) (c2 .put-byte .ensures)
 
 same-length : tie.Need-same-length
 same-length c = kept (returns c)

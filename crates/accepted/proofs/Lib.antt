@@ -1,0 +1,9 @@
+pub mod Judged
+pub mod Known
+pub mod Counts
+pub mod TokenBytes
+pub mod Sorted
+pub mod CodeItems
+pub mod CodeInScope
+pub mod FunctionsFit
+pub mod Accepted

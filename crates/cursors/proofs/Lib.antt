@@ -1,0 +1,4 @@
+pub mod Values
+pub mod Packs
+pub mod Tested
+pub mod Clipped

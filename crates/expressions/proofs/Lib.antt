@@ -1,0 +1,3 @@
+mod Ranks
+mod PackedTerms
+mod PackedRanks

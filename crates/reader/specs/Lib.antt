@@ -1,9 +1,0 @@
-pub mod Syntax
-pub mod Grammar
-pub mod Items
-pub mod Rules
-pub mod Resolve
-pub mod Reading
-pub mod Masks
-pub mod Walk
-pub mod Packed

@@ -1,0 +1,6 @@
+pub mod Syntax
+pub mod Grammar
+pub mod Items
+pub mod Rules
+pub mod Resolve
+pub mod Reading
