@@ -1,7 +1,7 @@
 // Reads each line of standard input as a session line and prints what it asks for: `refused` and the question; `tick`; `call`, where
 // its party's and its function's name start and end, its values and its assets; or `agreement` and its parts. A part is where its
 // party's name starts and ends, its verb's number, and each field's start, end and value.
-// Expected results: 106 lines, one for each line of `stdin`, from document 01 (questions 50 and 51).
+// Expected results: 106 lines, one for each line of `stdin`, to be read against document 01 (50 and 51); who worked them out, and how, is not recorded here.
 ghost use Prim.Native.Nat.{_≤_};
 ghost use lib.ListN.{length};
 use libc::STDOUT_FILENO;

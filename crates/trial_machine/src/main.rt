@@ -16,7 +16,8 @@
 //   # ..                 print the line
 // A step prints its line and what came of it, the state's number or -, clock, number of pending events | assets | fields (_ nothing,
 // "N string N, ? else), and a line a label: kind, party, value. Other lines are left out; those with a semicolon are contracts' texts.
-// Expected results: worked steps on contracts whose texts stand beside their words in `stdin`, from document 01; and for question 3 whether
+// Expected results: worked steps on contracts whose texts stand beside their words in `stdin`, to be read against document 01 (who worked
+// them out, and how, is not recorded here); and for question 3 whether
 // a table passes, as its name in `stdin` says.
 ghost use Prim.Native.Nat.{_≤_, _<_};
 ghost use lib.ListN.{length};

@@ -11,7 +11,7 @@
 //   # ..                 print the line
 // A report prints its line, then how many bytes were written, those bytes, and whether the others are still dots; or the number
 // that refused, and whether all are.
-// Expected results: the lines that document 01 lists and others of each kind, with the answers of questions 52, 3 and 53.
+// Expected results: the lines that document 01 lists and others of each kind, with the answers of questions 52, 3 and 53; who worked them out, and how, is not recorded here.
 ghost use Prim.Native.Nat.{_≤_, _<_};
 ghost use lib.ListN.{length};
 use libc::STDOUT_FILENO;

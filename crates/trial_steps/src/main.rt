@@ -7,7 +7,7 @@
 //   # ..                 print the line
 // A firing prints its line, what came of it, how many labels there are, and how many entries the slice kept; and then each entry
 // that it did not keep: its place, kind, party, value. The next line has the state from before it. Lines with a semicolon are contracts' texts.
-// Expected results: from document 01 (question 20, the labels' order) and the contract of `steps`: entries past the labels are kept.
+// Expected results: to be read against document 01 (question 20, the labels' order; entries past them are kept); who worked them out, and how, is not recorded here.
 ghost use mathlib.Core.Path.{_≡_};
 ghost use Prim.Native.Nat.{_≤_, _<_};
 ghost use lib.ListN.{length, take, drop};

@@ -1,6 +1,6 @@
 // Tokenizes the texts of standard input, each closed by a zero byte, and prints a line for each token: its kind, start
 // and end, then a number's value, or the bytes of a name or a string. A refusal or the text's end closes a text.
-// Expected results: 951 lines, worked out from document 01 (questions 5 to 8) token by token.
+// Expected results: 951 lines, to be read against document 01 (questions 5 to 8); who worked them out, and how, is not recorded here.
 ghost use Prim.Native.Nat.{_≤_};
 ghost use lib.ListN.{length};
 use libc::STDOUT_FILENO;
