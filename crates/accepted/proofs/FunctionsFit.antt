@@ -186,7 +186,7 @@ module _ (s : List ℕ) where
       let r = clause-lengths ps xs qs ys ks in
       (λ i. leb (e i) maxFields && r i)
 
-  clause-fields-plain : (xs : List Span) → every plain (ofEach (λ x. uses (kind.field ∷ []) x ∷ []) xs) ≡ true
+  pub clause-fields-plain : (xs : List Span) → every plain (ofEach (λ x. uses (kind.field ∷ []) x ∷ []) xs) ≡ true
   unfolding ofEach every
   clause-fields-plain [] = refl
   clause-fields-plain (x ∷ xs) = clause-fields-plain xs

@@ -6,4 +6,6 @@ pub mod Sorted
 pub mod CodeItems
 pub mod CodeInScope
 pub mod FunctionsFit
+pub mod ClauseRoom
 pub mod Accepted
+pub mod Refusals

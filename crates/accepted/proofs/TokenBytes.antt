@@ -1,4 +1,4 @@
--- The bytes of a name token are a name, those of a string token a string. Assumes nothing.
+-- The bytes of a name token are a name, those of a string token a string; what is no token has one of questions 5 to 8. Assumes nothing.
 use mathlib.Core.Path.{_≡_, refl, sym, ap, subst, _∙_}
 use mathlib.Core.Bool.{Bool, true, false, _&&_, not}
 use mathlib.Core.List.{List, [], _∷_}
@@ -49,7 +49,7 @@ abbrev Right : List ℕ → Lexed → Type 0
 Right s (Found t) =
     (eqb (t .kind) name ≡ true → isName (between s (t .start) (t .end)) ≡ true)
     × (eqb (t .kind) string ≡ true → isString (between s (t .start + 1) (t .end - 1)) ≡ true)
-Right s (Refused q p) = Unit {0}
+Right s (Refused q p) = (5 ≤ q) × (q ≤ 8)
 Right s End = Unit {0}
 
 -- neither a name nor a string
@@ -82,11 +82,11 @@ module _ (s : List ℕ) (i : ℕ) (h : i < length s) where
         (λ _. ap isName (between-take s i n (run-within isNameByte s i (omega arith))) ∙ name-bytes e (leb-true n 32 l)),
         (λ q. true-false (sym q ∙ no-string reserved (take n (drop i s)) refl)),
       ))
-      (λ _. tt)
+      (λ _. (omega arith, omega arith))
 
   number-right : Right s (numberAt s i)
   unfolding numberAt
-  number-right = by-cases (Right s) (leb (decimal 0 (drop i s)) top) _ _ (λ _. ((λ q. true-false (sym q)), (λ q. true-false (sym q)))) (λ _. tt)
+  number-right = by-cases (Right s) (leb (decimal 0 (drop i s)) top) _ _ (λ _. ((λ q. true-false (sym q)), (λ q. true-false (sym q)))) (λ _. (omega arith, omega arith))
 
   string-right : Right s (stringAt s i (run isStringByte (drop (i + 1) s)))
   unfolding stringAt isString
@@ -102,12 +102,12 @@ module _ (s : List ℕ) (i : ℕ) (h : i < length s) where
             ∙ ap isString (between-take s (i + 1) n (run-within isStringByte s (i + 1) (omega arith)))
             ∙ both-true _ _ (run-class isStringByte (drop (i + 1) s)) (le-leb (length (take n (drop (i + 1) s))) maxString (let m : n ≤ 64 = leb-true n 64 l in omega arith))),
       ))
-      (λ _. tt))
-      (λ _. tt)
+      (λ _. (omega arith, omega arith)))
+      (λ _. (omega arith, omega arith))
 
   mark-right : (ks : List ℕ) → every isOther ks ≡ true → Right s (markAt ks s i)
   unfolding markAt every
-  mark-right [] e = tt
+  mark-right [] e = (omega arith, omega arith)
   mark-right (k ∷ ks) e =
       let o = both-left (isOther k) (every isOther ks) e in
       by-cases (Right s) (goesOn (drop i s) k) _ _
@@ -125,7 +125,7 @@ module _ (s : List ℕ) (i : ℕ) (h : i < length s) where
       (λ _. by-cases (Right s) (isLetter b) _ _ name-right
       (λ _. by-cases (Right s) (isDigit b) _ _ (λ _. number-right)
       (λ _. by-cases (Right s) (eqb b 34) _ _ (λ _. string-right) (λ _. mark-right marks refl))))
-      (λ _. tt)
+      (λ _. (omega arith, omega arith))
 
 right : (s : List ℕ) (at : ℕ) → Right s (tokenAt s at)
 unfolding tokenAt here
@@ -138,3 +138,6 @@ name-token s at t e = subst (Right s) e (right s at) .0
 
 pub string-token : (s : List ℕ) (at : ℕ) (t : Token) → tokenAt s at ≡ Found t → eqb (t .kind) string ≡ true → isString (between s (t .start + 1) (t .end - 1)) ≡ true
 string-token s at t e = subst (Right s) e (right s at) .1
+
+pub refused-kind : (s : List ℕ) (at q p : ℕ) → tokenAt s at ≡ Refused q p → (5 ≤ q) × (q ≤ 8)
+refused-kind s at q p e = subst (Right s) e (right s at)

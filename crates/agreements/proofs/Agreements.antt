@@ -2,14 +2,17 @@
 use mathlib.Core.Path.{_≡_, refl, sym, ap, _∙_}
 use mathlib.Core.Bool.{Bool, true, false, not, _&&_}
 use mathlib.Core.List.{List, [], _∷_}
-use Prim.Native.Nat.{ℕ, zero, suc, _+_, _-_, _*_, _<_, _≤_}
+use Prim.Native.Nat.{ℕ, zero, suc, _+_, _-_, _*_, _%_, _^_, _<_, _≤_}
 use native.Mathlib.Numerals.{add-one}
+use native.Mathlib.Nat.{one-mul}
 use native.Mathlib.Omega.{arith}
 use lib.ListN.{length, getD, take, drop, set, length-take, length-drop, drop-of-length-le, List·getD-eq-default}
 use lib.Seq.{drop-cons, drop-drop, getD-drop, set-out}
 use lib.IntN.{ℤ, pos}
-use lib.Dec.{eqb}
-use borrow.Author.Tests.{eq-eqb, ne-eqb, eqb-true}
+use lib.Bits.{bitOr}
+use lib.Dec.{eqb, leb}
+use lib.Pow.{shl-exact}
+use borrow.Author.Tests.{eq-eqb, ne-eqb, eqb-true, leb-true, leb-false}
 use Rattle.laws.specs.Choice.{pick}
 use Rattle.laws.specs.Bytes.{sameBytes}
 use Rattle.laws.proofs.Choice.{pick-true, pick-false, true-false}
@@ -22,12 +25,13 @@ use Rattle.contract.specs.declared.TableHead as head
 use Rattle.contract.specs.Decode.{eachFrom, contractOf}
 use Rattle.contract.specs.Check.{passes}
 use Rattle.state.specs.declared.State.{State}
+use Rattle.state.specs.States.{withInteger, opened}
 use Rattle.laws.proofs.Truths.{both-of}
 use Rattle.outcomes.specs.declared.Rule.the-variants.{Agree}
 use Rattle.outcomes.specs.declared.Outcome.the-variants.{Accepted}
 use Rattle.outcomes.specs.Outcomes.{answered, refused}
-use Rattle.agreements.specs.Agreement.{Part, wordsIn, partsIn, sameVerb, sameFields, sameClause, sameClauses, withInteger, setFields, setClause, setClauses, agreedFields, agreedClause, agreedClauses, opened, agreedOn, agreedIn}
-use Rattle.agreements.specs.Private.{verbOf, partAt, setPart, setBy, agreedPart, agreedBy}
+use Rattle.agreements.specs.Agreement.{Part, wordsIn, partsIn, sameVerb, sameFields, sameClause, sameClauses, setFields, setClause, setClauses, agreedFields, agreedClause, agreedClauses, surplus, fieldsIn, fieldsOf, sameMap, agreedOn, agreedIn}
+use Rattle.agreements.specs.Private.{verbOf, partAt, setPart, setBy, agreedPart, agreedBy, sameBy}
 use Rattle.agreements.proofs.Clauses.{each-cons, each-nil}
 
 -- ---- verbs
@@ -185,27 +189,54 @@ parts-at line parts spans values n i at k h q =
     ((drop-drop (getD (drop (i * 4) parts) 3 0 * 2) (at * 2) spans ∙ ap (λ (m : ℕ). drop m spans) g) t)
     ((drop-drop (getD (drop (i * 4) parts) 3 0) at values ∙ ap (λ (m : ℕ). drop m values) b) t))
 
-pub parts-none : (line parts spans : List ℕ) (values : List ℤ) (n i at : ℕ) → n ≤ i → partsFrom line parts spans values n i at ≡ []
+-- ---- what is left over
+pub parts-none : (line parts spans : List ℕ) (values : List ℤ) (n i at : ℕ) → n ≤ i → partsFrom line parts spans values n i at ≡ pick (eqb (length (drop (i * 4) parts)) 0 && (eqb (length (drop (at * 2) spans)) 0 && eqb (length (drop at values)) 0)) [] (surplus ∷ [])
 unfolding partsIn
 parts-none line parts spans values n i at h =
     let e : n - i ≡ 0 = omega arith in
     ap (λ (m : ℕ). partsIn line m (drop (i * 4) parts) (drop (at * 2) spans) (drop at values)) e
 
-parts-length : (line : List ℕ) (n : ℕ) (parts spans : List ℕ) (values : List ℤ) → length (partsIn line n parts spans values) ≡ n
-unfolding partsIn
-parts-length line zero parts spans values = refl
-parts-length line (suc n) parts spans values = ap suc (parts-length line n _ _ _)
+nothing-left : {A : Type 0} (l : List A) (n : ℕ) → eqb (length (drop n l)) 0 ≡ leb (length l) n
+nothing-left l n = go (leb (length l) n) refl
+  where
+    go : (b : Bool) → leb (length l) n ≡ b → eqb (length (drop n l)) 0 ≡ leb (length l) n
+    go true e = let h = leb-true (length l) n e in eq-eqb (length (drop n l)) 0 (omega (arith, length-drop n l)) ∙ sym e
+    go false e = let h = leb-false (length l) n e in ne-eqb (length (drop n l)) 0 (λ q. absurd (omega (arith, length-drop n l))) ∙ sym e
 
-clauses-count : (c : Contract) (ks : List Clause) (ps : List Part) → sameClauses c ks ps ≡ true → length ks ≡ length ps
-unfolding sameClauses
-clauses-count c [] [] e = refl
-clauses-count c [] (p ∷ ps) e = true-false (sym e)
-clauses-count c (k ∷ ks) [] e = true-false (sym e)
-clauses-count c (k ∷ ks) (p ∷ ps) e = ap suc (clauses-count c ks ps (both-of (sameClause c k p) (sameClauses c ks ps) e .1))
+none-more : (c : Contract) (b : Bool) → sameClauses c [] (pick b [] (surplus ∷ [])) ≡ b
+unfolding sameClauses pick
+none-more c true = refl
+none-more c false = refl
+
+-- a clause has neither no part nor the surplus one
+no-part : {X : Type 0} (c : Contract) (k : Clause) (ks : List Clause) (b : Bool) → sameClauses c (k ∷ ks) (pick b [] (surplus ∷ [])) ≡ true → X
+unfolding sameClauses pick
+no-part c k ks true e = true-false (sym e)
+no-part c k ks false e =
+    let h : _≡_ {A = ℕ} 1 0 = counted c k surplus (both-of (sameClause c k surplus) (sameClauses c ks []) e .0) .values in
+    absurd (omega arith)
+
+-- the first part of a line
+abbrev firstPart : List ℕ → List ℕ → List ℕ → List ℤ → Part
+firstPart line parts spans values =
+    record {
+      party = between line (getD parts 0 0) (getD parts 1 0);
+      verb = verbOf (getD parts 2 0);
+      fields = wordsIn line (getD parts 3 0) spans;
+      values = take (getD parts 3 0) values;
+    }
+
+clauses-count : (c : Contract) (ks : List Clause) (line : List ℕ) (n : ℕ) (parts spans : List ℕ) (values : List ℤ) → sameClauses c ks (partsIn line n parts spans values) ≡ true → n ≡ length ks
+unfolding partsIn sameClauses
+clauses-count c [] line zero parts spans values e = refl
+clauses-count c [] line (suc n) parts spans values e = true-false (sym e)
+clauses-count c (k ∷ ks) line zero parts spans values e = no-part c k ks _ e
+clauses-count c (k ∷ ks) line (suc n) parts spans values e =
+    let l = partsIn line n (drop 4 parts) (drop (getD parts 3 0 * 2) spans) (drop (getD parts 3 0) values) in
+    ap suc (clauses-count c ks line n (drop 4 parts) (drop (getD parts 3 0 * 2) spans) (drop (getD parts 3 0) values) (both-of (sameClause c k (firstPart line parts spans values)) (sameClauses c ks l) e .1))
 
 pub other-clauses : (c : Contract) (ks : List Clause) (line : List ℕ) (n : ℕ) (parts spans : List ℕ) (values : List ℤ) → (n ≡ length ks → ⊥) → false ≡ sameClauses c ks (partsIn line n parts spans values)
-other-clauses c ks line n parts spans values h =
-    not-so _ (λ e. h (sym (clauses-count c ks (partsIn line n parts spans values) e ∙ parts-length line n parts spans values)))
+other-clauses c ks line n parts spans values h = not-so _ (λ e. h (clauses-count c ks line n parts spans values e))
 
 module _ (c : Contract) (f : ℕ → Clause) (line parts spans : List ℕ) (values : List ℤ) (n i at : ℕ) where
   abbrev rest : Bool
@@ -221,9 +252,11 @@ module _ (c : Contract) (f : ℕ → Clause) (line parts spans : List ℕ) (valu
   pub clauses-not : i < n → sameClause c (f i) (partAt line parts spans values i at) ≡ false → rest ≡ false
   clauses-not h e = clauses-turn _ h refl ∙ rw e
 
-  pub clauses-all : n ≤ i → rest ≡ true
+  pub clauses-all : n ≤ i → rest ≡ (leb (length parts) (i * 4) && (leb (length spans) (at * 2) && leb (length values) at))
   unfolding sameClauses
-  clauses-all h = λ t. sameClauses c (each-nil f n i h t) (parts-none line parts spans values n i at h t)
+  clauses-all h =
+      (λ t. sameClauses c (each-nil f n i h t) (parts-none line parts spans values n i at h t)) ∙ none-more c _
+      ∙ (λ t. nothing-left parts (i * 4) t && (nothing-left spans (at * 2) t && nothing-left values at t))
 
 -- ---- values set
 pub past-integer : (s : State) (x : ℕ) (z : ℤ) → length (s .kinds) ≡ 32 → length (s .numbers) ≡ 32 → 32 ≤ x → s ≡ withInteger s x z
@@ -364,6 +397,59 @@ module _ (f : ℕ → Clause) (values : List ℤ) (n i at : ℕ) (s : State) whe
   unfolding agreedBy
   agreed-by-all h = ap (λ (ks : List Clause). agreedBy s ks (drop at values)) (each-nil f n i h)
 
+-- ---- the masks, from the last field and the last clause on
+module _ (fs : List ℕ) (j : ℕ) where
+  pub fields-none : length fs ≤ j → 0 ≡ fieldsIn (drop j fs)
+  unfolding fieldsIn
+  fields-none h = ap fieldsIn (sym (drop-of-length-le fs h))
+
+  pub fields-before : (m x : ℕ) → 0 < j → j ≤ length fs → m ≡ fieldsIn (drop j fs) → x ≡ getD fs (j - 1) 0 → x < 64 → bitOr m (1 * 2 ^ x % 2 ^ 64) ≡ fieldsIn (drop (j - 1) fs)
+  unfolding fieldsIn
+  fields-before m x p h e q l =
+      let one : 1 < 2 ^ 1 = omega arith in
+      let b : suc (j - 1) ≡ j = omega arith in
+      ap (bitOr m) (shl-exact 1 x 64 one (omega arith) ∙ one-mul (2 ^ x))
+      ∙ (λ t. bitOr (e t) (2 ^ q t))
+      ∙ sym (ap fieldsIn (drop-cons fs (j - 1) 0 (omega arith) ∙ ap (λ (k : ℕ). getD fs (j - 1) 0 ∷ drop k fs) b))
+
+  pub fields-done : (m : ℕ) → j ≤ 0 → m ≡ fieldsIn (drop j fs) → m ≡ fieldsIn fs
+  fields-done m h e =
+      let z : j ≡ 0 = omega arith in
+      e ∙ ap (λ (k : ℕ). fieldsIn (drop k fs)) z
+
+module _ (v : Verb) (f : ℕ → Clause) (n i : ℕ) where
+  pub clauses-none : n ≤ i → 0 ≡ fieldsOf v (eachFrom i (n - i) f)
+  unfolding fieldsOf
+  clauses-none h = ap (fieldsOf v) (sym (each-nil f n i h))
+
+  module _ (m : ℕ) (p : 0 < i) (h : i ≤ n) (e : m ≡ fieldsOf v (eachFrom i (n - i) f)) where
+    before : eachFrom (i - 1) (n - (i - 1)) f ≡ f (i - 1) ∷ eachFrom i (n - i) f
+    before =
+        let b : i - 1 + 1 ≡ i = omega arith in
+        each-cons f n (i - 1) (omega arith) ∙ ap (λ (k : ℕ). f (i - 1) ∷ eachFrom k (n - k) f) b
+
+    pub clauses-before : sameVerb v (f (i - 1) .verb) ≡ true → (q : ℕ) → q ≡ fieldsIn (f (i - 1) .fields) → bitOr m q ≡ fieldsOf v (eachFrom (i - 1) (n - (i - 1)) f)
+    unfolding fieldsOf
+    clauses-before y q g = (λ t. bitOr (e t) (g t)) ∙ sym (ap (fieldsOf v) before ∙ pick-true _ _ _ y)
+
+    pub clauses-skip : sameVerb v (f (i - 1) .verb) ≡ false → m ≡ fieldsOf v (eachFrom (i - 1) (n - (i - 1)) f)
+    unfolding fieldsOf
+    clauses-skip y = e ∙ sym (ap (fieldsOf v) before ∙ pick-false _ _ _ y)
+
+  pub clauses-done : (m : ℕ) → i ≤ 0 → m ≡ fieldsOf v (eachFrom i (n - i) f) → m ≡ fieldsOf v (eachFrom 0 (n - 0) f)
+  clauses-done m h e =
+      let z : i ≡ 0 = omega arith in
+      e ∙ ap (λ (k : ℕ). fieldsOf v (eachFrom k (n - k) f)) z
+
+-- of SET and of OK
+pub masks-same : (ks : List Clause) (m o : ℕ) (b : Bool) → m ≡ fieldsOf (verbOf 0) ks → o ≡ fieldsOf (verbOf 1) ks → m ≡ o → b ≡ (eqb (fieldsOf tree.set ks) (fieldsOf tree.ok ks) && b)
+unfolding pick
+masks-same ks m o b p q e = sym (ap (λ (t : Bool). t && b) (eq-eqb _ _ (sym p ∙ e ∙ q)))
+
+pub masks-other : (ks : List Clause) (m o : ℕ) (b : Bool) → m ≡ fieldsOf (verbOf 0) ks → o ≡ fieldsOf (verbOf 1) ks → (m ≡ o → ⊥) → false ≡ (eqb (fieldsOf tree.set ks) (fieldsOf tree.ok ks) && b)
+unfolding pick
+masks-other ks m o b p q h = sym (ap (λ (t : Bool). t && b) (ne-eqb _ _ (λ e. h (p ∙ e ∙ sym q))))
+
 -- ---- where the clauses are the same, their values stand in a row
 set-taken : (s : State) (xs : List ℕ) (zs : List ℤ) → setFields s xs (take (length xs) zs) ≡ setFields s xs zs
 unfolding setFields
@@ -387,15 +473,6 @@ module _ (k : Clause) (p : Part) (zs : List ℤ) (e : p .values ≡ take (length
   agreed-one tree.ok = ap (agreedFields s (k .fields)) e ∙ agreed-taken s (k .fields) zs
 
 -- the first part of a line has as many fields as the clause
-abbrev firstPart : List ℕ → List ℕ → List ℕ → List ℤ → Part
-firstPart line parts spans values =
-    record {
-      party = between line (getD parts 0 0) (getD parts 1 0);
-      verb = verbOf (getD parts 2 0);
-      fields = wordsIn line (getD parts 3 0) spans;
-      values = take (getD parts 3 0) values;
-    }
-
 first-count : (c : Contract) (k : Clause) (line parts spans : List ℕ) (values : List ℤ) → sameClause c k (firstPart line parts spans values) ≡ true → getD parts 3 0 ≡ length (k .fields)
 first-count c k line parts spans values e = omega (arith, words-length line (getD parts 3 0) spans, counted c k (firstPart line parts spans values) e .fields)
 
@@ -403,7 +480,7 @@ pub set-in-row : (c : Contract) (ks : List Clause) (line : List ℕ) (n : ℕ) (
 unfolding partsIn sameClauses setClauses setBy
 set-in-row c [] line zero parts spans values s e = refl
 set-in-row c [] line (suc n) parts spans values s e = refl
-set-in-row c (k ∷ ks) line zero parts spans values s e = true-false (sym e)
+set-in-row c (k ∷ ks) line zero parts spans values s e = no-part c k ks _ e
 set-in-row c (k ∷ ks) line (suc n) parts spans values s e =
     let p : Part = firstPart line parts spans values in
     let l = partsIn line n (drop 4 parts) (drop (getD parts 3 0 * 2) spans) (drop (getD parts 3 0) values) in
@@ -416,7 +493,7 @@ pub agreed-in-row : (c : Contract) (ks : List Clause) (line : List ℕ) (n : ℕ
 unfolding partsIn sameClauses agreedClauses agreedBy
 agreed-in-row c [] line zero parts spans values s e = refl
 agreed-in-row c [] line (suc n) parts spans values s e = refl
-agreed-in-row c (k ∷ ks) line zero parts spans values s e = true-false (sym e)
+agreed-in-row c (k ∷ ks) line zero parts spans values s e = no-part c k ks _ e
 agreed-in-row c (k ∷ ks) line (suc n) parts spans values s e =
     let p : Part = firstPart line parts spans values in
     let l = partsIn line n (drop 4 parts) (drop (getD parts 3 0 * 2) spans) (drop (getD parts 3 0) values) in
@@ -436,19 +513,23 @@ module _ (c : Contract) (s : State) (ps : List Part) where
     unfolding agreedOn
     agree-others f = sym (pick-false (s .agreed) _ _ e ∙ pick-false _ _ _ f)
 
-    module _ (f : sameClauses c (c .clauses) ps ≡ true) (t : State) (q : t ≡ setClauses s (c .clauses) ps) where
-      pub agree-differ : agreedClauses t (c .clauses) ps ≡ false → refused s 24 ≡ agreedOn c s ps
-      unfolding agreedOn
-      agree-differ g = sym (pick-false (s .agreed) _ _ e ∙ pick-true _ _ _ f ∙ pick-false _ _ _ (ap (λ (x : State). agreedClauses x (c .clauses) ps) (sym q) ∙ g))
+    module _ (f : sameClauses c (c .clauses) ps ≡ true) (t : State) (q : t ≡ setClauses s (c .clauses) ps) (zs : List ℤ) (g : agreedClauses t (c .clauses) ps ≡ agreedBy t (c .clauses) zs) where
+      by-map : sameMap s (c .clauses) ps ≡ sameBy t (c .clauses) zs
+      unfolding sameMap
+      by-map = ap (λ (b : Bool). eqb (fieldsOf tree.set (c .clauses)) (fieldsOf tree.ok (c .clauses)) && b) (ap (λ (x : State). agreedClauses x (c .clauses) ps) (sym q) ∙ g)
 
-      pub agree-done : agreedClauses t (c .clauses) ps ≡ true → answered (Accepted Agree) (opened c t) ≡ agreedOn c s ps
+      pub agree-differ : sameBy t (c .clauses) zs ≡ false → refused s 24 ≡ agreedOn c s ps
       unfolding agreedOn
-      agree-done g =
-          ap (λ (x : State). answered (Accepted Agree) (opened c x)) q
-          ∙ sym (pick-false (s .agreed) _ _ e ∙ pick-true _ _ _ f ∙ pick-true _ _ _ (ap (λ (x : State). agreedClauses x (c .clauses) ps) (sym q) ∙ g))
+      agree-differ h = sym (pick-false (s .agreed) _ _ e ∙ pick-true _ _ _ f ∙ pick-false _ _ _ (by-map ∙ h))
+
+      pub agree-done : sameBy t (c .clauses) zs ≡ true → answered (Accepted Agree) (opened t (c .initial)) ≡ agreedOn c s ps
+      unfolding agreedOn
+      agree-done h =
+          ap (λ (x : State). answered (Accepted Agree) (opened x (c .initial))) q
+          ∙ sym (pick-false (s .agreed) _ _ e ∙ pick-true _ _ _ f ∙ pick-true _ _ _ (by-map ∙ h))
 
 -- the initial state stands in the table's head
-pub opened-at : (w : List ℕ) (t : State) (h : head.TableHead) → h ≡ headOf w → record { agreed = true; state = h .initial; kinds = t .kinds; numbers = t .numbers; texts = t .texts; assets = t .assets; clock = t .clock; pending = t .pending; events = t .events } ≡ opened (contractOf w) t
+pub opened-at : (w : List ℕ) (t : State) (h : head.TableHead) → h ≡ headOf w → record { agreed = true; state = h .initial; kinds = t .kinds; numbers = t .numbers; texts = t .texts; assets = t .assets; clock = t .clock; pending = t .pending; events = t .events } ≡ opened t (contractOf w .initial)
 unfolding contractOf
 opened-at w t h e =
     λ i. record {

@@ -1,8 +1,9 @@
 -- The agreement: the parties' clauses in the contract's order, with the fields' values.
-use Prim.Native.Nat.{ℕ, zero, suc, _*_}
+use Prim.Native.Nat.{ℕ, zero, suc, _*_, _^_}
 use mathlib.Core.Bool.{Bool, true, false, _&&_}
 use mathlib.Core.List.{List, [], _∷_}
-use lib.ListN.{length, getD, take, drop, set}
+use lib.ListN.{length, getD, take, drop}
+use lib.Bits.{bitOr}
 use lib.Dec.{eqb}
 use lib.IntN.{ℤ, pos}
 use Rattle.laws.specs.Choice.{pick}
@@ -14,6 +15,7 @@ use Rattle.contract.specs.Tree as tree
 use Rattle.contract.specs.Decode.{contractOf}
 use Rattle.contract.specs.Check.{passes}
 use Rattle.state.specs.declared.State.{State}
+use Rattle.state.specs.States.{withInteger, opened}
 use Rattle.outcomes.specs.declared.Rule.the-variants.{Agree}
 use Rattle.outcomes.specs.declared.Outcome.the-variants.{Accepted}
 use Rattle.outcomes.specs.declared.Stepped.{Stepped}
@@ -32,8 +34,13 @@ unfoldable pub wordsIn : List ℕ → ℕ → List ℕ → List Word
 wordsIn line zero spans = []
 wordsIn line (suc n) spans = between line (getD spans 0 0) (getD spans 1 0) ∷ wordsIn line n (drop 2 spans)
 
+-- numbers that are left over are one part more, a value without a field, which no clause has
+abbrev pub surplus : Part
+surplus = record { party = []; verb = ok; fields = []; values = pos 0 ∷ [] }
+
 unfoldable pub partsIn : List ℕ → ℕ → List ℕ → List ℕ → List ℤ → List Part
-partsIn line zero parts spans values = []
+partsIn line zero parts spans values =
+    pick (eqb (length parts) 0 && (eqb (length spans) 0 && eqb (length values) 0)) [] (surplus ∷ [])
 partsIn line (suc n) parts spans values =
     let k = getD parts 3 0 in
     record {
@@ -74,21 +81,6 @@ sameClauses c (k ∷ ks) (p ∷ ps) = sameClause c k p && sameClauses c ks ps
 
 -- ---- the values set, and question 24
 
--- a field's integer
-abbrev pub withInteger : State → ℕ → ℤ → State
-withInteger s x z =
-    record {
-      agreed = s .agreed;
-      state = s .state;
-      kinds = set (s .kinds) x 1;
-      numbers = set (s .numbers) x z;
-      texts = s .texts;
-      assets = s .assets;
-      clock = s .clock;
-      pending = s .pending;
-      events = s .events;
-    }
-
 unfoldable pub setFields : State → List ℕ → List ℤ → State
 setFields s [] zs = s
 setFields s (x ∷ xs) [] = s
@@ -118,30 +110,29 @@ agreedClauses s [] ps = true
 agreedClauses s (k ∷ ks) [] = true
 agreedClauses s (k ∷ ks) (p ∷ ps) = agreedClause s k p (k .verb) && agreedClauses s ks ps
 
--- ---- the step
+-- one bit for each field of a list
+unfoldable pub fieldsIn : List ℕ → ℕ
+fieldsIn [] = 0
+fieldsIn (x ∷ xs) = bitOr (fieldsIn xs) (2 ^ x)
 
--- the state becomes the initial one
-abbrev pub opened : Contract → State → State
-opened c s =
-    record {
-      agreed = true;
-      state = c .initial;
-      kinds = s .kinds;
-      numbers = s .numbers;
-      texts = s .texts;
-      assets = s .assets;
-      clock = s .clock;
-      pending = s .pending;
-      events = s .events;
-    }
+-- one bit for each field that clauses of this verb name
+unfoldable pub fieldsOf : Verb → List Clause → ℕ
+fieldsOf v [] = 0
+fieldsOf v (k ∷ ks) = pick (sameVerb v (k .verb)) (bitOr (fieldsOf v ks) (fieldsIn (k .fields))) (fieldsOf v ks)
+
+-- question 24: the values set and the values agreed on are the same map
+unfoldable pub sameMap : State → List Clause → List Part → Bool
+sameMap s ks ps = eqb (fieldsOf tree.set ks) (fieldsOf ok ks) && agreedClauses (setClauses s ks ps) ks ps
+
+-- ---- the step
 
 -- 21, 23, 24
 unfoldable pub agreedOn : Contract → State → List Part → Stepped
 agreedOn c s ps =
     pick (s .agreed) (refused s 21)
     (pick (sameClauses c (c .clauses) ps)
-    (pick (agreedClauses (setClauses s (c .clauses) ps) (c .clauses) ps)
-    (answered (Accepted Agree) (opened c (setClauses s (c .clauses) ps)))
+    (pick (sameMap s (c .clauses) ps)
+    (answered (Accepted Agree) (opened (setClauses s (c .clauses) ps) (c .initial)))
     (refused s 24))
     (refused s 23))
 

@@ -9,7 +9,7 @@ use Rattle.laws.specs.Choice.{pick}
 use Rattle.tokens.specs.Tokens.{between}
 use Rattle.contract.specs.Tree.{Verb, set, ok, Clause}
 use Rattle.state.specs.declared.State.{State}
-use Rattle.agreements.specs.Agreement.{Part, wordsIn, setFields, agreedFields}
+use Rattle.agreements.specs.Agreement.{Part, wordsIn, setFields, agreedFields, fieldsOf}
 
 -- 0 for SET, else OK
 abbrev pub verbOf : ℕ → Verb
@@ -42,3 +42,7 @@ setBy s (k ∷ ks) zs = setBy (setPart s (k .fields) zs (k .verb)) ks (drop (len
 unfoldable pub agreedBy : State → List Clause → List ℤ → Bool
 agreedBy s [] zs = true
 agreedBy s (k ∷ ks) zs = agreedPart s (k .fields) zs (k .verb) && agreedBy s ks (drop (length (k .fields)) zs)
+
+-- question 24, of the state that the values set give
+abbrev pub sameBy : State → List Clause → List ℤ → Bool
+sameBy s ks zs = eqb (fieldsOf set ks) (fieldsOf ok ks) && agreedBy s ks zs

@@ -11,8 +11,9 @@ ghost use Rattle.tokens.specs.Tokens.{between};
 ghost use Rattle.contract.specs.Table.{wordAt, clauseWord};
 ghost use Rattle.contract.specs.Decode.{wordOf, clauseAt, contractOf};
 ghost use Rattle.contract.specs.Check.{passes};
-ghost use Rattle.agreements.specs.Agreement.{partsIn, wordsIn, sameVerb, sameFields, sameClause, sameClauses, withInteger, setFields, agreedFields, agreedOn, agreedIn};
-ghost use Rattle.agreements.specs.Private.{verbOf, partAt, setPart, setBy, agreedPart, agreedBy};
+ghost use Rattle.state.specs.States.{withInteger};
+ghost use Rattle.agreements.specs.Agreement.{partsIn, wordsIn, sameVerb, sameFields, sameClause, sameClauses, setFields, agreedFields, fieldsIn, fieldsOf, agreedOn, agreedIn};
+ghost use Rattle.agreements.specs.Private.{verbOf, partAt, setPart, setBy, agreedPart, agreedBy, sameBy};
 use contract::Contract;
 use outcomes::Outcome;
 use outcomes::Rule;
@@ -112,6 +113,7 @@ fn same_clause(
     false
 }
 
+// Whether the clauses are the parts, and nothing is left over.
 fn same_clauses(
     table: &[u64],
     line: &[u8],
@@ -138,7 +140,7 @@ fn same_clauses(
             return false;
         }
     }
-    true
+    (parts.len() <= count * 4) & ((spans.len() <= at * 2) & (values.len() <= at))
 }
 
 // Field x gets an integer.
@@ -291,6 +293,49 @@ fn agreed_clauses(table: &[u64], s: State, values: &[i64]) -> bool
     true
 }
 
+// A bit for each field of clause i.
+fn fields_in(table: &[u64], i: usize) -> u64
+    requires { ⌜ (passes (now table) ≡ true) × (i < wordAt (now table) 5) ⌝ }
+    ensures { λ r. ⌜ r ≡ fieldsIn (clauseAt (now (table .entry)) i .fields) ⌝ }
+{
+    let mut mask: u64 = 0;
+    let mut j = contract::clause_at(table, i).fields;
+    while 0 < j {
+        j -= 1;
+        mask = mask | (1 << contract::clause_field(table, i, j));
+    }
+    mask
+}
+
+// A bit for each field that clauses of this verb name: 0 for SET, else OK.
+fn fields_of(table: &[u64], verb: usize) -> u64
+    requires { ⌜ passes (now table) ≡ true ⌝ }
+    ensures { λ r. ⌜ r ≡ fieldsOf (verbOf verb) (contractOf (now (table .entry)) .clauses) ⌝ }
+{
+    let mut mask: u64 = 0;
+    let mut i = contract::head(table).clauses;
+    while 0 < i {
+        i -= 1;
+        let c = contract::clause_at(table, i);
+        if !same_verb(verb, c.verb) {
+            continue;
+        }
+        mask = mask | fields_in(table, i);
+    }
+    mask
+}
+
+// Whether the values set, which this state has, and the values agreed on are the same map.
+fn same_map(table: &[u64], s: State, values: &[i64]) -> bool
+    requires { ⌜ passes (now table) ≡ true ⌝ }
+    ensures { λ r. ⌜ r ≡ sameBy s (contractOf (now (table .entry)) .clauses) (now (values .entry)) ⌝ }
+{
+    if fields_of(table, 0) != fields_of(table, 1) {
+        return false;
+    }
+    agreed_clauses(table, s, values)
+}
+
 // An agreement on a contract's state.
 fn agree_on_contract(
     table: &[u64],
@@ -310,7 +355,7 @@ fn agree_on_contract(
         return outcomes::refuse(s, questions::SAME_CLAUSES);
     }
     let set = set_clauses(table, s, values);
-    if !agreed_clauses(table, set, values) {
+    if !same_map(table, set, values) {
         return outcomes::refuse(s, questions::SAME_VALUES);
     }
     let h = contract::head(table);

@@ -9,6 +9,7 @@ ghost use Rattle.cursors.specs.Packed.{isStop, cursorIn, stepIn};
 ghost use Rattle.reading_laws.specs.Walk as walk;
 ghost use Rattle.reading_laws.specs.Walk.{AgreesWith, draft};
 use crate::blocks;
+use contract::Contract;
 use contract::Node;
 
 // => @Q' after a handler: the event's node and row.
@@ -90,7 +91,7 @@ fn one_more(notes: &mut [u64])
     ensures { λ _. ⌜ now (notes .exit) ≡ walk.oneMore [] (now (notes .entry)) ⌝ }
 {
     let n = contract::word(notes, entries::HERE);
-    if n < 4096 {
+    if n < Contract::NODES as u64 {
         entries::store(notes, entries::HERE, n + 1);
     }
 }

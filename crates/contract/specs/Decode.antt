@@ -1,7 +1,7 @@
 -- The contract that a table holds, for any words at all. A node's parts have lower numbers than the node; the right part of node k ends
 -- at k - 1, the left part before it. A malformed table gives some contract, often with a broken part; such a table does not pass.
 use Prim.Native.Nat.{ℕ, zero, suc, _+_, _-_, _*_}
-use mathlib.Core.Bool.{true, false}
+use mathlib.Core.Bool.{Bool, true, false}
 use mathlib.Core.List.{List, [], _∷_}
 use lib.ListN.{take, drop}
 use lib.Dec.{eqb, leb, ltb}
@@ -47,14 +47,23 @@ leafOf kind n =
     (pick (eqb kind assetKind) (held (asset n))
     (pick (eqb kind parameterKind) (held (assetParameter n)) brokenExpression))))))
 
--- the expression at node k, with at most so many levels; node 0 has no parts
+-- node k counts itself, its right part, which ends at the node before it, and its left part
+unfoldable pub countsTwo : List ℕ → ℕ → Bool
+countsTwo w k = eqb (sizeAt w k) (suc (sizeAt w (k - 1 - sizeAt w (k - 1)) + sizeAt w (k - 1)))
+
+-- node k counts itself and its part
+unfoldable pub countsOne : List ℕ → ℕ → Bool
+countsOne w k = eqb (sizeAt w k) (suc (sizeAt w (k - 1)))
+
+-- the expression at node k, with at most so many levels; node 0 counts no parts
 unfoldable pub expressionWithin : ℕ → List ℕ → ℕ → Expression
 expressionWithin zero w k = brokenExpression
 expressionWithin (suc fuel) w k =
     pick (ltb (kindAt w k) plusKind) (leafOf (kindAt w k) (argumentAt w k))
     (pick (leb (kindAt w k) overKind)
-    (pick (eqb k 0) brokenExpression
-    (apply (operatorOf (kindAt w k)) (expressionWithin fuel w (k - 1 - sizeAt w (k - 1))) (expressionWithin fuel w (k - 1))))
+    (pick (countsTwo w k)
+    (apply (operatorOf (kindAt w k)) (expressionWithin fuel w (k - 1 - sizeAt w (k - 1))) (expressionWithin fuel w (k - 1)))
+    brokenExpression)
     brokenExpression)
 
 -- parts have lower numbers than the whole, so that many levels are enough
@@ -66,15 +75,17 @@ conditionWithin zero w k = brokenCondition
 conditionWithin (suc fuel) w k =
     pick (eqb (kindAt w k) trueKind) (truth true)
     (pick (eqb (kindAt w k) falseKind) (truth false)
-    (pick (eqb k 0) brokenCondition
-    (pick (eqb (kindAt w k) notKind) (negation (conditionWithin fuel w (k - 1)))
+    (pick (eqb (kindAt w k) notKind)
+    (pick (countsOne w k) (negation (conditionWithin fuel w (k - 1))) brokenCondition)
+    (pick (countsTwo w k)
     (pick (eqb (kindAt w k) andKind)
     (both (conditionWithin fuel w (k - 1 - sizeAt w (k - 1))) (conditionWithin fuel w (k - 1)))
     (pick (eqb (kindAt w k) orKind)
     (either (conditionWithin fuel w (k - 1 - sizeAt w (k - 1))) (conditionWithin fuel w (k - 1)))
     (pick (ltb (kindAt w k) equalKind) brokenCondition
     (pick (ltb atLeastKind (kindAt w k)) brokenCondition
-    (compare (comparisonOf (kindAt w k)) (expressionAt w (k - 1 - sizeAt w (k - 1))) (expressionAt w (k - 1))))))))))
+    (compare (comparisonOf (kindAt w k)) (expressionAt w (k - 1 - sizeAt w (k - 1))) (expressionAt w (k - 1)))))))
+    brokenCondition)))
 
 abbrev pub conditionAt : List ℕ → ℕ → Condition
 conditionAt w k = conditionWithin (suc k) w k
@@ -104,12 +115,13 @@ wholeMoveAt w k =
     (payAll (holderAt w (k - 2)) (argumentAt w (k - 1)))
     (moveAll (holderAt w (k - 2)) (holderAt w (k - 1)))
 
--- the block that stands in the nodes from `from` up to, not including, `end`, with at most so many levels; k is its last node
+-- the block that stands in the nodes from `from` up to, not including, `end`, with at most so many levels; k is its last node; one whose
+-- first statement starts before `from` is broken
 unfoldable pub blockWithin : ℕ → List ℕ → ℕ → ℕ → Block
-blockWithin zero w from end = none
+blockWithin zero w from end = brokenBlock
 blockWithin (suc fuel) w from end =
     let k = end - 1 in
-    pick (leb end from) none
+    pick (leb end from) (pick (eqb end from) none brokenBlock)
     (pick (eqb (kindAt w k) valueMoveKind)
     (perform (blockWithin fuel w from (k - 1 - sizeAt w (k - 2))) (valueMoveAt w k))
     (pick (eqb (kindAt w k) assetMoveKind)
@@ -124,7 +136,7 @@ blockWithin (suc fuel) w from end =
     brokenBlock))))
 
 abbrev pub blockBetween : List ℕ → ℕ → ℕ → Block
-blockBetween w from end = blockWithin end w from end
+blockBetween w from end = blockWithin (suc end) w from end
 
 -- the word whose length stands at o, and its bytes after it
 abbrev pub wordOf : List ℕ → ℕ → Word

@@ -5,7 +5,7 @@ use mathlib.Core.List.{List, [], _∷_}
 use Prim.Native.Nat.{ℕ, zero, suc, _+_, _-_, _<_, _≤_}
 use native.Mathlib.Omega.{arith}
 use lib.Dec.{eqb, leb, ltb}
-use borrow.Author.Tests.{leb-true, eqb-true, lt-leb, le-leb}
+use borrow.Author.Tests.{leb-true, eqb-true, eq-eqb, lt-leb, le-leb}
 use Rattle.laws.specs.Choice.{pick}
 use Rattle.laws.proofs.Choice.{pick-true, pick-false}
 use Rattle.contract.specs.Tree.{Action, Block, perform, conditional, brokenBlock}
@@ -210,7 +210,7 @@ pub record BlockHeld (w : List ℕ) (s : Scope) (p end : ℕ) : Type 0 where
 none-held : (w : List ℕ) (s : Scope) (p end : ℕ) → p ≡ end → BlockHeld w s p end
 unfolding blockIn blockSize statements
 none-held w s p end e =
-    let q = block-step w p end ∙ pick-true _ _ _ (le-leb end p (omega arith)) in
+    let q = block-step w p end ∙ pick-true _ _ _ (le-leb end p (omega arith)) ∙ pick-true _ _ _ (eq-eqb end p (sym e)) in
     record {
       inside = ap (blockIn s) q;
       size = omega (arith, ap blockSize q);

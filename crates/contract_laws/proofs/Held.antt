@@ -5,7 +5,7 @@ use mathlib.Core.List.{List, [], _∷_}
 use Prim.Native.Nat.{ℕ, zero, suc, _+_, _-_, _<_, _≤_}
 use native.Mathlib.Omega.{arith}
 use lib.Dec.{eqb, leb, ltb}
-use borrow.Author.Tests.{ltb-true, ltb-false, lt-ltb, le-ltb, le-leb, ne-eqb}
+use borrow.Author.Tests.{ltb-true, ltb-false, lt-ltb, le-ltb, le-leb, eq-eqb, ne-eqb}
 use Rattle.laws.specs.Choice.{pick}
 use Rattle.laws.proofs.Choice.{pick-true, pick-false}
 use Rattle.contract.specs.Limits.{top, maxStrings}
@@ -14,7 +14,7 @@ use Rattle.contract.specs.Sizes.{expressionSize, conditionSize}
 use Rattle.contract.specs.Fits.{Scope, holderIn, expressionIn, conditionIn}
 use Rattle.laws.proofs.Truths.{both-true, first-true}
 use Rattle.contract.specs.Table.{kindAt, argumentAt, sizeAt, constantKind, parameterKind, plusKind, overKind, trueKind, falseKind, equalKind, atLeastKind, notKind, andKind, orKind}
-use Rattle.contract.specs.Decode.{operatorOf, comparisonOf, leafOf, expressionAt, conditionAt}
+use Rattle.contract.specs.Decode.{operatorOf, comparisonOf, leafOf, countsTwo, countsOne, expressionAt, conditionAt}
 use Rattle.contract.specs.Check.{ranges, Sort, expression, condition, isSort, partsStart, wholeFrom, leafOk, isLeaf, wholeOk, nodeOk}
 use Rattle.contract.proofs.Tests.{ranges-true}
 use Rattle.contract_laws.proofs.Levels.{expression-step, condition-step}
@@ -26,7 +26,7 @@ record Pair (w : List ℕ) (from k : ℕ) (P : ℕ → Type 0) : Type 0 where
   left-is : k - 1 - sizeAt w (k - 1) ≡ left
   first : P left
   second : P (k - 1)
-  some : 0 < k
+  counted : countsTwo w k ≡ true
   size : sizeAt w left + sizeAt w (k - 1) + 1 ≡ sizeAt w k
   room : from + sizeAt w k ≤ k + 1
 
@@ -35,6 +35,7 @@ abbrev Lower : List ℕ → Sort → ℕ → ℕ → (ℕ → Type 0) → Type 0
 Lower w sort from k P = (j : ℕ) → from ≤ j → j < k → isSort sort (kindAt w j) ≡ true → P j
 
 pair : {w : List ℕ} {from k : ℕ} {sort : Sort} (P : ℕ → Type 0) → Two w from k sort sort → Lower w sort from k P → Pair w from k P
+unfolding countsTwo
 pair {w} {from} {k} P t lower =
     let m : t .start + sizeAt w (t .middle - 1) ≡ t .middle = t .first .starts in
     let n : t .middle + sizeAt w (k - 1) ≡ k = t .second .starts in
@@ -42,12 +43,14 @@ pair {w} {from} {k} P t lower =
     let d : from < k = t .second .some in
     let g : from ≤ t .start = t .first .room in
     let z : sizeAt w k + t .start ≡ k + 1 = t .size in
+    let l : k - 1 - sizeAt w (k - 1) ≡ t .middle - 1 = omega arith in
+    let u : sizeAt w (k - 1 - sizeAt w (k - 1)) ≡ sizeAt w (t .middle - 1) = ap (sizeAt w) l in
     record {
       left = t .middle - 1;
-      left-is = omega arith;
+      left-is = l;
       first = lower (t .middle - 1) (omega arith) (omega arith) (t .first .sorted);
       second = lower (k - 1) (omega arith) (omega arith) (t .second .sorted);
-      some = omega arith;
+      counted = eq-eqb (sizeAt w k) (suc (sizeAt w (k - 1 - sizeAt w (k - 1)) + sizeAt w (k - 1))) (omega arith);
       size = omega arith;
       room = omega arith;
     }
@@ -133,7 +136,7 @@ module _ {w : List ℕ} {s : Scope} {from k : ℕ} (few : s .strings ≤ maxStri
       expression-step w k
       ∙ pick-false _ _ _ (le-ltb (kindAt w k) plusKind a)
       ∙ pick-true _ _ _ (le-leb (kindAt w k) overKind b)
-      ∙ pick-false _ _ _ (ne-eqb k 0 (omega (arith, r .some)))
+      ∙ pick-true _ _ _ (r .counted)
       ∙ ap (λ (j : ℕ). apply (operatorOf (kindAt w k)) (expressionAt w j) (expressionAt w (k - 1))) (r .left-is) in
       record {
         inside = ap (expressionIn s) q ∙ both-true _ _ (r .first .inside) (r .second .inside);
@@ -188,43 +191,43 @@ condition-true w k d = condition-step w k ∙ pick-true _ _ _ (ap (λ (z : ℕ).
 condition-false : (w : List ℕ) (k : ℕ) → kindAt w k ≡ falseKind → conditionAt w k ≡ truth false
 condition-false w k d = condition-step w k ∙ pick-false _ _ _ (ap (λ (z : ℕ). eqb z trueKind) d) ∙ pick-true _ _ _ (ap (λ (z : ℕ). eqb z falseKind) d)
 
-condition-not : (w : List ℕ) (k : ℕ) → 0 < k → kindAt w k ≡ notKind → conditionAt w k ≡ negation (conditionAt w (k - 1))
+condition-not : (w : List ℕ) (k : ℕ) → countsOne w k ≡ true → kindAt w k ≡ notKind → conditionAt w k ≡ negation (conditionAt w (k - 1))
 condition-not w k h d =
     condition-step w k
     ∙ pick-false _ _ _ (ap (λ (z : ℕ). eqb z trueKind) d)
     ∙ pick-false _ _ _ (ap (λ (z : ℕ). eqb z falseKind) d)
-    ∙ pick-false _ _ _ (ne-eqb k 0 (omega arith))
     ∙ pick-true _ _ _ (ap (λ (z : ℕ). eqb z notKind) d)
+    ∙ pick-true _ _ _ h
 
-condition-and : (w : List ℕ) (k m : ℕ) → 0 < k → k - 1 - sizeAt w (k - 1) ≡ m → kindAt w k ≡ andKind → conditionAt w k ≡ both (conditionAt w m) (conditionAt w (k - 1))
+condition-and : (w : List ℕ) (k m : ℕ) → countsTwo w k ≡ true → k - 1 - sizeAt w (k - 1) ≡ m → kindAt w k ≡ andKind → conditionAt w k ≡ both (conditionAt w m) (conditionAt w (k - 1))
 condition-and w k m h i d =
     condition-step w k
     ∙ pick-false _ _ _ (ap (λ (z : ℕ). eqb z trueKind) d)
     ∙ pick-false _ _ _ (ap (λ (z : ℕ). eqb z falseKind) d)
-    ∙ pick-false _ _ _ (ne-eqb k 0 (omega arith))
     ∙ pick-false _ _ _ (ap (λ (z : ℕ). eqb z notKind) d)
+    ∙ pick-true _ _ _ h
     ∙ pick-true _ _ _ (ap (λ (z : ℕ). eqb z andKind) d)
     ∙ ap (λ (j : ℕ). both (conditionAt w j) (conditionAt w (k - 1))) i
 
-condition-or : (w : List ℕ) (k m : ℕ) → 0 < k → k - 1 - sizeAt w (k - 1) ≡ m → kindAt w k ≡ orKind → conditionAt w k ≡ either (conditionAt w m) (conditionAt w (k - 1))
+condition-or : (w : List ℕ) (k m : ℕ) → countsTwo w k ≡ true → k - 1 - sizeAt w (k - 1) ≡ m → kindAt w k ≡ orKind → conditionAt w k ≡ either (conditionAt w m) (conditionAt w (k - 1))
 condition-or w k m h i d =
     condition-step w k
     ∙ pick-false _ _ _ (ap (λ (z : ℕ). eqb z trueKind) d)
     ∙ pick-false _ _ _ (ap (λ (z : ℕ). eqb z falseKind) d)
-    ∙ pick-false _ _ _ (ne-eqb k 0 (omega arith))
     ∙ pick-false _ _ _ (ap (λ (z : ℕ). eqb z notKind) d)
+    ∙ pick-true _ _ _ h
     ∙ pick-false _ _ _ (ap (λ (z : ℕ). eqb z andKind) d)
     ∙ pick-true _ _ _ (ap (λ (z : ℕ). eqb z orKind) d)
     ∙ ap (λ (j : ℕ). either (conditionAt w j) (conditionAt w (k - 1))) i
 
-condition-comparison : (w : List ℕ) (k m : ℕ) → 0 < k → k - 1 - sizeAt w (k - 1) ≡ m → equalKind ≤ kindAt w k → kindAt w k ≤ atLeastKind
+condition-comparison : (w : List ℕ) (k m : ℕ) → countsTwo w k ≡ true → k - 1 - sizeAt w (k - 1) ≡ m → equalKind ≤ kindAt w k → kindAt w k ≤ atLeastKind
     → conditionAt w k ≡ compare (comparisonOf (kindAt w k)) (expressionAt w m) (expressionAt w (k - 1))
 condition-comparison w k m h i a b =
     condition-step w k
     ∙ pick-false _ _ _ (ne-eqb (kindAt w k) trueKind (omega arith))
     ∙ pick-false _ _ _ (ne-eqb (kindAt w k) falseKind (omega arith))
-    ∙ pick-false _ _ _ (ne-eqb k 0 (omega arith))
     ∙ pick-false _ _ _ (ne-eqb (kindAt w k) notKind (omega arith))
+    ∙ pick-true _ _ _ h
     ∙ pick-false _ _ _ (ne-eqb (kindAt w k) andKind (omega arith))
     ∙ pick-false _ _ _ (ne-eqb (kindAt w k) orKind (omega arith))
     ∙ pick-false _ _ _ (le-ltb (kindAt w k) equalKind a)
@@ -243,7 +246,7 @@ module _ {w : List ℕ} {s : Scope} {from k : ℕ} (ok : nodeOk w s from k ≡ t
       }
 
   not-held : kindAt w k ≡ notKind → Lower w condition from k (ConditionHeld w s from) → ConditionHeld w s from k
-  unfolding conditionIn conditionSize
+  unfolding conditionIn conditionSize countsOne
   not-held d lower =
       let t = one w from k condition (kind-of w s from k ok notKind (not-parts w from k) d) in
       let n : t .start + sizeAt w (k - 1) ≡ k = t .first .starts in
@@ -251,7 +254,7 @@ module _ {w : List ℕ} {s : Scope} {from k : ℕ} (ok : nodeOk w s from k ≡ t
       let g : from ≤ t .start = t .first .room in
       let z : sizeAt w k + t .start ≡ k + 1 = t .size in
       let x = lower (k - 1) (omega arith) (omega arith) (t .first .sorted) in
-      let q = condition-not w k (omega arith) d in
+      let q = condition-not w k (eq-eqb (sizeAt w k) (suc (sizeAt w (k - 1))) (omega arith)) d in
       record {
         inside = ap (conditionIn s) q ∙ x .inside;
         size = ap conditionSize q ∙ omega (arith, x .size);
@@ -262,7 +265,7 @@ module _ {w : List ℕ} {s : Scope} {from k : ℕ} (ok : nodeOk w s from k ≡ t
   unfolding conditionIn conditionSize
   and-held d lower =
       let r = pair (ConditionHeld w s from) (two w from k condition condition (kind-of w s from k ok andKind (and-parts w from k) d)) lower in
-      let q = condition-and w k (r .left) (r .some) (r .left-is) d in
+      let q = condition-and w k (r .left) (r .counted) (r .left-is) d in
       record {
         inside = ap (conditionIn s) q ∙ both-true _ _ (r .first .inside) (r .second .inside);
         size = ap conditionSize q ∙ omega (arith, r .first .size, r .second .size, r .size);
@@ -273,7 +276,7 @@ module _ {w : List ℕ} {s : Scope} {from k : ℕ} (ok : nodeOk w s from k ≡ t
   unfolding conditionIn conditionSize
   or-held d lower =
       let r = pair (ConditionHeld w s from) (two w from k condition condition (kind-of w s from k ok orKind (or-parts w from k) d)) lower in
-      let q = condition-or w k (r .left) (r .some) (r .left-is) d in
+      let q = condition-or w k (r .left) (r .counted) (r .left-is) d in
       record {
         inside = ap (conditionIn s) q ∙ both-true _ _ (r .first .inside) (r .second .inside);
         size = ap conditionSize q ∙ omega (arith, r .first .size, r .second .size, r .size);
@@ -285,7 +288,7 @@ module _ {w : List ℕ} {s : Scope} {from k : ℕ} (ok : nodeOk w s from k ≡ t
   comparison-held a b lower =
       let o = comparison-parts w from k (kindAt w k) a b in
       let r = pair (ExpressionHeld w s from) (two w from k expression expression (sym (o .1) ∙ whole-of w s from k ok (o .0))) lower in
-      let q = condition-comparison w k (r .left) (r .some) (r .left-is) a b in
+      let q = condition-comparison w k (r .left) (r .counted) (r .left-is) a b in
       record {
         inside = ap (conditionIn s) q ∙ both-true _ _ (r .first .inside) (r .second .inside);
         size = ap conditionSize q ∙ omega (arith, r .first .size, r .second .size, r .size);

@@ -20,7 +20,7 @@ use Rattle.contract.specs.Fits.{Scope, holderIn, expressionIn, conditionIn, act
 use Rattle.laws.proofs.Truths.{both-left, both-right}
 use Rattle.contract.specs.Table.{kindAt, argumentAt, sizeAt, constantKind, stringKind, nowKind, fieldKind, assetKind, valueKind, parameterKind, plusKind, overKind, trueKind, falseKind, equalKind, atLeastKind, notKind, andKind, orKind, partyKind, valueMoveKind, assetMoveKind, wholeMoveKind, conditionalKind}
 use Rattle.contract.specs.Encode.{node, operatorKind, comparisonKind, truthKind, holderNode, expressionNodes, conditionNodes, actionParts, actionKind, blockNodes, preconditionNodes}
-use Rattle.contract.specs.Decode.{operatorOf, comparisonOf, holderAt, leafOf, expressionWithin, expressionAt, conditionWithin, conditionAt, valueMoveAt, assetMoveAt, wholeMoveAt, blockWithin, blockBetween, preconditionAt}
+use Rattle.contract.specs.Decode.{operatorOf, comparisonOf, holderAt, leafOf, countsTwo, countsOne, expressionWithin, expressionAt, conditionWithin, conditionAt, valueMoveAt, assetMoveAt, wholeMoveAt, blockWithin, blockBetween, preconditionAt}
 use Rattle.contract_laws.proofs.Stands.{first-part, moved}
 use Rattle.contract_laws.proofs.Lengths.{length-holder, length-expression, length-condition, length-parts, length-block, expression-some, condition-some, action-some}
 use Rattle.contract_laws.proofs.Sections.{Nodes, nodes-after, NodeIs, node-is}
@@ -82,14 +82,19 @@ single k t x z s = node-is (k + 1 - 1) t x z (moved (omega arith) s)
 record Halves {X : Type 0} (w : List ℕ) (read : ℕ → X) (k : ℕ) (a b : X) : Type 0 where
   left : read (k - 1 - sizeAt w (k - 1)) ≡ a
   right : read (k - 1) ≡ b
+  counted : countsTwo w k ≡ true
 
 halves : {X : Type 0} {a b : X} (w : List ℕ) (read : ℕ → X) (k m n : ℕ) → 1 ≤ m → 1 ≤ n → read (k + m - 1) ≡ a → read (k + m + n - 1) ≡ b
-    → sizeAt w (k + m + n - 1) ≡ n → Halves w read (k + (m + n + 1) - 1) a b
-halves w read k m n p q x y z =
-    let size : sizeAt w (k + (m + n + 1) - 1 - 1) ≡ n = ap (sizeAt w) (omega arith) ∙ z in
+    → sizeAt w (k + m - 1) ≡ m → sizeAt w (k + m + n - 1) ≡ n → sizeAt w (k + (m + n + 1) - 1) ≡ m + n + 1 → Halves w read (k + (m + n + 1) - 1) a b
+unfolding countsTwo
+halves w read k m n p q x y u z v =
+    let j = k + (m + n + 1) - 1 in
+    let size : sizeAt w (j - 1) ≡ n = ap (sizeAt w) (omega arith) ∙ z in
+    let before : sizeAt w (j - 1 - sizeAt w (j - 1)) ≡ m = ap (sizeAt w) (omega arith) ∙ u in
     record {
       left = ap read (omega arith) ∙ x;
       right = ap read (omega arith) ∙ y;
+      counted = eq-eqb (sizeAt w j) (suc (sizeAt w (j - 1 - sizeAt w (j - 1)) + sizeAt w (j - 1))) (omega arith);
     }
 
 -- ---- holders
@@ -117,14 +122,14 @@ module _ (w : List ℕ) where
   leaf-read f k t x z n h =
       pick-true _ _ _ (lt-ltb (kindAt w k) plusKind (omega arith)) ∙ (λ i. leafOf (n .kind i) (n .argument i))
 
-  apply-read : (f k x z : ℕ) (o : Operator) {a b : Expression} → NodeIs w k (operatorKind o) x z → 1 ≤ k
+  apply-read : (f k x z : ℕ) (o : Operator) {a b : Expression} → NodeIs w k (operatorKind o) x z → countsTwo w k ≡ true
       → expressionWithin f w (k - 1 - sizeAt w (k - 1)) ≡ a → expressionWithin f w (k - 1) ≡ b → expressionWithin (suc f) w k ≡ apply o a b
   unfolding expressionWithin
   apply-read f k x z o n h l r =
       let q = operator-range o in
       pick-false _ _ _ (le-ltb (kindAt w k) plusKind (omega arith))
       ∙ pick-true _ _ _ (le-leb (kindAt w k) overKind (omega arith))
-      ∙ pick-false _ _ _ (ne-eqb k 0 (omega arith))
+      ∙ pick-true _ _ _ h
       ∙ (λ i. apply ((ap operatorOf (n .kind) ∙ operator-back o) i) (l i) (r i))
 
   pub expression-size : (e : Expression) (k : ℕ) → Nodes w k (expressionNodes e) → sizeAt w (k + expressionSize e - 1) ≡ expressionSize e
@@ -168,8 +173,8 @@ module _ (w : List ℕ) where
         halves w (expressionWithin f w) k m n (expression-some a) (expression-some b)
         (expression-within a k f (omega arith) (both-left (expressionIn c a) (expressionIn c b) h) (p .first))
         (expression-within b (k + m) f (omega arith) (both-right (expressionIn c a) (expressionIn c b) h) (p .second))
-        (expression-size b (k + m) (p .second)) in
-        apply-read f (k + (m + n + 1) - 1) 0 (m + n + 1) o (p .last) (omega (arith, expression-some a)) (q .left) (q .right)
+        (expression-size a k (p .first)) (expression-size b (k + m) (p .second)) (p .last .size) in
+        apply-read f (k + (m + n + 1) - 1) 0 (m + n + 1) o (p .last) (q .counted) (q .left) (q .right)
     expression-within brokenExpression k (suc f) l h s = true-false (sym h)
 
     pub expression-read : (e : Expression) (k : ℕ) → expressionIn c e ≡ true → Nodes w k (expressionNodes e)
@@ -202,48 +207,48 @@ module _ (w : List ℕ) where
   truth-read f k x z false n =
       pick-false _ _ _ (ne-eqb (kindAt w k) trueKind (omega arith)) ∙ pick-true _ _ _ (eq-eqb (kindAt w k) falseKind (n .kind))
 
-  negation-read : (f k x z : ℕ) {a : Condition} → NodeIs w k notKind x z → 1 ≤ k → conditionWithin f w (k - 1) ≡ a
+  negation-read : (f k x z : ℕ) {a : Condition} → NodeIs w k notKind x z → countsOne w k ≡ true → conditionWithin f w (k - 1) ≡ a
       → conditionWithin (suc f) w k ≡ negation a
   unfolding conditionWithin
   negation-read f k x z n h r =
       pick-false _ _ _ (ne-eqb (kindAt w k) trueKind (omega arith))
       ∙ pick-false _ _ _ (ne-eqb (kindAt w k) falseKind (omega arith))
-      ∙ pick-false _ _ _ (ne-eqb k 0 (omega arith))
       ∙ pick-true _ _ _ (eq-eqb (kindAt w k) notKind (n .kind))
+      ∙ pick-true _ _ _ h
       ∙ ap negation r
 
-  both-read : (f k x z : ℕ) {a b : Condition} → NodeIs w k andKind x z → 1 ≤ k
+  both-read : (f k x z : ℕ) {a b : Condition} → NodeIs w k andKind x z → countsTwo w k ≡ true
       → conditionWithin f w (k - 1 - sizeAt w (k - 1)) ≡ a → conditionWithin f w (k - 1) ≡ b → conditionWithin (suc f) w k ≡ both a b
   unfolding conditionWithin
   both-read f k x z n h l r =
       pick-false _ _ _ (ne-eqb (kindAt w k) trueKind (omega arith))
       ∙ pick-false _ _ _ (ne-eqb (kindAt w k) falseKind (omega arith))
-      ∙ pick-false _ _ _ (ne-eqb k 0 (omega arith))
       ∙ pick-false _ _ _ (ne-eqb (kindAt w k) notKind (omega arith))
+      ∙ pick-true _ _ _ h
       ∙ pick-true _ _ _ (eq-eqb (kindAt w k) andKind (n .kind))
       ∙ (λ i. both (l i) (r i))
 
-  either-read : (f k x z : ℕ) {a b : Condition} → NodeIs w k orKind x z → 1 ≤ k
+  either-read : (f k x z : ℕ) {a b : Condition} → NodeIs w k orKind x z → countsTwo w k ≡ true
       → conditionWithin f w (k - 1 - sizeAt w (k - 1)) ≡ a → conditionWithin f w (k - 1) ≡ b → conditionWithin (suc f) w k ≡ either a b
   unfolding conditionWithin
   either-read f k x z n h l r =
       pick-false _ _ _ (ne-eqb (kindAt w k) trueKind (omega arith))
       ∙ pick-false _ _ _ (ne-eqb (kindAt w k) falseKind (omega arith))
-      ∙ pick-false _ _ _ (ne-eqb k 0 (omega arith))
       ∙ pick-false _ _ _ (ne-eqb (kindAt w k) notKind (omega arith))
+      ∙ pick-true _ _ _ h
       ∙ pick-false _ _ _ (ne-eqb (kindAt w k) andKind (omega arith))
       ∙ pick-true _ _ _ (eq-eqb (kindAt w k) orKind (n .kind))
       ∙ (λ i. either (l i) (r i))
 
-  compare-read : (f k x z : ℕ) (o : Comparison) {a b : Expression} → NodeIs w k (comparisonKind o) x z → 1 ≤ k
+  compare-read : (f k x z : ℕ) (o : Comparison) {a b : Expression} → NodeIs w k (comparisonKind o) x z → countsTwo w k ≡ true
       → expressionAt w (k - 1 - sizeAt w (k - 1)) ≡ a → expressionAt w (k - 1) ≡ b → conditionWithin (suc f) w k ≡ compare o a b
   unfolding conditionWithin
   compare-read f k x z o n h l r =
       let q = comparison-range o in
       pick-false _ _ _ (ne-eqb (kindAt w k) trueKind (omega arith))
       ∙ pick-false _ _ _ (ne-eqb (kindAt w k) falseKind (omega arith))
-      ∙ pick-false _ _ _ (ne-eqb k 0 (omega arith))
       ∙ pick-false _ _ _ (ne-eqb (kindAt w k) notKind (omega arith))
+      ∙ pick-true _ _ _ h
       ∙ pick-false _ _ _ (ne-eqb (kindAt w k) andKind (omega arith))
       ∙ pick-false _ _ _ (ne-eqb (kindAt w k) orKind (omega arith))
       ∙ pick-false _ _ _ (le-ltb (kindAt w k) equalKind (omega arith))
@@ -253,7 +258,7 @@ module _ (w : List ℕ) where
   module _ (c : Scope) (few : c .strings ≤ maxStrings) where
     pub condition-within : (t : Condition) (k f : ℕ) → conditionSize t ≤ f → conditionIn c t ≡ true → Nodes w k (conditionNodes t)
         → conditionWithin f w (k + conditionSize t - 1) ≡ t
-    unfolding conditionNodes conditionSize conditionIn
+    unfolding conditionNodes conditionSize conditionIn countsOne
     condition-within t k zero l h s = absurd (omega (arith, condition-some t))
     condition-within (truth t) k (suc f) l h s = truth-read f (k + 1 - 1) 0 1 t (single k (truthKind t) 0 1 s)
     condition-within (compare o a b) k (suc f) l h s =
@@ -264,8 +269,8 @@ module _ (w : List ℕ) where
         halves w (expressionAt w) k m n (expression-some a) (expression-some b)
         (expression-read c few a k (both-left (expressionIn c a) (expressionIn c b) h) (p .first))
         (expression-read c few b (k + m) (both-right (expressionIn c a) (expressionIn c b) h) (p .second))
-        (expression-size b (k + m) (p .second)) in
-        compare-read f (k + (m + n + 1) - 1) 0 (m + n + 1) o (p .last) (omega (arith, expression-some a)) (q .left) (q .right)
+        (expression-size a k (p .first)) (expression-size b (k + m) (p .second)) (p .last .size) in
+        compare-read f (k + (m + n + 1) - 1) 0 (m + n + 1) o (p .last) (q .counted) (q .left) (q .right)
     condition-within (negation a) k (suc f) l h s =
         let m = conditionSize a in
         let ma = condition-some a in
@@ -274,7 +279,10 @@ module _ (w : List ℕ) where
         let part : conditionWithin f w (k + (m + 1) - 1 - 1) ≡ a =
         ap (conditionWithin f w) (omega arith)
         ∙ condition-within a k f (omega arith) h (first-part (conditionNodes a) (notKind ∷ 0 ∷ (m + 1) ∷ []) s) in
-        negation-read f (k + (m + 1) - 1) 0 (m + 1) n (omega arith) part
+        let below : sizeAt w (k + (m + 1) - 1 - 1) ≡ m =
+        ap (sizeAt w) (omega arith) ∙ condition-size a k (first-part (conditionNodes a) (notKind ∷ 0 ∷ (m + 1) ∷ []) s) in
+        negation-read f (k + (m + 1) - 1) 0 (m + 1) n
+        (eq-eqb (sizeAt w (k + (m + 1) - 1)) (suc (sizeAt w (k + (m + 1) - 1 - 1))) (omega (arith, n .size))) part
     condition-within (both a b) k (suc f) l h s =
         let m = conditionSize a in
         let n = conditionSize b in
@@ -283,8 +291,8 @@ module _ (w : List ℕ) where
         halves w (conditionWithin f w) k m n (condition-some a) (condition-some b)
         (condition-within a k f (omega arith) (both-left (conditionIn c a) (conditionIn c b) h) (p .first))
         (condition-within b (k + m) f (omega arith) (both-right (conditionIn c a) (conditionIn c b) h) (p .second))
-        (condition-size b (k + m) (p .second)) in
-        both-read f (k + (m + n + 1) - 1) 0 (m + n + 1) (p .last) (omega (arith, condition-some a)) (q .left) (q .right)
+        (condition-size a k (p .first)) (condition-size b (k + m) (p .second)) (p .last .size) in
+        both-read f (k + (m + n + 1) - 1) 0 (m + n + 1) (p .last) (q .counted) (q .left) (q .right)
     condition-within (either a b) k (suc f) l h s =
         let m = conditionSize a in
         let n = conditionSize b in
@@ -293,8 +301,8 @@ module _ (w : List ℕ) where
         halves w (conditionWithin f w) k m n (condition-some a) (condition-some b)
         (condition-within a k f (omega arith) (both-left (conditionIn c a) (conditionIn c b) h) (p .first))
         (condition-within b (k + m) f (omega arith) (both-right (conditionIn c a) (conditionIn c b) h) (p .second))
-        (condition-size b (k + m) (p .second)) in
-        either-read f (k + (m + n + 1) - 1) 0 (m + n + 1) (p .last) (omega (arith, condition-some a)) (q .left) (q .right)
+        (condition-size a k (p .first)) (condition-size b (k + m) (p .second)) (p .last .size) in
+        either-read f (k + (m + n + 1) - 1) 0 (m + n + 1) (p .last) (q .counted) (q .left) (q .right)
     condition-within brokenCondition k (suc f) l h s = true-false (sym h)
 
     pub condition-read : (t : Condition) (k : ℕ) → conditionIn c t ≡ true → Nodes w k (conditionNodes t)
@@ -448,16 +456,15 @@ module _ (w : List ℕ) where
         (moved (omega arith) (first-part (holderNode j) (node partyKind x 1) q))
         (node-is (p + 3 - 1 - 1) partyKind x 1 (moved (omega arith) (nodes-after p (holderNode j) (node partyKind x 1) 1 (length-holder j) q))))
 
-    none-read : (f k : ℕ) → blockWithin f w k (k + 0) ≡ none
+    none-read : (f k : ℕ) → blockWithin (suc f) w k (k + 0) ≡ none
     unfolding blockWithin
-    none-read zero k = refl
-    none-read (suc f) k = pick-true _ _ _ (le-leb (k + 0) k (omega arith))
+    none-read f k = pick-true _ _ _ (le-leb (k + 0) k (omega arith)) ∙ pick-true _ _ _ (eq-eqb (k + 0) k (omega arith))
 
-    pub block-within : (b : Block) (k f : ℕ) → blockSize b ≤ f → blockIn c b ≡ true → Nodes w k (blockNodes b)
+    pub block-within : (b : Block) (k f : ℕ) → blockSize b < f → blockIn c b ≡ true → Nodes w k (blockNodes b)
         → blockWithin f w k (k + blockSize b) ≡ b
     unfolding blockNodes blockSize blockIn
-    block-within none k f l h s = none-read f k
-    block-within (perform b a) k zero l h s = absurd (omega (arith, action-some a))
+    block-within b k zero l h s = absurd (omega arith)
+    block-within none k (suc f) l h s = none-read f k
     block-within (perform b a) k (suc f) l h s =
         let m = blockSize b in
         let z = m + actionSize a in
@@ -466,7 +473,6 @@ module _ (w : List ℕ) where
         ∙ action-step a b f k (k + m) z (omega arith) (both-right (blockIn c b) (actionIn c a) h)
         (nodes-after k (blockNodes b) rest m (length-block b) s)
         (block-within b k f (omega (arith, action-some a)) (both-left (blockIn c b) (actionIn c a) h) (first-part (blockNodes b) rest s))
-    block-within (conditional b t d) k zero l h s = absurd (omega arith)
     block-within (conditional b t d) k (suc f) l h s =
         let m = blockSize b in
         let n = conditionSize t in
@@ -487,10 +493,10 @@ module _ (w : List ℕ) where
         (ap (λ (j : ℕ). blockWithin f w j (end - 1)) (omega arith)
         ∙ ap (blockWithin f w (k + m + n)) (omega arith)
         ∙ block-within d (k + m + n) f (omega arith) (both-right (conditionIn c t) (blockIn c d) right) (p .second))
-    block-within brokenBlock k f l h s = true-false (sym h)
+    block-within brokenBlock k (suc f) l h s = true-false (sym h)
 
     pub block-read : (b : Block) (k : ℕ) → blockIn c b ≡ true → Nodes w k (blockNodes b) → blockBetween w k (k + blockSize b) ≡ b
-    block-read b k h s = block-within b k (k + blockSize b) (omega arith) h s
+    block-read b k h s = block-within b k (suc (k + blockSize b)) (omega arith) h s
 
     pub precondition-read : (p : Precondition) (k : ℕ) → preconditionIn c p ≡ true → Nodes w k (preconditionNodes p)
         → preconditionAt w k (preconditionSize p) ≡ p

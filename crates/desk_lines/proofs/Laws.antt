@@ -1,20 +1,23 @@
--- Bytes that come to the front, and the numbers of what assets hold. Assumes nothing.
+-- Bytes that come to the front, the question of a report, and the numbers of what assets hold. Assumes nothing.
 use mathlib.Core.Path.{_≡_, refl, sym, ap, _∙_}
-use mathlib.Core.Bool.{Bool, true, false}
+use mathlib.Core.Bool.{Bool, true, false, _||_}
 use mathlib.Core.List.{List, [], _∷_}
 use Prim.Native.Nat.{ℕ, suc, _+_, _*_, _-_, _<_, _≤_, min}
 use native.Mathlib.Numerals.{add-one}
 use native.Mathlib.Omega.{arith}
-use borrow.Author.Tests.{leb-true}
-use lib.Dec.{leb}
-use lib.ListN.{length, take, drop, getD, set, length-set, length-take, length-drop, drop-of-length-le}
+use borrow.Author.Tests.{leb-true, eqb-true, lt-ltb, le-ltb}
+use lib.Dec.{eqb, ltb, leb}
+use lib.IntN.{ℤ, pos}
+use lib.ListN.{length, take, drop, getD, set, length-set, length-take, length-drop, drop-of-length-le, List·getD-eq-default}
 use lib.Seq.{sets, length-sets, drop-cons, getD-take, getD-drop, drop-drop, drop-set-lt, take-nil}
 use Rattle.laws.specs.Choice.{pick}
 use Rattle.tokens.specs.Tokens.{between}
-use Rattle.results.specs.Coded.{coded, codedAll}
+use Rattle.laws.proofs.Choice.{by-cases, true-false}
+use Rattle.laws.proofs.Truths.{first-true, second-true, either-true}
+use Rattle.results.specs.Coded.{coded, codedAll, reportFrom}
 use Rattle.results.specs.declared.Report.{Report}
 use Rattle.results.specs.declared.Report.the-variants.{Held}
-use Rattle.desk_lines.specs.Blocks.{maxKept, kept, heldFrom}
+use Rattle.desk_lines.specs.Blocks.{maxKept, kept, questionOf, questionAt, heldFrom}
 use Rattle.desk_lines.specs.Private.{keptOf}
 
 -- ---- what is kept
@@ -137,3 +140,43 @@ holds-all {old} {assets} {new} {n} {i} b m e h =
       h ∙ sym (held-length 0 (take n assets) ∙ length-take n assets),
       ap (λ (l : List ℕ). sets new (4 * i) (codedAll (heldFrom i l))) (sym (drop-of-length-le (take n assets) none)) ∙ b .rest,
     )
+
+-- ---- the question of a report
+
+module _ (which a b c : ℕ) (z : ℤ) where
+  pub question-told : a < 256 → (eqb which 4 || eqb which 5) ≡ true → a ≡ questionOf (reportFrom which a b c z)
+  unfolding questionOf reportFrom pick
+  question-told h e =
+      either-true (eqb which 4) (eqb which 5) e
+      (λ f. rw (eqb-true which 4 f, lt-ltb a 256 h))
+      (λ f. rw (eqb-true which 5 f, lt-ltb a 256 h))
+
+  pub question-large : 256 ≤ a → 0 ≡ questionOf (reportFrom which a b c z)
+  unfolding questionOf reportFrom pick
+  question-large h = rw (le-ltb a 256 h)
+
+  pub question-none : (eqb which 4 || eqb which 5) ≡ false → 0 ≡ questionOf (reportFrom which a b c z)
+  unfolding questionOf reportFrom
+  question-none e =
+      by-cases (λ r. 0 ≡ questionOf r) (ltb a 256) _ _
+      (λ _. by-cases (λ r. 0 ≡ questionOf r) (eqb which 1) _ _ (λ _. refl)
+      (λ _. by-cases (λ r. 0 ≡ questionOf r) (eqb which 2) _ _ (λ _. refl)
+      (λ _. by-cases (λ r. 0 ≡ questionOf r) (eqb which 3) _ _ (λ _. refl)
+      (λ _. by-cases (λ r. 0 ≡ questionOf r) (eqb which 4) _ _ (λ f. true-false (sym (first-true (eqb which 5) f) ∙ e))
+      (λ _. by-cases (λ r. 0 ≡ questionOf r) (eqb which 5) _ _ (λ f. true-false (sym (second-true (eqb which 4) f) ∙ e)) (λ _. refl))))))
+      (λ _. refl)
+
+-- of the numbers in a row
+module _ (ns : List ℕ) (i : ℕ) where
+  pub question-past : length ns < i → 0 ≡ questionAt ns i
+  unfolding questionAt
+  question-past h =
+      let beyond : length ns ≤ 4 * i = omega arith in
+      let e : 0 ≡ getD ns (4 * i) 0 = sym (List·getD-eq-default ns 0 beyond) in
+      question-none _ _ _ _ _ (ap (λ (w : ℕ). eqb w 4 || eqb w 5) (sym e))
+
+  -- the first two are those read
+  pub question-read : {which a q : ℕ} → which ≡ getD ns (4 * i) 0 → a ≡ getD ns (4 * i + 1) 0 → ((b c : ℕ) (z : ℤ) → q ≡ questionOf (reportFrom which a b c z))
+      → q ≡ questionAt ns i
+  unfolding questionAt
+  question-read e f g = g _ _ _ ∙ (λ k. questionOf (reportFrom (e k) (f k) (getD ns (4 * i + 2) 0) (getD ns (4 * i + 3) 0) (pos 0)))

@@ -1,12 +1,12 @@
-// What the desk does with bytes and numbers: a session's bytes as they are read in blocks, its last line, and what each asset holds at
-// the end.
+// What the desk does with bytes and numbers: a session's bytes as they are read in blocks, its last line, the question of a result line,
+// and what each asset holds at the end.
 ghost use mathlib.Core.Path.{_≡_};
 ghost use Prim.Native.Nat.{_+_, _*_, _<_, min};
 ghost use lib.ListN.{length, set};
 ghost use lib.Seq.{sets};
 ghost use Rattle.results.specs.Coded.{coded, codedAll};
 ghost use Rattle.results.specs.declared.Report.the-variants.{Held};
-ghost use Rattle.desk_lines.specs.Blocks.{kept, closedSize, closed, holdings};
+ghost use Rattle.desk_lines.specs.Blocks.{kept, closedSize, closed, questionAt, holdings};
 ghost use Rattle.desk_lines.specs.Private.{keptOf};
 use state::State;
 
@@ -66,6 +66,24 @@ pub fn close(bytes: &mut [u8], size: usize) -> usize
     if size < bytes.len() {
         bytes[size] = b'\n';
         return size + 1;
+    }
+    0
+}
+
+// The question of report i of those in a row: the one that refused a line, or that a failed firing met; else 0.
+pub fn question_of(numbers: &[u64], i: usize) -> u8
+    ensures { λ r. ⌜ r ≡ questionAt (now (numbers .entry)) i ⌝ }
+{
+    if numbers.len() < i {
+        return 0;
+    }
+    let at = 4 * i;
+    let which = contract::word(numbers, at);
+    let question = contract::word(numbers, at + 1);
+    if question < 256 {
+        if (which == 4) | (which == 5) {
+            return question as u8;
+        }
     }
     0
 }

@@ -1,4 +1,3 @@
-pub mod Fuel
 pub mod Values
 pub mod Truths
 pub mod Refusals

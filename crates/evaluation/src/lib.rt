@@ -1,19 +1,20 @@
 // Works out expressions and conditions by recursion on their parts, which stand before the whole in a table.
 ghost use mathlib.Core.Path.{_≡_};
 ghost use mathlib.Core.Bool.{false, _&&_, _||_};
-ghost use Prim.Native.Nat.{_+_, _-_};
+ghost use Prim.Native.Nat.{suc, _+_, _<_};
 ghost use lib.Dec.{eqb, leb, ltb};
 ghost use lib.IntN.{pos};
 ghost use lib.ListN.{getD};
 ghost use Rattle.laws.specs.Choice.{pick};
 ghost use Rattle.numbers.specs.Numbers.{inRange};
 ghost use Rattle.contract.specs.Limits.{top, maxAssets, maxStrings};
-ghost use Rattle.contract.specs.Table.{sizeAt, andKind};
+ghost use Rattle.contract.specs.Table.{andKind};
 ghost use Rattle.contract.specs.Decode.{operatorOf, comparisonOf, leafOf, expressionAt, conditionAt};
 ghost use Rattle.evaluation.specs.Memory.{memoryOf};
 ghost use Rattle.evaluation.specs.Meaning.{refusalOf, fieldValue, valueOf, truthOf};
-ghost use Rattle.evaluation.specs.Private.{comparedAt, simpleAt, runFrom, turnedBy};
+ghost use Rattle.evaluation.specs.Private.{leftFrom, comparedAt, simpleAt, negatesAt, runFrom, turnedBy};
 use contract::Contract;
+use contract::Function;
 use contract::Node;
 use numbers::Answer;
 use numbers::Comparison;
@@ -21,6 +22,13 @@ use numbers::Operator;
 use numbers::Truth;
 use numbers::Value;
 use tokens::Token;
+
+// The amounts that expressions read: those of the assets, then those of the asset parameters.
+pub struct Holdings {}
+
+impl Holdings {
+    pub const MOST: usize = Contract::ASSETS + Function::PARAMETERS;
+}
 
 // `~`s in a row: the node below them, and whether their number is odd.
 struct Run {
@@ -127,10 +135,10 @@ fn parameter_amount(holdings: &[u64], i: usize) -> u64
 
 // An expression of no parts.
 fn leaf(
-    kinds: &[u8; 32],
-    numbers: &[i64; 32],
-    texts: &[u8; 32],
-    holdings: &[u64; 20],
+    kinds: &[u8; Contract::FIELDS],
+    numbers: &[i64; Contract::FIELDS],
+    texts: &[u8; Contract::FIELDS],
+    holdings: &[u64; Holdings::MOST],
     values: &[i64],
     clock: u64,
     kind: u64,
@@ -151,22 +159,39 @@ fn leaf(
     }
 }
 
-// Where the left part ends, of a node whose right part ends at node `last`.
-fn left_of(table: &[u64], last: usize) -> usize
-    ensures { λ r. ⌜ r ≡ last - sizeAt (now (table .entry)) last ⌝ }
+// Whether a node of this size counts itself and parts of two sizes, 0 for a part that it doesn't have.
+fn counts(size: usize, left: usize, right: usize) -> bool
+    ensures { λ r. ⌜ r ≡ eqb size (suc (left + right)) ⌝ }
 {
-    let node = contract::node_at(table, last);
-    let size = node.size;
-    if size < last { last - size } else { 0 }
+    if size <= right {
+        return false;
+    }
+    size - right - 1 == left
+}
+
+// Where the left part of node k ends, or k where the node, of this size, doesn't count itself and two parts.
+fn left_of(table: &[u64], k: usize, size: usize) -> usize
+    ensures { λ r. ⌜ r ≡ leftFrom (now (table .entry)) k size ⌝ }
+{
+    if k == 0 {
+        return k;
+    }
+    let last = k - 1;
+    let right = contract::node_at(table, last).size;
+    let left = if right < last { last - right } else { 0 };
+    if counts(size, contract::node_at(table, left).size, right) {
+        return left;
+    }
+    k
 }
 
 // The expression at node k.
 pub fn value(
     table: &[u64],
-    kinds: &[u8; 32],
-    numbers: &[i64; 32],
-    texts: &[u8; 32],
-    holdings: &[u64; 20],
+    kinds: &[u8; Contract::FIELDS],
+    numbers: &[i64; Contract::FIELDS],
+    texts: &[u8; Contract::FIELDS],
+    holdings: &[u64; Holdings::MOST],
     values: &[i64],
     clock: u64,
     k: usize,
@@ -182,11 +207,11 @@ pub fn value(
     if Node::OVER < kind {
         return Answer::Refused(questions::TABLE_CHECK);
     }
-    if k == 0 {
+    let left = left_of(table, k, node.size);
+    if k <= left {
         return Answer::Refused(questions::TABLE_CHECK);
     }
     let last = k - 1;
-    let left = left_of(table, last);
     let first = value(table, kinds, numbers, texts, holdings, values, clock, left);
     let Answer::Is(a) = first else {
         return first;
@@ -201,21 +226,22 @@ pub fn value(
 // A comparison at node k.
 fn compared_at(
     table: &[u64],
-    kinds: &[u8; 32],
-    numbers: &[i64; 32],
-    texts: &[u8; 32],
-    holdings: &[u64; 20],
+    kinds: &[u8; Contract::FIELDS],
+    numbers: &[i64; Contract::FIELDS],
+    texts: &[u8; Contract::FIELDS],
+    holdings: &[u64; Holdings::MOST],
     values: &[i64],
     clock: u64,
     k: usize,
 ) -> Truth
     ensures { λ r. ⌜ r ≡ comparedAt (memoryOf (now (kinds .entry)) (now (numbers .entry)) (now (texts .entry)) (now (holdings .entry)) (now (values .entry)) clock) (now (table .entry)) k ⌝ }
 {
-    if k == 0 {
+    let node = contract::node_at(table, k);
+    let left = left_of(table, k, node.size);
+    if k <= left {
         return Truth::Refused(questions::TABLE_CHECK);
     }
     let last = k - 1;
-    let left = left_of(table, last);
     let x = value(table, kinds, numbers, texts, holdings, values, clock, left);
     let Answer::Is(a) = x else {
         return Truth::Refused(refusal(x));
@@ -224,17 +250,16 @@ fn compared_at(
     let Answer::Is(b) = y else {
         return Truth::Refused(refusal(y));
     };
-    let node = contract::node_at(table, k);
     numbers::compare(comparison_of(node.kind), a, b)
 }
 
-// A condition without conditions in it: true, false or a comparison at node k.
+// A condition without conditions in it, true, false or a comparison, at node k; any other is refused.
 fn simple(
     table: &[u64],
-    kinds: &[u8; 32],
-    numbers: &[i64; 32],
-    texts: &[u8; 32],
-    holdings: &[u64; 20],
+    kinds: &[u8; Contract::FIELDS],
+    numbers: &[i64; Contract::FIELDS],
+    texts: &[u8; Contract::FIELDS],
+    holdings: &[u64; Holdings::MOST],
     values: &[i64],
     clock: u64,
     k: usize,
@@ -258,15 +283,26 @@ fn simple(
     compared_at(table, kinds, numbers, texts, holdings, values, clock, k)
 }
 
-// The node below the `~`s that stand in a row at node k, and whether their number is odd.
+// Whether node k is `~` and counts itself and its part.
+fn negates(table: &[u64], k: usize) -> bool
+    requires { ⌜ 0 < k ⌝ }
+    ensures { λ r. ⌜ r ≡ negatesAt (now (table .entry)) k ⌝ }
+{
+    let node = contract::node_at(table, k);
+    if node.kind != Node::NOT {
+        return false;
+    }
+    counts(node.size, 0, contract::node_at(table, k - 1).size)
+}
+
+// The node below the `~`s that stand in a row at node k, each counting its part, and whether their number is odd.
 fn run_at(table: &[u64], k: usize) -> Run
     ensures { λ r. ⌜ r ≡ runFrom (now (table .entry)) k false ⌝ }
 {
     let mut end = k;
     let mut odd = false;
     while 0 < end {
-        let node = contract::node_at(table, end);
-        if node.kind == Node::NOT {
+        if negates(table, end) {
             end -= 1;
             odd = !odd;
         } else {
@@ -302,10 +338,10 @@ fn both(kind: u64, a: bool, b: bool) -> bool
 // The condition at node k. Runs of `~` are counted, so that only `&&` and `||` call on.
 pub fn truth(
     table: &[u64],
-    kinds: &[u8; 32],
-    numbers: &[i64; 32],
-    texts: &[u8; 32],
-    holdings: &[u64; 20],
+    kinds: &[u8; Contract::FIELDS],
+    numbers: &[i64; Contract::FIELDS],
+    texts: &[u8; Contract::FIELDS],
+    holdings: &[u64; Holdings::MOST],
     values: &[i64],
     clock: u64,
     k: usize,
@@ -316,18 +352,18 @@ pub fn truth(
     let end = run.end;
     let node = contract::node_at(table, end);
     let kind = node.kind;
-    if kind < Node::NOT {
+    if kind < Node::AND {
         let whole = simple(table, kinds, numbers, texts, holdings, values, clock, end);
         return turned(run.odd, whole);
     }
     if Node::OR < kind {
         return Truth::Refused(questions::TABLE_CHECK);
     }
-    if end == 0 {
+    let left = left_of(table, end, node.size);
+    if end <= left {
         return Truth::Refused(questions::TABLE_CHECK);
     }
     let last = end - 1;
-    let left = left_of(table, last);
     let one = truth(table, kinds, numbers, texts, holdings, values, clock, left);
     let Truth::Holds(a) = one else {
         return one;

@@ -10,8 +10,10 @@ use native.Mathlib.Nat.{add-zero}
 use lib.ListN.{length, getD, drop, length-drop}
 use lib.Seq.{getD-drop, drop-drop}
 use lib.Dec.{eqb}
+use lib.IntN.{pos}
+use lib.Signed.{leZ}
 use borrow.Author.Tests.{ltb-true, leb-true, eqb-true, eqb-false}
-use Rattle.laws.proofs.Choice.{by-cases}
+use Rattle.laws.proofs.Choice.{by-cases, pick-true, pick-false}
 use Rattle.numbers.specs.declared.Truth.{Truth}
 use Rattle.numbers.specs.declared.Truth.the-variants as truth
 use Rattle.contract.specs.Limits.{top, maxAssets}
@@ -24,7 +26,7 @@ use Rattle.state.specs.declared.State.{State}
 use Rattle.state.specs.declared.Pending.{Pending}
 use Rattle.state.specs.declared.Due.{Due}
 use Rattle.state.specs.declared.Due.the-variants as due
-use Rattle.state.specs.States.{blank, noFunction, eventOf, live, stateOk, dueIn, lapsed, removed, maxPending}
+use Rattle.state.specs.States.{blank, noFunction, eventOf, live, stateOk, dueIn, removed, maxPending, opened, timePassed}
 use Rattle.statements.specs.declared.Work.{Work}
 use Rattle.statements.specs.Running.{memoryIn, ran}
 use Rattle.outcomes.specs.declared.Rule.the-variants.{Agree, Call, EventMatch, Tick}
@@ -32,9 +34,9 @@ use Rattle.outcomes.specs.declared.Outcome.the-variants.{Accepted, Failed, Refu
 use Rattle.outcomes.specs.declared.Stepped.{Stepped}
 use Rattle.outcomes.specs.Outcomes.{answered, refused}
 use Rattle.holdings.specs.Holdings.{amounts}
-use Rattle.machine.specs.Steps.{accepted, begun, ended, Invocation, Chosen, chosen, answersTo, choose, preconditionHolds, Scheduled, times, no, schedule, withScheduled, finished, byPrecondition, invoked, byChosen, callByDue, called, handled, fireByDue, fired, later, tickByDue, ticked, step}
-use Rattle.agreements.specs.Agreement.{Part, setClauses, opened, agreedOn}
-use Rattle.history.specs.Histories.{Request, agreement, call, firing, tick, Step, requested, answerTo}
+use Rattle.machine.specs.Steps.{accepted, begun, ended, Invocation, Chosen, chosen, answersTo, choose, preconditionHolds, Scheduled, times, no, schedule, withScheduled, finished, byPrecondition, invoked, byChosen, callByDue, called, handled, fireByDue, fired, tickByDue, ticked, step, Request, agreement, call, firing, tick, requested, roomNeeded}
+use Rattle.agreements.specs.Agreement.{Part, setClauses, agreedOn}
+use Rattle.history.specs.Histories.{Step, answerTo}
 
 -- the work of a call's body, and of the handler of an event
 abbrev pub bodyRan : State → Invocation → Function → Work
@@ -50,11 +52,13 @@ handlerRan c s k = ran [] (s .clock) (begun s []) (eventAt c s k .handler)
 pub record CallOk (c : Contract) (s : State) (i : Invocation) (n : ℕ) (f : Function) (ps : List Pending) : Type 0 where
   pub agreed : s .agreed ≡ true
   pub nothing-due : dueIn c s ≡ due.Nothing
-  -- the function is the contract's n-th
+  -- the function that is called is the contract's n-th
+  pub runs : choose c s i 0 (c .functions) ≡ chosen n f
   pub known : n < length (c .functions)
   pub function-is : getD (c .functions) n noFunction ≡ f
   pub values : length (i .values) ≡ f .values
   pub assets : length (i .assets) ≡ f .parameters
+  pub deposits : every (leZ (pos 0)) (i .assets) ≡ true
   pub went : bodyRan s i f .refusal ≡ 0
   pub spent : every (λ a. eqb a 0) (drop maxAssets (bodyRan s i f .holdings)) ≡ true
   pub given : schedule (memoryIn (i .values) (s .clock) (bodyRan s i f)) (s .clock) n 0 (f .events) ≡ times ps
@@ -62,14 +66,14 @@ pub record CallOk (c : Contract) (s : State) (i : Invocation) (n : ℕ) (f : Fun
 
 pub data ComesOut (c : Contract) (s : State) : Request → Stepped → Type 0 where
   refusal : {q : Request} (n : ℕ) → ComesOut c s q (refused s n)
-  agrees : (ps : List Part) → s .agreed ≡ false → ComesOut c s (agreement ps) (answered (Accepted Agree) (opened c (setClauses s (c .clauses) ps)))
+  agrees : (ps : List Part) → s .agreed ≡ false → ComesOut c s (agreement ps) (answered (Accepted Agree) (opened (setClauses s (c .clauses) ps) (c .initial)))
   calls : (i : Invocation) (n : ℕ) (f : Function) (ps : List Pending) → CallOk c s i n f ps
       → ComesOut c s (call i) (accepted Call (ended s (bodyRan s i f) (f .last) (live s ++ ps)) (bodyRan s i f))
   fires : (k : ℕ) → s .agreed ≡ true → dueIn c s ≡ due.At k → handlerRan c s k .refusal ≡ 0
       → ComesOut c s firing (accepted EventMatch (ended s (handlerRan c s k) (eventAt c s k .last) (live (removed s k))) (handlerRan c s k))
   fails : (k : ℕ) → s .agreed ≡ true → dueIn c s ≡ due.At k → (handlerRan c s k .refusal ≡ 0 → ⊥)
       → ComesOut c s firing (answered (Failed (handlerRan c s k .refusal)) (removed s k))
-  ticks : s .agreed ≡ true → dueIn c s ≡ due.Nothing → s .clock < top → ComesOut c s tick (answered (Accepted Tick) (later (lapsed s)))
+  ticks : s .agreed ≡ true → dueIn c s ≡ due.Nothing → s .clock < top → ComesOut c s tick (answered (Accepted Tick) (timePassed s))
 
 -- ---- what is left of a list from n on
 
@@ -93,11 +97,11 @@ agreement-came c s ps =
     (λ _. refusal 23)
 
 module _ (c : Contract) (s : State) (i : Invocation) (e : s .agreed ≡ true) (d : dueIn c s ≡ due.Nothing) where
-  module _ (n : ℕ) (f : Function) (l : n < length (c .functions)) (g : getD (c .functions) n noFunction ≡ f)
-      (v : length (i .values) ≡ f .values) (a : length (i .assets) ≡ f .parameters) where
-    scheduled-came : bodyRan s i f .refusal ≡ 0 → every (λ a. eqb a 0) (drop maxAssets (bodyRan s i f .holdings)) ≡ true → (z : Scheduled)
-        → schedule (memoryIn (i .values) (s .clock) (bodyRan s i f)) (s .clock) n 0 (f .events) ≡ z
-        → ComesOut c s (call i) (withScheduled s (bodyRan s i f) (f .last) z)
+  module _ (n : ℕ) (f : Function) (k : choose c s i 0 (c .functions) ≡ chosen n f) (l : n < length (c .functions)) (g : getD (c .functions) n noFunction ≡ f)
+      (v : length (i .values) ≡ f .values) (a : length (i .assets) ≡ f .parameters) (z : every (leZ (pos 0)) (i .assets) ≡ true) where
+    scheduled-came : bodyRan s i f .refusal ≡ 0 → every (λ a. eqb a 0) (drop maxAssets (bodyRan s i f .holdings)) ≡ true → (x : Scheduled)
+        → schedule (memoryIn (i .values) (s .clock) (bodyRan s i f)) (s .clock) n 0 (f .events) ≡ x
+        → ComesOut c s (call i) (withScheduled s (bodyRan s i f) (f .last) x)
     scheduled-came w h (no q) t = refusal q
     scheduled-came w h (times ps) t =
         by-cases (ComesOut c s (call i)) _ _ _
@@ -105,10 +109,12 @@ module _ (c : Contract) (s : State) (i : Invocation) (e : s .agreed ≡ true) (d
         (record {
           agreed = e;
           nothing-due = d;
+          runs = k;
           known = l;
           function-is = g;
           values = v;
           assets = a;
+          deposits = z;
           went = w;
           spent = h;
           given = t;
@@ -130,26 +136,29 @@ module _ (c : Contract) (s : State) (i : Invocation) (e : s .agreed ≡ true) (d
     precondition-came (truth.Holds false) = refusal 29
     precondition-came (truth.Holds true) = finished-came
 
-  invoked-came : (n : ℕ) (f : Function) → n < length (c .functions) → getD (c .functions) n noFunction ≡ f → ComesOut c s (call i) (invoked s i n f)
+  invoked-came : (n : ℕ) (f : Function) → choose c s i 0 (c .functions) ≡ chosen n f → n < length (c .functions) → getD (c .functions) n noFunction ≡ f
+      → ComesOut c s (call i) (invoked s i n f)
   unfolding invoked
-  invoked-came n f l g =
+  invoked-came n f k l g =
       by-cases (ComesOut c s (call i)) _ _ _
       (λ v. by-cases (ComesOut c s (call i)) _ _ _
-      (λ _. precondition-came n f l g
+      (λ z. precondition-came n f k l g
       (eqb-true _ _ (both-left (eqb (length (i .values)) (f .values)) (eqb (length (i .assets)) (f .parameters)) v))
       (eqb-true _ _ (both-right (eqb (length (i .values)) (f .values)) (eqb (length (i .assets)) (f .parameters)) v))
+      z
       (preconditionHolds (memoryIn (i .values) (s .clock) (begun s (amounts (i .assets)))) (f .precondition)))
       (λ _. refusal 28))
       (λ _. refusal 27)
 
   -- the first that answers among the functions from n on
-  chosen-came : (n : ℕ) (fs : List Function) → drop n (c .functions) ≡ fs → ComesOut c s (call i) (byChosen s i (choose c (s .state) i n fs))
+  chosen-came : (n : ℕ) (fs : List Function) → drop n (c .functions) ≡ fs → choose c s i 0 (c .functions) ≡ choose c s i n fs
+      → ComesOut c s (call i) (byChosen s i (choose c s i n fs))
   unfolding choose
-  chosen-came n [] h = refusal 26
-  chosen-came n (f ∷ fs) h =
-      by-cases (λ (z : Chosen). ComesOut c s (call i) (byChosen s i z)) (answersTo c (s .state) i f) (chosen n f) (choose c (s .state) i (suc n) fs)
-      (λ _. invoked-came n f (some-left n (c .functions) h) (next-is noFunction n (c .functions) h))
-      (λ _. chosen-came (suc n) fs (rest-is n (c .functions) h))
+  chosen-came n [] h k = refusal 26
+  chosen-came n (f ∷ fs) h k =
+      by-cases (λ (z : Chosen). ComesOut c s (call i) (byChosen s i z)) (answersTo c s i f) (chosen n f) (choose c s i (suc n) fs)
+      (λ e. invoked-came n f (k ∙ pick-true _ _ _ e) (some-left n (c .functions) h) (next-is noFunction n (c .functions) h))
+      (λ e. chosen-came (suc n) fs (rest-is n (c .functions) h) (k ∙ pick-false _ _ _ e))
 
 pub call-came : (c : Contract) (s : State) (i : Invocation) → ComesOut c s (call i) (called c s i)
 unfolding called
@@ -157,7 +166,7 @@ call-came c s i = by-cases (ComesOut c s (call i)) _ _ _ (λ e. go e (dueIn c s)
   where
     go : s .agreed ≡ true → (d : Due) → dueIn c s ≡ d → ComesOut c s (call i) (callByDue c s i d)
     go e (due.At k) d = refusal 25
-    go e due.Nothing d = chosen-came c s i e d 0 (c .functions) refl
+    go e due.Nothing d = chosen-came c s i e d 0 (c .functions) refl refl
 
 pub firing-came : (c : Contract) (s : State) → ComesOut c s firing (fired c s)
 unfolding fired handled
@@ -186,16 +195,19 @@ request-came c s (call i) = call-came c s i
 request-came c s firing = firing-came c s
 request-came c s tick = tick-came c s
 
--- on a table: refused, or the table and the state were found right
-pub data Answers (w : List ℕ) (s : State) (q : Request) : Stepped → Type 0 where
-  first-refusal : (n : ℕ) → Answers w s q (refused s n)
-  by-rule : {r : Stepped} → passes w ≡ true → stateOk (contractOf w) s ≡ true → ComesOut (contractOf w) s q r → Answers w s q r
+-- on a table: refused, or the table, the state and the label slice were found right
+pub data Answers (w : List ℕ) (s : State) (a : Step) : Stepped → Type 0 where
+  first-refusal : (n : ℕ) → Answers w s a (refused s n)
+  by-rule : {r : Stepped} → passes w ≡ true → stateOk (contractOf w) s ≡ true → roomNeeded (contractOf w) ≤ length (a .slice)
+      → ComesOut (contractOf w) s (a .request) r → Answers w s a r
 
-pub answered-so : (w : List ℕ) (s : State) (a : Step) → Answers w s (a .request) (answerTo w s a)
+pub answered-so : (w : List ℕ) (s : State) (a : Step) → Answers w s a (answerTo w s a)
 unfolding answerTo step
 answered-so w s a =
-    by-cases (Answers w s (a .request)) _ _ _
-    (λ p. by-cases (Answers w s (a .request)) _ _ _
-    (λ o. by-cases (Answers w s (a .request)) _ _ _ (λ _. by-rule p o (request-came (contractOf w) s (a .request))) (λ _. first-refusal 20))
+    by-cases (Answers w s a) _ _ _
+    (λ p. by-cases (Answers w s a) _ _ _
+    (λ o. by-cases (Answers w s a) _ _ _
+    (λ h. by-rule p o (leb-true (roomNeeded (contractOf w)) (length (a .slice)) h) (request-came (contractOf w) s (a .request)))
+    (λ _. first-refusal 20))
     (λ _. first-refusal 4))
     (λ _. first-refusal 3)

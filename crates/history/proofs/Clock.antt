@@ -1,5 +1,5 @@
 -- The clock is never held up: in an agreed state before the last clock value, at most as many firings as events are pending, none of
--- them refused, leave nothing due, and a tick is accepted. Assumes nothing.
+-- them refused, leave nothing due, and a tick is accepted and takes the clock one further. Assumes nothing.
 use mathlib.Core.Path.{_≡_, refl, sym, ap, subst, _∙_}
 use mathlib.Core.Bool.{Bool, true, false}
 use mathlib.Core.List.{List, [], _∷_}
@@ -21,31 +21,32 @@ use Rattle.contract_laws.proofs.Sound.{sound}
 use Rattle.state.specs.declared.State.{State}
 use Rattle.state.specs.declared.Due.{Due}
 use Rattle.state.specs.declared.Due.the-variants as due
-use Rattle.state.specs.States.{freshAt, live, dueIn, withPending, removed}
+use Rattle.state.specs.States.{freshAt, live, dueIn, withPending, removed, lapsed, timePassed}
 use Rattle.state.proofs.Dues.{due-found}
 use Rattle.state.proofs.Each.{without-count}
 use Rattle.state.proofs.Within as state
 use Rattle.state.proofs.Within.{removed-count}
-use Rattle.statements.specs.Running.{maxLabels}
+use Rattle.statements.specs.declared.Label.{Label}
 use Rattle.outcomes.specs.declared.Rule.the-variants.{Tick}
 use Rattle.outcomes.specs.declared.Outcome.the-variants.{Accepted}
 use Rattle.outcomes.specs.declared.Stepped.{Stepped}
-use Rattle.machine.specs.Steps.{handled, fireByDue, fired, tickByDue, ticked, step}
-use Rattle.history.specs.Histories.{firing, tick, Step, requested, answerTo, answers, lastState, isRefused, firings, noneRefused, within64}
+use Rattle.outcomes.specs.Outcomes.{answered}
+use Rattle.machine.specs.Steps.{handled, fireByDue, fired, tickByDue, ticked, step, firing, tick, requested, roomNeeded}
+use Rattle.history.specs.Histories.{Step, answerTo, history, isRefused, firings, noneRefused, within64}
 use Rattle.history.specs.Demand.{Cleared, GoesOn}
 use Rattle.history.proofs.GoodState.{Good, good-ok, fresh-good, live-length}
 use Rattle.history.proofs.StepsKeepGood.{request-good, last-good}
 
 -- ---- one firing
 
-record Fired (s : State) (r : Stepped) : Type 0 where
-  not-refused : isRefused (r .outcome) ≡ false
-  agreed : r .state .agreed ≡ true
-  clock : r .state .clock ≡ s .clock
-  one-less : suc (r .state .pending) ≡ s .pending
+pub record Fired (s : State) (r : Stepped) : Type 0 where
+  pub not-refused : isRefused (r .outcome) ≡ false
+  pub agreed : r .state .agreed ≡ true
+  pub clock : r .state .clock ≡ s .clock
+  pub one-less : suc (r .state .pending) ≡ s .pending
 
 module _ {c : Contract} {s : State} (g : Good c s) (a : s .agreed ≡ true) where
-  fired-so : (k : ℕ) → dueIn c s ≡ due.At k → Fired s (fired c s)
+  pub fired-so : (k : ℕ) → dueIn c s ≡ due.At k → Fired s (fired c s)
   unfolding fired handled removed withPending
   fired-so k d =
       let h : k < length (live s) = due-found c s k d .0 in
@@ -55,9 +56,9 @@ module _ {c : Contract} {s : State} (g : Good c s) (a : s .agreed ≡ true) wher
       (λ _. record { not-refused = refl; agreed = a; clock = refl; one-less = removed-count s k h ∙ n })
       (λ _. record { not-refused = refl; agreed = a; clock = refl; one-less = without-count k (live s) h ∙ n }))
 
-  ticked-so : dueIn c s ≡ due.Nothing → s .clock < top → ticked c s .outcome ≡ Accepted Tick
+  ticked-so : dueIn c s ≡ due.Nothing → s .clock < top → ticked c s ≡ answered (Accepted Tick) (timePassed s)
   unfolding ticked
-  ticked-so d l = ap (λ (r : Stepped). r .outcome) (pick-true _ _ _ a ∙ ap (tickByDue s) d ∙ pick-true _ _ _ (lt-ltb (s .clock) top l))
+  ticked-so d l = pick-true _ _ _ a ∙ ap (tickByDue s) d ∙ pick-true _ _ _ (lt-ltb (s .clock) top l)
 
 by-due : {X : Type 0} (c : Contract) (s : State) → ((k : ℕ) → dueIn c s ≡ due.At k → X) → (dueIn c s ≡ due.Nothing → X) → X
 by-due {X} c s f g = go (dueIn c s) refl
@@ -69,40 +70,51 @@ by-due {X} c s f g = go (dueIn c s) refl
 -- ---- all that are due
 
 module _ (w : List ℕ) (p : passes w ≡ true) where
+  abbrev roomy : List Label → Bool
+  roomy l = leb (roomNeeded (contractOf w)) (length l)
+
   -- questions 3, 4 and 20 are passed
-  answered-by : {s : State} → Good (contractOf w) s → (a : Step) → maxLabels ≤ a .room → answerTo w s a ≡ requested s (a .request) (contractOf w)
+  pub answered-by : {s : State} → Good (contractOf w) s → (a : Step) → roomNeeded (contractOf w) ≤ length (a .slice) → answerTo w s a ≡ requested s (a .request) (contractOf w)
   unfolding answerTo step
-  answered-by g a h = pick-true _ _ _ p ∙ pick-true _ _ _ (good-ok g) ∙ pick-true _ _ _ (le-leb maxLabels (a .room) h)
+  answered-by g a h = pick-true _ _ _ p ∙ pick-true _ _ _ (good-ok g) ∙ pick-true _ _ _ (le-leb (roomNeeded (contractOf w)) (length (a .slice)) h)
 
   module _ {s : State} (g : Good (contractOf w) s) (a : s .agreed ≡ true) where
-    none-fired : dueIn (contractOf w) s ≡ due.Nothing → s .clock < top → (ns : List ℕ) → length ns ≡ 0 → Cleared w s ns
-    unfolding answers lastState firings noneRefused
+    none-fired : dueIn (contractOf w) s ≡ due.Nothing → s .clock < top → (ls : List (List Label)) → length ls ≡ 0 → Cleared w s ls
+    unfolding history firings noneRefused lapsed withPending
     none-fired d l [] e =
         record {
           none-refused = refl;
           nothing-due = d;
-          tick-accepted = λ n h. ap (λ (r : Stepped). r .outcome) (answered-by g (record { request = tick; room = n }) h) ∙ ticked-so g a d l;
+          tick-accepted = λ k h. ap (λ (r : Stepped). r .outcome) (tick-is k h);
+          clock-rises = λ k h. ap (λ (r : Stepped). r .state .clock) (tick-is k h);
         }
-    none-fired d l (n ∷ ns) e = absurd (omega arith)
+      where
+        tick-is : (k : List Label) → roomNeeded (contractOf w) ≤ length k → answerTo w s (record { request = tick; slice = k }) ≡ answered (Accepted Tick) (timePassed s)
+        tick-is k h = answered-by g (record { request = tick; slice = k }) h ∙ ticked-so g a d l
+    none-fired d l (k ∷ ls) e = absurd (omega arith)
 
-    one-fired : (k : ℕ) → dueIn (contractOf w) s ≡ due.At k → (m : ℕ) → ((ns : List ℕ) → length ns ≡ m → every (leb maxLabels) ns ≡ true → Cleared w (fired (contractOf w) s .state) ns)
-        → (ns : List ℕ) → length ns ≡ suc m → every (leb maxLabels) ns ≡ true → Cleared w s ns
-    unfolding answers lastState firings noneRefused
+    one-fired : (k : ℕ) → dueIn (contractOf w) s ≡ due.At k → (m : ℕ)
+        → ((ls : List (List Label)) → length ls ≡ m → every roomy ls ≡ true → Cleared w (fired (contractOf w) s .state) ls)
+        → (ls : List (List Label)) → length ls ≡ suc m → every roomy ls ≡ true → Cleared w s ls
+    unfolding history firings noneRefused
     one-fired k d m f [] e h = absurd (omega arith)
-    one-fired k d m f (n ∷ ns) e h =
+    one-fired k d m f (l ∷ ls) e h =
         let c = contractOf w in
-        let x : Cleared w (fired c s .state) ns = f ns (omega arith) (every-tail (leb maxLabels) n ns h) in
-        let r : answerTo w s (record { request = firing; room = n }) ≡ fired c s =
-        answered-by g (record { request = firing; room = n }) (leb-true maxLabels n (every-head (leb maxLabels) n ns h)) in
-        let q : answerTo w s (record { request = firing; room = n }) .state ≡ fired c s .state = ap (λ (r : Stepped). r .state) r in
+        let x : Cleared w (fired c s .state) ls = f ls (omega arith) (every-tail roomy l ls h) in
+        let r : answerTo w s (record { request = firing; slice = l }) ≡ fired c s =
+        answered-by g (record { request = firing; slice = l }) (leb-true (roomNeeded c) (length l) (every-head roomy l ls h)) in
+        let q : answerTo w s (record { request = firing; slice = l }) .state ≡ fired c s .state = ap (λ (r : Stepped). r .state) r in
         record {
           none-refused =
-              subst (λ (r : Stepped). pick (isRefused (r .outcome)) false (noneRefused (answers w (r .state) (firings ns))) ≡ true) (sym r)
+              subst (λ (r : Stepped). pick (isRefused (r .outcome)) false (noneRefused (history w (r .state) (firings ls) .answers)) ≡ true) (sym r)
               (pick-false _ _ _ (fired-so g a k d .not-refused) ∙ x .none-refused);
-          nothing-due = subst (λ (u : State). dueIn c (lastState w u (firings ns)) ≡ due.Nothing) (sym q) (x .nothing-due);
-          tick-accepted = λ i l.
-              subst (λ (u : State). answerTo w (lastState w u (firings ns)) (record { request = tick; room = i }) .outcome ≡ Accepted Tick) (sym q)
-              (x .tick-accepted i l);
+          nothing-due = subst (λ (u : State). dueIn c (history w u (firings ls) .state) ≡ due.Nothing) (sym q) (x .nothing-due);
+          tick-accepted = λ i n.
+              subst (λ (u : State). answerTo w (history w u (firings ls) .state) (record { request = tick; slice = i }) .outcome ≡ Accepted Tick) (sym q)
+              (x .tick-accepted i n);
+          clock-rises = λ i n.
+              subst (λ (u : State). answerTo w (history w u (firings ls) .state) (record { request = tick; slice = i }) .state .clock ≡ suc (s .clock)) (sym q)
+              (x .clock-rises i n ∙ ap suc (fired-so g a k d .clock));
         }
 
     -- nothing is due, or the event that is due fires first
@@ -113,7 +125,7 @@ module _ (w : List ℕ) (p : passes w ≡ true) where
         let o : Fired s (fired (contractOf w) s) = fired-so g a k d in
         let x = f o in
         record { count = suc (x .count); count-few = omega (arith, o .one-less, x .count-few); cleared = one-fired k d (x .count) (x .cleared) })
-        (λ d. record { count = 0; count-few = omega arith; cleared = λ ns e _. none-fired d l ns e })
+        (λ d. record { count = 0; count-few = omega arith; cleared = λ ls e _. none-fired d l ls e })
 
   -- by the number of pending events
   goes-on : (m : ℕ) {s : State} → s .pending ≤ m → Good (contractOf w) s → s .agreed ≡ true → s .clock < top → GoesOn w s
@@ -135,22 +147,22 @@ module _ (w : List ℕ) (clock : ℕ) (h : top < clock) where
       (λ _. by-cases P _ _ _ (λ o. absurd (omega (arith, state.within (contractOf w) (freshAt clock) o .clock))) (λ _. refl))
       (λ _. refl)
 
-  late-last : (xs : List Step) → lastState w (freshAt clock) xs ≡ freshAt clock
-  unfolding lastState
+  late-last : (xs : List Step) → history w (freshAt clock) xs .state ≡ freshAt clock
+  unfolding history
   late-last [] = refl
-  late-last (a ∷ xs) = ap (λ (s : State). lastState w s xs) (late-same a) ∙ late-last xs
+  late-last (a ∷ xs) = ap (λ (s : State). history w s xs .state) (late-same a) ∙ late-last xs
 
-  late-unagreed : (xs : List Step) → lastState w (freshAt clock) xs .agreed ≡ false
+  late-unagreed : (xs : List Step) → history w (freshAt clock) xs .state .agreed ≡ false
   unfolding freshAt
   late-unagreed xs = ap (λ (s : State). s .agreed) (late-last xs)
 
 -- whatever steps were asked for before, with 64-bit arguments
 pub clock-goes-on : (w : List ℕ) → passes w ≡ true → (clock : ℕ) (xs : List Step) → every (λ a. within64 (a .request)) xs ≡ true
-    → lastState w (freshAt clock) xs .agreed ≡ true → lastState w (freshAt clock) xs .clock < top → GoesOn w (lastState w (freshAt clock) xs)
+    → history w (freshAt clock) xs .state .agreed ≡ true → history w (freshAt clock) xs .state .clock < top → GoesOn w (history w (freshAt clock) xs .state)
 clock-goes-on w p clock xs e a l = go (ltb top clock) refl
   where
     s : State
-    s = lastState w (freshAt clock) xs
+    s = history w (freshAt clock) xs .state
 
     go : (b : Bool) → ltb top clock ≡ b → GoesOn w s
     go true q = true-false (sym a ∙ late-unagreed w clock (ltb-true top clock q) xs)

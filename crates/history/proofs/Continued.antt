@@ -21,10 +21,9 @@ use Rattle.state.specs.declared.Due.{Due}
 use Rattle.state.specs.declared.Due.the-variants as due
 use Rattle.state.specs.States.{stateOk, dueIn}
 use Rattle.results.specs.declared.Report.{Report}
-use Rattle.outcomes.specs.declared.Stepped.{Stepped}
 use Rattle.machine.specs.declared.Played.{Played}
 use Rattle.step_reports.specs.Reports.{told, maxTold}
-use Rattle.machine.specs.Sessions.{taken, endOfLine, Turn, wait, makes, turnByDue, turnAt, Session, here, before, onTurn, sessionFor, session, played}
+use Rattle.machine.specs.Sessions.{Said, said, heard, endOfLine, Turn, takes, wait, turnByDue, turnAt, Session, here, before, onTurn, sessionFor, session, played, reportsOf}
 use Rattle.history.specs.Sessions.{wholeFor, countTurn, turnsFor, turnsOf, movedTurn, moved, blocks, turnsIn}
 
 -- ---- places counted from a later byte
@@ -49,28 +48,27 @@ module _ (bytes : List ℕ) (k : ℕ) where
   unfolding endOfLine
   end-after at = omega arith
 
-  module _ (c : Contract) (s : State) where
-    due-shifted : (at : ℕ) (d : Due) → turnByDue c bytes s (k + at) d ≡ movedTurn k (turnByDue c (drop k bytes) s at d)
-    due-shifted at (due.At n) = refl
-    due-shifted at due.Nothing =
-        let e = endOfLine (drop k bytes) at in
-        let n = length-drop k bytes in
-        ap (λ (e : ℕ). pick (ltb e (length bytes)) (makes (taken c s (between bytes (k + at) e)) (suc e)) wait) (end-shifted at)
-        ∙ by-cases (λ (u : Turn). pick (ltb (k + e) (length bytes)) (makes (taken c s (between bytes (k + at) (k + e))) (suc (k + e))) wait ≡ movedTurn k u)
-        (ltb e (length (drop k bytes))) _ _
-        (λ h.
-        let l : e < length (drop k bytes) = ltb-true e (length (drop k bytes)) h in
-        pick-true _ _ _ (lt-ltb (k + e) (length bytes) (omega arith))
-        ∙ ap (λ (line : List ℕ). makes (taken c s line) (suc (k + e))) (between-shifted at e (end-after at) l)
-        ∙ ap (λ (m : ℕ). makes (taken c s (between (drop k bytes) at e)) m) (sym (add-suc k e)))
-        (λ h.
-        let l : length (drop k bytes) ≤ e = ltb-false e (length (drop k bytes)) h in
-        pick-false _ _ _ (le-ltb (k + e) (length bytes) (omega arith)))
+  due-shifted : (at : ℕ) (d : Due) → turnByDue bytes (k + at) d ≡ movedTurn k (turnByDue (drop k bytes) at d)
+  due-shifted at (due.At n) = refl
+  due-shifted at due.Nothing =
+      let e = endOfLine (drop k bytes) at in
+      let n = length-drop k bytes in
+      ap (λ (e : ℕ). pick (ltb e (length bytes)) (takes (said (between bytes (k + at) e)) (suc e)) wait) (end-shifted at)
+      ∙ by-cases (λ (u : Turn). pick (ltb (k + e) (length bytes)) (takes (said (between bytes (k + at) (k + e))) (suc (k + e))) wait ≡ movedTurn k u)
+      (ltb e (length (drop k bytes))) _ _
+      (λ h.
+      let l : e < length (drop k bytes) = ltb-true e (length (drop k bytes)) h in
+      pick-true _ _ _ (lt-ltb (k + e) (length bytes) (omega arith))
+      ∙ ap (λ (line : List ℕ). takes (said line) (suc (k + e))) (between-shifted at e (end-after at) l)
+      ∙ ap (λ (m : ℕ). takes (said (between (drop k bytes) at e)) m) (sym (add-suc k e)))
+      (λ h.
+      let l : length (drop k bytes) ≤ e = ltb-false e (length (drop k bytes)) h in
+      pick-false _ _ _ (le-ltb (k + e) (length bytes) (omega arith)))
 
-    -- a turn at k + at is one at `at` on the bytes from k on
-    pub shifted : (at : ℕ) → turnAt c bytes s (k + at) ≡ movedTurn k (turnAt c (drop k bytes) s at)
-    unfolding turnAt
-    shifted at = due-shifted at (dueIn c s)
+  -- a turn at k + at is one at `at` on the bytes from k on
+  pub shifted : (c : Contract) (s : State) (at : ℕ) → turnAt c bytes s (k + at) ≡ movedTurn k (turnAt c (drop k bytes) s at)
+  unfolding turnAt
+  shifted c s at = due-shifted at (dueIn c s)
 
 module _ (c : Contract) (bytes : List ℕ) (k : ℕ) where
   -- and so are all turns from there on
@@ -78,20 +76,23 @@ module _ (c : Contract) (bytes : List ℕ) (k : ℕ) where
   unfolding wholeFor
   whole-shifted zero s at = refl
   whole-shifted (suc turns) s at =
-      ap (onTurn (here s (k + at)) (λ t next. wholeFor turns c bytes (t .state) next)) (shifted bytes k c s at)
+      ap (onTurn (here s (k + at)) (λ x next. before (told (heard c s x)) (wholeFor turns c bytes (heard c s x .state) next))) (shifted bytes k c s at)
       ∙ go (whole-shifted turns) (turnAt c (drop k bytes) s at)
     where
       go : ((s : State) (at : ℕ) → wholeFor turns c bytes s (k + at) ≡ moved k (wholeFor turns c (drop k bytes) s at))
           → (u : Turn)
-          → onTurn (here s (k + at)) (λ t next. wholeFor turns c bytes (t .state) next) (movedTurn k u)
-          ≡ moved k (onTurn (here s at) (λ t next. wholeFor turns c (drop k bytes) (t .state) next) u)
+          → onTurn (here s (k + at)) (λ x next. before (told (heard c s x)) (wholeFor turns c bytes (heard c s x .state) next)) (movedTurn k u)
+          ≡ moved k (onTurn (here s at) (λ x next. before (told (heard c s x)) (wholeFor turns c (drop k bytes) (heard c s x .state) next)) u)
       go f wait = refl
-      go f (makes t next) = ap (before (told t)) (f (t .state) next)
+      go f (takes x next) = ap (before (told (heard c s x))) (f (heard c s x .state) next)
 
 -- ---- a session goes on where it stopped
 
 before-before : (a b : List Report) (e : Session) → before a (before b e) ≡ before (a ++ b) e
 before-before a b e = ap (λ l. record { state = e .state; at = e .at; reports = l }) (sym (append-assoc a b (e .reports)))
+
+nothing-more : (e : Session) → before (e .reports) (moved (e .at) (here (e .state) 0)) ≡ e
+nothing-more e = λ i. record { state = e .state; at = add-zero (e .at) i; reports = append-nil (e .reports) i }
 
 abbrev Empty : List Report → Type 0
 Empty [] = Unit {0}
@@ -105,6 +106,12 @@ none-left (r ∷ rs) e = absurd (omega arith)
 some-none : {r : Report} {rs : List Report} → r ∷ rs ≡ [] → ⊥
 some-none e = subst Empty (sym e) tt
 
+-- what holds of some turns and the session that they make, and of none, holds whether or not there is room
+pub roomy : (P : ℕ → Session → Type 0) (b : Bool) (n : ℕ) (e none : Session) → P n e → P 0 none → P (pick b n 0) (pick b e none)
+unfolding pick
+roomy P true n e none h g = h
+roomy P false n e none h g = g
+
 module _ (c : Contract) where
   module _ (bytes : List ℕ) where
     -- with n turns made so far, the whole session is this one and then what comes from its end on
@@ -114,37 +121,33 @@ module _ (c : Contract) where
     follows-here : (s : State) (at more : ℕ) → Follows s at more 0 (here s at)
     follows-here s at more = ap (λ (n : ℕ). wholeFor n c bytes s at) (zero-add more)
 
-    roomy : (s : State) (at more : ℕ) (b : Bool) (n : ℕ) (e : Session) → Follows s at more n e → Follows s at more (pick b n 0) (pick b e (here s at))
-    unfolding pick
-    roomy s at more true n e h = h
-    roomy s at more false n e h = follows-here s at more
-
-    one-turn : (n : ℕ) (s : State) (at : ℕ) (t : Stepped) (next : ℕ) → turnAt c bytes s at ≡ makes t next
-        → wholeFor (suc n) c bytes s at ≡ before (told t) (wholeFor n c bytes (t .state) next)
+    one-turn : (n : ℕ) (s : State) (at : ℕ) (x : Said) (next : ℕ) → turnAt c bytes s at ≡ takes x next
+        → wholeFor (suc n) c bytes s at ≡ before (told (heard c s x)) (wholeFor n c bytes (heard c s x .state) next)
     unfolding wholeFor
-    one-turn n s at t next h = ap (onTurn (here s at) (λ t next. wholeFor n c bytes (t .state) next)) h
+    one-turn n s at x next h = ap (onTurn (here s at) (λ x next. before (told (heard c s x)) (wholeFor n c bytes (heard c s x .state) next))) h
 
-    follows : (turns room : ℕ) (s : State) (at more : ℕ) → Follows s at more (turnsFor turns c bytes room s at) (sessionFor turns c bytes room s at)
+    follows : (turns room : ℕ) (s : State) (at more : ℕ) → Follows s at more (turnsFor turns c bytes room s at) (sessionFor turns (heard c) c bytes room s at)
     unfolding turnsFor sessionFor
     follows zero room s at more = follows-here s at more
-    follows (suc turns) room s at more = roomy s at more (leb maxTold room) _ _ (go (follows turns) (turnAt c bytes s at) refl)
+    follows (suc turns) room s at more = roomy (Follows s at more) (leb maxTold room) _ _ (here s at) (go (follows turns) (turnAt c bytes s at) refl) (follows-here s at more)
       where
-        go : ((room : ℕ) (s : State) (at more : ℕ) → Follows s at more (turnsFor turns c bytes room s at) (sessionFor turns c bytes room s at))
+        go : ((room : ℕ) (s : State) (at more : ℕ) → Follows s at more (turnsFor turns c bytes room s at) (sessionFor turns (heard c) c bytes room s at))
             → (u : Turn) → turnAt c bytes s at ≡ u
-            → Follows s at more (countTurn (λ t next. turnsFor turns c bytes (room - length (told t)) (t .state) next) u)
-            (onTurn (here s at) (λ t next. sessionFor turns c bytes (room - length (told t)) (t .state) next) u)
+            → Follows s at more (countTurn (λ x next. turnsFor turns c bytes (room - length (told (heard c s x))) (heard c s x .state) next) u)
+            (onTurn (here s at) (λ x next. before (told (heard c s x)) (sessionFor turns (heard c) c bytes (room - length (told (heard c s x))) (heard c s x .state) next)) u)
         go f wait h = follows-here s at more
-        go f (makes t next) h =
+        go f (takes x next) h =
+            let t = heard c s x in
             let n = turnsFor turns c bytes (room - length (told t)) (t .state) next in
-            let e = sessionFor turns c bytes (room - length (told t)) (t .state) next in
+            let e = sessionFor turns (heard c) c bytes (room - length (told t)) (t .state) next in
             ap (λ (m : ℕ). wholeFor m c bytes s at) (suc-add n more)
-            ∙ one-turn (n + more) s at t next h
+            ∙ one-turn (n + more) s at x next h
             ∙ ap (before (told t)) (f (room - length (told t)) (t .state) next more)
             ∙ before-before (told t) (e .reports) (wholeFor more c bytes (e .state) (e .at))
 
     -- the turns of a session, and then more of them
     pub continued : (turns room : ℕ) (s : State) (at more : ℕ)
-        → let e = sessionFor turns c bytes room s at in
+        → let e = sessionFor turns (heard c) c bytes room s at in
         wholeFor (turnsFor turns c bytes room s at + more) c bytes s at ≡ before (e .reports) (wholeFor more c bytes (e .state) (e .at))
     continued turns room s at more = follows turns room s at more
 
@@ -152,7 +155,7 @@ module _ (c : Contract) where
     pub stays : (s : State) (at : ℕ) → turnAt c bytes s at ≡ wait → (turns : ℕ) → wholeFor turns c bytes s at ≡ here s at
     unfolding wholeFor
     stays s at h zero = refl
-    stays s at h (suc turns) = ap (onTurn (here s at) (λ t next. wholeFor turns c bytes (t .state) next)) h
+    stays s at h (suc turns) = ap (onTurn (here s at) (λ x next. before (told (heard c s x)) (wholeFor turns c bytes (heard c s x .state) next))) h
 
     -- a block, and then the session on the bytes that are left
     pub block-by-block : (room : ℕ) (s : State) (turns : ℕ)
@@ -164,14 +167,14 @@ module _ (c : Contract) where
         ∙ ap (before (e .reports))
         (ap (wholeFor turns c bytes (e .state)) (sym (add-zero (e .at))) ∙ whole-shifted c bytes (e .at) turns (e .state) 0)
 
-    told-nothing : (turns room : ℕ) (s : State) (at : ℕ) → maxTold ≤ room → sessionFor (suc turns) c bytes room s at .reports ≡ [] → turnAt c bytes s at ≡ wait
+    told-nothing : (turns room : ℕ) (s : State) (at : ℕ) → maxTold ≤ room → sessionFor (suc turns) (heard c) c bytes room s at .reports ≡ [] → turnAt c bytes s at ≡ wait
     unfolding sessionFor told
     told-nothing turns room s at h e =
         go (turnAt c bytes s at) (ap (λ (x : Session). x .reports) (sym (pick-true _ _ _ (le-leb maxTold room h))) ∙ e)
       where
-        go : (u : Turn) → onTurn (here s at) (λ t next. sessionFor turns c bytes (room - length (told t)) (t .state) next) u .reports ≡ [] → u ≡ wait
+        go : (u : Turn) → onTurn (here s at) (λ x next. before (told (heard c s x)) (sessionFor turns (heard c) c bytes (room - length (told (heard c s x))) (heard c s x .state) next)) u .reports ≡ [] → u ≡ wait
         go wait q = refl
-        go (makes t next) q = absurd (some-none q)
+        go (takes x next) q = absurd (some-none q)
 
     -- where a block with room for a step tells nothing, nothing is due and no line is whole
     pub done : (room : ℕ) (s : State) → maxTold ≤ room → session c bytes room s .reports ≡ [] → turnAt c bytes s 0 ≡ wait
@@ -199,6 +202,15 @@ module _ (c : Contract) where
       ∙ ap (λ (m : ℕ). record { state = x .state; at = m; reports = (e .reports ++ b .reports) ++ x .reports }) (sym (add-assoc (e .at) (b .at) (x .at)))
       ∙ ap (λ (l : List ℕ). before (e .reports ++ b .reports) (moved (e .at + b .at) (wholeFor turns c l (b .state) 0))) (drop-drop (b .at) (e .at) bytes)
 
+  -- blocks are the session of so many turns
+  pub blocks-turns : (bytes rooms : List ℕ) (s : State) → wholeFor (turnsIn c bytes rooms s) c bytes s 0 ≡ blocks c bytes rooms s
+  unfolding wholeFor
+  blocks-turns bytes rooms s =
+      let b = blocks c bytes rooms s in
+      ap (λ (n : ℕ). wholeFor n c bytes s 0) (sym (add-zero (turnsIn c bytes rooms s)))
+      ∙ blocks-whole rooms bytes s 0
+      ∙ nothing-more b
+
   -- blocks up to one that tells nothing are the whole session
   pub one-session : (bytes rooms : List ℕ) (s : State) (room : ℕ) → maxTold ≤ room
       → let b = blocks c bytes rooms s in
@@ -210,12 +222,22 @@ module _ (c : Contract) where
       ap (λ (k : ℕ). wholeFor k c bytes s 0) m
       ∙ blocks-whole rooms bytes s (turns - n)
       ∙ ap (λ (x : Session). before (b .reports) (moved (b .at) x)) (stays (drop (b .at) bytes) (b .state) 0 (done (drop (b .at) bytes) room (b .state) h e) (turns - n))
-      ∙ ap (λ (k : ℕ). record { state = b .state; at = k; reports = b .reports ++ [] }) (add-zero (b .at))
-      ∙ ap (λ (rs : List Report). record { state = b .state; at = b .at; reports = rs }) (append-nil (b .reports))
+      ∙ nothing-more b
+
+-- what `play` answers is the session, where questions 3, 4 and 20 let it pass
+pub played-session : (w : List ℕ) → passes w ≡ true → (s : State) → stateOk (contractOf w) s ≡ true → (bytes : List ℕ) (room : ℕ) → maxTold ≤ room
+    → let e = session (contractOf w) bytes room s in
+    played w s bytes room ≡ record { question = 0; state = e .state; used = e .at; many = length (e .reports) }
+unfolding played
+played-session w p s q bytes room h = pick-true _ _ _ p ∙ pick-true _ _ _ q ∙ pick-true _ _ _ (le-leb maxTold room h)
+
+-- and so are its result lines
+pub reports-session : (w : List ℕ) → passes w ≡ true → (s : State) → stateOk (contractOf w) s ≡ true → (bytes : List ℕ) (room : ℕ) → maxTold ≤ room
+    → reportsOf w s bytes room ≡ session (contractOf w) bytes room s .reports
+unfolding reportsOf
+reports-session w p s q bytes room h = pick-true _ _ _ p ∙ pick-true _ _ _ q ∙ pick-true _ _ _ (le-leb maxTold room h)
 
 -- as `done`, of what `play` answers
 pub played-done : (w : List ℕ) → passes w ≡ true → (s : State) → stateOk (contractOf w) s ≡ true → (bytes : List ℕ) (room : ℕ) → maxTold ≤ room
     → played w s bytes room .many ≡ 0 → turnAt (contractOf w) bytes s 0 ≡ wait
-unfolding played
-played-done w p s q bytes room h e =
-    done (contractOf w) bytes room s h (none-left _ (ap (λ (x : Played). x .many) (sym (pick-true _ _ _ p ∙ pick-true _ _ _ q ∙ pick-true _ _ _ (le-leb maxTold room h))) ∙ e))
+played-done w p s q bytes room h e = done (contractOf w) bytes room s h (none-left _ (ap (λ (x : Played). x .many) (sym (played-session w p s q bytes room h)) ∙ e))

@@ -7,7 +7,7 @@ use native.Mathlib.Omega.{arith}
 use lib.ListN.{length, getD, List·getD-eq-default}
 use lib.Dec.{ltb}
 use borrow.Author.Tests.{ltb-true, ltb-false}
-use Rattle.contract.specs.Limits.{maxAssets, maxParameters, maxStatements}
+use Rattle.contract.specs.Limits.{maxParties, maxAssets, maxParameters, maxStatements}
 use Rattle.contract.specs.Tree.{Event, Function, Contract}
 use Rattle.contract.specs.Sizes.{statements}
 use Rattle.contract.specs.Fits.{blockIn, scopeOf, eventIn, functionIn, fits}
@@ -26,6 +26,7 @@ pub record BoundedFunction (c : Contract) (f : Function) : Type 0 where
   pub events : (j : ℕ) → BoundedEvent c (getD (f .events) j noEvent)
 
 pub record Bounded (c : Contract) : Type 0 where
+  pub parties-few : length (c .parties) ≤ maxParties
   pub assets-few : length (c .assets) ≤ maxAssets
   pub functions : (i : ℕ) → BoundedFunction c (getD (c .functions) i noFunction)
 
@@ -63,6 +64,7 @@ pub bounded : (c : Contract) → fits c ≡ true → Bounded c
 bounded c h =
     let t = fits-contract c h in
     record {
+      parties-few = t .parties-few;
       assets-few = t .assets-few;
       functions =
           anywhere (BoundedFunction c) noFunction (c .functions) (no-function c)

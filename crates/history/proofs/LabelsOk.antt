@@ -27,7 +27,7 @@ use Rattle.contract.specs.Fits.{Scope, holderIn, expressionIn, conditionIn, act
 use Rattle.evaluation.specs.Meaning.{valueOf, truthOf}
 use Rattle.statements.specs.declared.Label.{Label}
 use Rattle.statements.specs.declared.Work.{Work}
-use Rattle.statements.specs.Running.{maxHoldings, maxLabels, integerLabel, stringLabel, assetLabel, memoryIn, stopped, onward, stored, withHoldings, labelled, sent, place, moved, paid, withValue, withAmount, performed, byTruth, ran}
+use Rattle.statements.specs.Running.{maxHoldings, maxLabels, integerLabel, stringLabel, assetLabel, memoryIn, stopped, onward, stored, withHoldings, labelled, sent, receiver, place, moved, paid, withValue, withAmount, performed, byTruth, ran}
 use Rattle.results.specs.Lines.{valueOk, reportOk}
 use Rattle.step_reports.specs.Reports.{labelReport}
 use Rattle.history.proofs.ValuesInRange.{ValueIn, AnswerIn, value-in}
@@ -145,7 +145,7 @@ pub record Inside (k : Contract) (c : Scope) : Type 0 where
   pub parameters-few : c .parameters ≤ maxParameters
 
 module _ (k : Contract) (c : Scope) (q : Inside k c) (v : List ℤ) (values : (i : ℕ) → within (getD v i (pos 0)) ≡ true) (t : ℕ) where
-  party-few : (a : ℕ) → ltb a (c .parties) ≡ true → a < length (k .parties)
+  party-few : (a : ℕ) → ltb a (c .parties) ≡ true → receiver a < length (k .parties)
   party-few a e = omega (arith, ltb-true a (c .parties) e, q .parties)
 
   text-few : (z : Value) → ValueIn (c .strings) z → ValueIn (length (k .strings)) z
@@ -165,7 +165,7 @@ module _ (k : Contract) (c : Scope) (q : Inside k c) (v : List ℤ) (values : (i
       let ei = both-left (expressionIn c e) (ltb a (c .parties)) i in
       value-fair o (c .strings) (valueOf (memoryIn v t w) e) _ (value-stops c (memoryIn v t w) e ei)
       (value-in c (memoryIn v t w) (memory-in c (q .fields-few) v values t r) e ei)
-      (λ z h. sent-fair o a z (party-few a (both-right (expressionIn c e) (ltb a (c .parties)) i)) (text-few z h))
+      (λ z h. sent-fair o (receiver a) z (party-few a (both-right (expressionIn c e) (ltb a (c .parties)) i)) (text-few z h))
   performed-fair {w} (move e h j) i r o =
       let both = both-right (expressionIn c e) (holderIn c h && holderIn c j) i in
       amount-fair o (valueOf (memoryIn v t w) e) _ (value-stops c (memoryIn v t w) e (both-left (expressionIn c e) (holderIn c h && holderIn c j) i))
@@ -173,13 +173,13 @@ module _ (k : Contract) (c : Scope) (q : Inside k c) (v : List ℤ) (values : (i
   performed-fair {w} (pay e h a) i r o =
       let both = both-right (expressionIn c e) (holderIn c h && ltb a (c .parties)) i in
       amount-fair o (valueOf (memoryIn v t w) e) _ (value-stops c (memoryIn v t w) e (both-left (expressionIn c e) (holderIn c h && ltb a (c .parties)) i))
-      (λ n. paid-fair o (place h) a n (party-few a (both-right (holderIn c h) (ltb a (c .parties)) both)))
+      (λ n. paid-fair o (place h) (receiver a) n (party-few a (both-right (holderIn c h) (ltb a (c .parties)) both)))
   performed-fair {w} (moveAll h j) i r o =
       amount-fair o (valueOf (memoryIn v t w) (held h)) _ (value-stops c (memoryIn v t w) (held h) (both-left (holderIn c h) (holderIn c j) i))
       (λ n. moved-fair o (place h) (place j) n (holder-few j (both-right (holderIn c h) (holderIn c j) i)))
   performed-fair {w} (payAll h a) i r o =
       amount-fair o (valueOf (memoryIn v t w) (held h)) _ (value-stops c (memoryIn v t w) (held h) (both-left (holderIn c h) (ltb a (c .parties)) i))
-      (λ n. paid-fair o (place h) a n (party-few a (both-right (holderIn c h) (ltb a (c .parties)) i)))
+      (λ n. paid-fair o (place h) (receiver a) n (party-few a (both-right (holderIn c h) (ltb a (c .parties)) i)))
 
   pub ran-fair : {w : Work} (b : Block) → blockIn c b ≡ true → Right c w → Fair k w → Fair k (ran v t w b)
   unfolding ran blockIn

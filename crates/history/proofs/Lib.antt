@@ -1,4 +1,5 @@
 pub mod Cases
+pub mod Untouched
 pub mod Striking
 pub mod AmountSums
 pub mod StatementsConserve
@@ -14,13 +15,17 @@ pub mod Agreeing
 pub mod StepsKeepGood
 pub mod Clock
 pub mod Demand
+pub mod ClauseRun
 pub mod Worked
 pub mod Texts
-pub mod Lent
+pub mod Types
 pub mod LineIntegers
 pub mod AskedOnce
+pub mod Numbered
 pub mod RefusalNumbers
 pub mod LabelsOk
 pub mod Reported
 pub mod Coded
 pub mod Continued
+pub mod SessionHistory
+pub mod SessionEnds

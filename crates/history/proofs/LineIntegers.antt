@@ -1,5 +1,5 @@
--- The integers that a session line says are within 64 bits; a line that is refused has a number that question 53 lets pass. Assumes
--- nothing.
+-- The integers that a session line says are within 64 bits, so that the steps of a session have 64-bit arguments; a line that is refused
+-- has a number that question 53 lets pass. Assumes nothing.
 use mathlib.Core.Path.{_≡_, refl}
 use mathlib.Core.Bool.{Bool, true}
 use mathlib.Core.List.{List, [], _∷_}
@@ -16,8 +16,15 @@ use Rattle.words.specs.Words.{tick as tickWord}
 use Rattle.lines.specs.Lines.{Field, Part, Lists, Asked, refused, tick, call, agreement, Parsed, done, no, Parser, andThen, otherwise, isNext, mark, end, name, digits, integer, word, items, list, tickLine, names, lists, callLine, verb, field, part, parts, agreementLine, orRefused, asked}
 use Rattle.lines.specs.Answers.{valuesOf}
 use Rattle.results.specs.Lines.{refusal}
+use Rattle.tokens.specs.Tokens.{between}
+use Rattle.contract.specs.Tree.{Contract}
+use Rattle.state.specs.declared.State.{State}
+use Rattle.state.specs.declared.Due.{Due}
+use Rattle.state.specs.declared.Due.the-variants as due
+use Rattle.state.specs.States.{dueIn}
 use Rattle.agreements.specs.Agreement as machine
-use Rattle.machine.specs.Sessions.{partsSaid}
+use Rattle.machine.specs.Sessions.{partsSaid, Said, asks, unread, saidBy, endOfLine, Turn, takes, wait, turnByDue, turnAt}
+use Rattle.history.specs.Histories.{within64}
 
 -- what a parser reads, if it does, has this
 abbrev Reads : {A : Type 0} → (A → Type 0) → Parsed A → Type 0
@@ -44,7 +51,7 @@ ListsIn l = (every within (l .values) ≡ true) × (every within (l .assets) ≡
 abbrev partIn : Part → Bool
 partIn p = every within (valuesOf (p .fields))
 
-abbrev pub LineIn : Asked → Type 0
+abbrev LineIn : Asked → Type 0
 LineIn (refused q) = refusal q ≡ true
 LineIn tick = Unit {0}
 LineIn (call k) = ListsIn (k .lists)
@@ -58,7 +65,7 @@ fields-in (f ∷ fs) e =
     (fields-in fs (both-right (within (f .value)) (every (λ f. within (f .value)) fs) e))
 
 -- the same of the parts in the machine's terms
-pub parts-in : (line : List ℕ) (ps : List Part) → every partIn ps ≡ true → every (λ (p : machine.Part). every within (p .values)) (partsSaid line ps) ≡ true
+parts-in : (line : List ℕ) (ps : List Part) → every partIn ps ≡ true → every (λ (p : machine.Part). every within (p .values)) (partsSaid line ps) ≡ true
 unfolding every partsSaid
 parts-in line [] e = refl
 parts-in line (p ∷ ps) e =
@@ -146,7 +153,7 @@ unfolding refusal ranges
 or-refused (done a n) h = h
 or-refused no h = refl
 
-pub asked-in : (line : List ℕ) → LineIn (asked line)
+asked-in : (line : List ℕ) → LineIn (asked line)
 unfolding asked refusal ranges
 asked-in line =
     let rest : Parsed Asked = otherwise (callLine line 0) (agreementLine line 0) in
@@ -154,3 +161,33 @@ asked-in line =
     (λ _. or-refused (otherwise (tickLine line 0) rest)
     (reads-otherwise LineIn (tickLine line 0) rest (tick-in line 0) (reads-otherwise LineIn (callLine line 0) (agreementLine line 0) (call-in line 0) (agreement-in line 0))))
     (λ _. refl)
+
+-- ---- what is said
+
+-- a request with 64-bit arguments, or a refusal
+abbrev pub SaidIn : Said → Type 0
+SaidIn (asks q) = within64 q ≡ true
+SaidIn (unread n) = refusal n ≡ true
+
+said-by-in : (line : List ℕ) (a : Asked) → LineIn a → SaidIn (saidBy line a)
+unfolding within64
+said-by-in line (refused q) h = h
+said-by-in line tick h = refl
+said-by-in line (call k) h = both-true _ _ (h .0) (h .1)
+said-by-in line (agreement ps) h = parts-in line ps h
+
+-- whatever a turn takes up
+abbrev pub TurnIn : Turn → Type 0
+TurnIn wait = Unit {0}
+TurnIn (takes x at) = SaidIn x
+
+pub due-in : (bytes : List ℕ) (at : ℕ) (d : Due) → TurnIn (turnByDue bytes at d)
+unfolding within64
+due-in bytes at (due.At k) = refl
+due-in bytes at due.Nothing =
+    let line = between bytes at (endOfLine bytes at) in
+    by-cases TurnIn _ _ _ (λ _. said-by-in line (asked line) (asked-in line)) (λ _. tt)
+
+pub turn-in : (c : Contract) (bytes : List ℕ) (s : State) (at : ℕ) → TurnIn (turnAt c bytes s at)
+unfolding turnAt
+turn-in c bytes s at = due-in bytes at (dueIn c s)

@@ -21,7 +21,7 @@ use Rattle.contract.specs.Fits.{Scope, holderIn, expressionIn, conditionIn, act
 use Rattle.laws.proofs.Truths.{both-left, both-right}
 use Rattle.evaluation.specs.Meaning.{valueOf, truthOf}
 use Rattle.statements.specs.declared.Work.{Work}
-use Rattle.statements.specs.Running.{integerLabel, stringLabel, assetLabel, memoryIn, stopped, onward, stored, labelled, sent, place, amountAt, moved, paid, withValue, withAmount, performed, byTruth, ran}
+use Rattle.statements.specs.Running.{integerLabel, stringLabel, assetLabel, memoryIn, stopped, onward, stored, labelled, sent, receiver, place, amountAt, moved, paid, withValue, withAmount, performed, byTruth, ran}
 
 -- work with these amounts of the asset parameters
 pub record Parameters (hs : List ℕ) (w : Work) : Type 0 where
@@ -87,19 +87,19 @@ module _ (c : Scope) (few : c .assets ≤ maxAssets) (nothing : c .parameters �
   performed-same : {hs : List ℕ} {w : Work} (v : List ℤ) (t : ℕ) (a : Action) → actionIn c a ≡ true → Parameters hs w → Parameters hs (performed v t w a)
   unfolding performed actionIn
   performed-same {w = w} v t (assign e x) i o = value-same o (valueOf (memoryIn v t w) e) _ (λ z. stored-same x z o)
-  performed-same {w = w} v t (send e a) i o = value-same o (valueOf (memoryIn v t w) e) _ (λ z. sent-same a z o)
+  performed-same {w = w} v t (send e a) i o = value-same o (valueOf (memoryIn v t w) e) _ (λ z. sent-same (receiver a) z o)
   performed-same {w = w} v t (move e h k) i o =
       let both = both-right (expressionIn c e) (holderIn c h && holderIn c k) i in
       amount-same o (valueOf (memoryIn v t w) e) _
       (λ n. moved-same o (place h) (place k) n (place-in h (both-left (holderIn c h) (holderIn c k) both)) (place-in k (both-right (holderIn c h) (holderIn c k) both)))
   performed-same {w = w} v t (pay e h a) i o =
       amount-same o (valueOf (memoryIn v t w) e) _
-      (λ n. paid-same o (place h) a n (place-in h (both-left (holderIn c h) _ (both-right (expressionIn c e) _ i))))
+      (λ n. paid-same o (place h) (receiver a) n (place-in h (both-left (holderIn c h) _ (both-right (expressionIn c e) _ i))))
   performed-same {w = w} v t (moveAll h k) i o =
       amount-same o (valueOf (memoryIn v t w) (held h)) _
       (λ n. moved-same o (place h) (place k) n (place-in h (both-left (holderIn c h) (holderIn c k) i)) (place-in k (both-right (holderIn c h) (holderIn c k) i)))
   performed-same {w = w} v t (payAll h a) i o =
-      amount-same o (valueOf (memoryIn v t w) (held h)) _ (λ n. paid-same o (place h) a n (place-in h (both-left (holderIn c h) _ i)))
+      amount-same o (valueOf (memoryIn v t w) (held h)) _ (λ n. paid-same o (place h) (receiver a) n (place-in h (both-left (holderIn c h) _ i)))
 
   pub ran-same : {hs : List ℕ} {w : Work} (v : List ℤ) (t : ℕ) (b : Block) → blockIn c b ≡ true → Parameters hs w → Parameters hs (ran v t w b)
   unfolding ran blockIn

@@ -25,7 +25,7 @@ use Rattle.laws.proofs.Truths.{both-left, both-right}
 use Rattle.evaluation.specs.Meaning.{valueOf, truthOf}
 use Rattle.state.specs.States.{fieldOk}
 use Rattle.statements.specs.declared.Work.{Work}
-use Rattle.statements.specs.Running.{maxHoldings, integerLabel, stringLabel, assetLabel, memoryIn, stopped, onward, stored, withHoldings, labelled, sent, place, amountAt, moved, paid, withValue, withAmount, performed, byTruth, ran}
+use Rattle.statements.specs.Running.{maxHoldings, integerLabel, stringLabel, assetLabel, memoryIn, stopped, onward, stored, withHoldings, labelled, sent, receiver, place, amountAt, moved, paid, withValue, withAmount, performed, byTruth, ran}
 use Rattle.history.proofs.ValuesInRange.{ValueIn, AnswerIn, Fields, fields-set, MemoryIn, value-in}
 
 -- the amounts of the assets, of which a contract has so many, and of the parameters
@@ -137,19 +137,19 @@ module _ (c : Scope) (few : c .fields ≤ maxFields) (v : List ℤ) (values : (i
       (λ z h. stored-right o few x z (ltb-true x (c .fields) (both-right (expressionIn c e) (ltb x (c .fields)) i)) h)
   performed-right {w} (send e a) i o =
       value-right o (valueOf (memoryIn v t w) e) _ (value-in c (memoryIn v t w) (memory-in o) e (both-left (expressionIn c e) (ltb a (c .parties)) i))
-      (λ z _. sent-right o a z)
+      (λ z _. sent-right o (receiver a) z)
   performed-right {w} (move e h k) i o =
       let both = both-right (expressionIn c e) (holderIn c h && holderIn c k) i in
       amount-right o (valueOf (memoryIn v t w) e) _
       (moved-right o (place h) (place-held c h (both-left (holderIn c h) (holderIn c k) both)) (place k) (place-held c k (both-right (holderIn c h) (holderIn c k) both)))
   performed-right {w} (pay e h a) i o =
       amount-right o (valueOf (memoryIn v t w) e) _
-      (paid-right o (place h) (place-held c h (both-left (holderIn c h) (ltb a (c .parties)) (both-right (expressionIn c e) (holderIn c h && ltb a (c .parties)) i))) a)
+      (paid-right o (place h) (place-held c h (both-left (holderIn c h) (ltb a (c .parties)) (both-right (expressionIn c e) (holderIn c h && ltb a (c .parties)) i))) (receiver a))
   performed-right {w} (moveAll h k) i o =
       amount-right o (valueOf (memoryIn v t w) (held h)) _
       (moved-right o (place h) (place-held c h (both-left (holderIn c h) (holderIn c k) i)) (place k) (place-held c k (both-right (holderIn c h) (holderIn c k) i)))
   performed-right {w} (payAll h a) i o =
-      amount-right o (valueOf (memoryIn v t w) (held h)) _ (paid-right o (place h) (place-held c h (both-left (holderIn c h) (ltb a (c .parties)) i)) a)
+      amount-right o (valueOf (memoryIn v t w) (held h)) _ (paid-right o (place h) (place-held c h (both-left (holderIn c h) (ltb a (c .parties)) i)) (receiver a))
 
   pub ran-right : {w : Work} (b : Block) → blockIn c b ≡ true → Right c w → Right c (ran v t w b)
   unfolding ran blockIn

@@ -1,6 +1,6 @@
 -- The result lines of a step from a good state, with 64-bit arguments, pass question 53. Assumes nothing.
-use mathlib.Core.Path.{_≡_, refl, sym}
-use mathlib.Core.Bool.{Bool, true, false, _&&_, _||_}
+use mathlib.Core.Path.{_≡_, refl}
+use mathlib.Core.Bool.{true, false, _&&_}
 use mathlib.Core.List.{List, [], _∷_}
 use Prim.Native.Nat.{ℕ, suc, _≤_}
 use native.Mathlib.Omega.{arith}
@@ -20,7 +20,7 @@ use Rattle.contract.specs.Limits.{top, maxParameters}
 use Rattle.contract.specs.Tree.{Precondition, omitted, given, Event, Function, Contract}
 use Rattle.contract.specs.Check.{ranges}
 use Rattle.laws.proofs.Members.{every-head, every-tail, repeated-length}
-use Rattle.laws.proofs.Truths.{both-left, both-right, both-true}
+use Rattle.laws.proofs.Truths.{both-left, both-right, both-true, first-true, second-true}
 use Rattle.laws.specs.Lists.{every}
 use Rattle.contract.specs.Fits.{Scope, preconditionIn, scopeOf, eventIn, functionIn, fits}
 use Rattle.contract.proofs.Fitting.{FitsFunction, FitsContract, fits-event, fits-function, fits-contract}
@@ -40,10 +40,10 @@ use Rattle.outcomes.specs.declared.Outcome.the-variants.{Accepted, Failed}
 use Rattle.outcomes.specs.declared.Stepped.{Stepped}
 use Rattle.outcomes.specs.Outcomes.{noLabel, answered, refused}
 use Rattle.holdings.specs.Holdings.{amounts}
-use Rattle.machine.specs.Steps.{accepted, begun, Invocation, Chosen, chosen, answersTo, choose, preconditionHolds, Scheduled, times, no, scheduled, schedule, withScheduled, finished, byPrecondition, invoked, byChosen, callByDue, called, handled, fireByDue, fired, tickByDue, ticked}
+use Rattle.machine.specs.Steps.{accepted, begun, Invocation, Chosen, chosen, answersTo, choose, preconditionHolds, Scheduled, times, no, scheduled, schedule, withScheduled, finished, byPrecondition, invoked, byChosen, callByDue, called, handled, fireByDue, fired, tickByDue, ticked, Request, agreement, call, firing, tick, requested}
 use Rattle.agreements.specs.Agreement.{Part, agreedOn}
 use Rattle.step_reports.specs.Reports.{ruleNumber, reportOf, labelReports, told}
-use Rattle.history.specs.Histories.{Request, agreement, call, firing, tick, requested, within64}
+use Rattle.history.specs.Histories.{within64}
 use Rattle.history.proofs.Cases.{bodyRan, eventAt, handlerRan}
 use Rattle.history.proofs.ContractBounds.{BoundedEvent, bounded}
 use Rattle.history.proofs.GoodState.{Good, agreed-name}
@@ -72,22 +72,14 @@ fine-told {c} {r} o =
 
 -- ---- numbers of questions
 
-or-left : (a b : Bool) → a ≡ true → a || b ≡ true
-or-left true b e = refl
-or-left false b e = true-false (sym e)
-
-or-right : (a b : Bool) → b ≡ true → a || b ≡ true
-or-right true b e = refl
-or-right false b e = e
-
 stops-refusal : (n : ℕ) → Stops n → refusal n ≡ true
 unfolding refusal ranges
 stops-refusal n e =
     let l : 30 ≤ n = leb-true 30 n (both-left (leb 30 n) (leb n 36) e) in
     let m : n ≤ 36 = leb-true n 36 (both-right (leb 30 n) (leb n 36) e) in
-    or-right (eqb n 3) _
-    (or-right (eqb n 4) _
-    (or-left (leb 20 n && leb n 37) _ (both-true (leb 20 n) (leb n 37) (le-leb 20 n (omega arith)) (le-leb n 37 (omega arith)))))
+    second-true (eqb n 3)
+    (second-true (eqb n 4)
+    (first-true _ (both-true (leb 20 n) (leb n 37) (le-leb 20 n (omega arith)) (le-leb n 37 (omega arith)))))
 
 rule-few : (r : Rule) → leb (ruleNumber r) 3 ≡ true
 rule-few Agree = refl
@@ -234,11 +226,11 @@ module _ (c : Contract) (e : fits c ≡ true) where
             (λ _ _. refused-fine c s 28 refl))
             (λ _ _. refused-fine c s 27 refl)
 
-      chosen-fine : (n : ℕ) (fs : List Function) → every (functionIn c) fs ≡ true → Once c (byChosen s i (choose c (s .state) i n fs))
+      chosen-fine : (n : ℕ) (fs : List Function) → every (functionIn c) fs ≡ true → Once c (byChosen s i (choose c s i n fs))
       unfolding choose refusal ranges
       chosen-fine n [] h = λ _. refused-fine c s 26 refl
       chosen-fine n (f ∷ fs) h =
-          by-cases (λ (z : Chosen). Once c (byChosen s i z)) (answersTo c (s .state) i f) (chosen n f) (choose c (s .state) i (suc n) fs)
+          by-cases (λ (z : Chosen). Once c (byChosen s i z)) (answersTo c s i f) (chosen n f) (choose c s i (suc n) fs)
           (λ _. invoked-fine n f (fits-function c f (every-head (functionIn c) f fs h)))
           (λ _. chosen-fine (suc n) fs (every-tail (functionIn c) f fs h))
 

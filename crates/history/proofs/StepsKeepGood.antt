@@ -1,16 +1,14 @@
 -- Steps with 64-bit arguments, on a contract that a table can hold, lead from good states to good ones. Assumes nothing.
 use mathlib.Core.Path.{_≡_, refl, sym, ap, subst, _∙_}
-use mathlib.Core.Bool.{Bool, true, false, not}
+use mathlib.Core.Bool.{true, false, not}
 use mathlib.Core.List.{List, [], _∷_, _++_}
 use Prim.Native.Nat.{ℕ, suc, _<_, _≤_}
 use native.Mathlib.Omega.{arith}
 use native.Mathlib.Nat.{zero-add}
 use lib.ListN.{length, getD, length-append}
 use lib.Dec.{eqb}
-use lib.IntN.{pos}
-use lib.Signed.{leZ}
 use borrow.Author.Tests.{lt-ltb}
-use Rattle.laws.proofs.Choice.{by-cases, pick-true, pick-false, true-false}
+use Rattle.laws.proofs.Choice.{by-cases, pick-true, pick-false}
 use Rattle.numbers.specs.Numbers.{within}
 use Rattle.contract.specs.Limits.{top}
 use Rattle.contract.specs.Tree.{Event, Function, Contract}
@@ -24,19 +22,17 @@ use Rattle.contract.proofs.Fitting.{FitsFunction, FitsContract, fits-event, fit
 use Rattle.contract_laws.proofs.Sound.{sound}
 use Rattle.state.specs.declared.State.{State}
 use Rattle.state.specs.declared.Pending.{Pending}
-use Rattle.state.specs.declared.Due.{Due}
-use Rattle.state.specs.declared.Due.the-variants as due
-use Rattle.state.specs.States.{maxPending, blank, freshAt, noFunction, noEvent, used, eventOf, live, stateOk, dueIn, pendingOk, withPending, lapsed, removed}
+use Rattle.state.specs.States.{maxPending, blank, freshAt, noFunction, noEvent, used, eventOf, live, stateOk, pendingOk, withPending, lapsed, removed, opened, later, timePassed}
 use Rattle.state.proofs.Each.{Each, each-append, each-take, each-drop, without-length}
 use Rattle.state.proofs.Kept.{without}
 use Rattle.state.proofs.Within.{live-ok, lapsed-later, live-lapsed, live-removed}
 use Rattle.statements.specs.Running.{memoryIn}
 use Rattle.outcomes.specs.declared.Stepped.{Stepped}
 use Rattle.holdings.specs.Holdings.{amounts}
-use Rattle.machine.specs.Steps.{Invocation, ended, later, Chosen, chosen, choose, byChosen, invoked, callByDue, called, answersTo, step}
-use Rattle.agreements.specs.Agreement.{Part, setClauses, opened}
-use Rattle.history.specs.Histories.{Request, agreement, call, firing, tick, Step, requested, answerTo, lastState, within64}
-use Rattle.history.proofs.Cases.{bodyRan, eventAt, handlerRan, CallOk, ComesOut, refusal, agrees, calls, fires, fails, ticks, request-came, call-came}
+use Rattle.machine.specs.Steps.{Invocation, ended, step, Request, requested}
+use Rattle.agreements.specs.Agreement.{Part, setClauses}
+use Rattle.history.specs.Histories.{Step, answerTo, history, within64}
+use Rattle.history.proofs.Cases.{bodyRan, eventAt, handlerRan, CallOk, ComesOut, refusal, agrees, calls, fires, fails, ticks, request-came}
 use Rattle.history.proofs.ContractBounds.{anywhere}
 use Rattle.history.proofs.ValuesInRange.{Fields}
 use Rattle.history.proofs.Ranges.{Right, memory-in, ran-right}
@@ -44,36 +40,6 @@ use Rattle.history.proofs.GoodState.{Assets, Good, good-within, good-ok
 use Rattle.history.proofs.GoodWork.{values-in, amounts-most, begun-right, ended-good}
 use Rattle.history.proofs.Scheduling.{ScheduledIn, schedule-in}
 use Rattle.history.proofs.Agreeing.{Filled, filled-so, set-clauses-filled, no-texts, more-fields, more-assets}
-
--- ---- question 28
-
--- asset arguments are 0 or more
-abbrev positive : Request → Bool
-positive (agreement ps) = true
-positive (call i) = every (leZ (pos 0)) (i .assets)
-positive firing = true
-positive tick = true
-
-module _ (c : Contract) (s : State) (i : Invocation) (e : every (leZ (pos 0)) (i .assets) ≡ false) where
-  invoked-same : (n : ℕ) (f : Function) → invoked s i n f .state ≡ s
-  unfolding invoked
-  invoked-same n f =
-      by-cases (λ (r : Stepped). r .state ≡ s) _ _ _ (λ _. by-cases (λ (r : Stepped). r .state ≡ s) _ _ _ (λ p. true-false (sym p ∙ e)) (λ _. refl)) (λ _. refl)
-
-  chosen-same : (n : ℕ) (fs : List Function) → byChosen s i (choose c (s .state) i n fs) .state ≡ s
-  unfolding choose
-  chosen-same n [] = refl
-  chosen-same n (f ∷ fs) =
-      by-cases (λ (z : Chosen). byChosen s i z .state ≡ s) (answersTo c (s .state) i f) (chosen n f) (choose c (s .state) i (suc n) fs)
-      (λ _. invoked-same n f) (λ _. chosen-same (suc n) fs)
-
-  due-same : (d : Due) → callByDue c s i d .state ≡ s
-  due-same (due.At k) = refl
-  due-same due.Nothing = chosen-same 0 (c .functions)
-
-  negative-same : called c s i .state ≡ s
-  unfolding called
-  negative-same = by-cases (λ (r : Stepped). r .state ≡ s) _ _ _ (λ _. due-same (dueIn c s)) (λ _. refl)
 
 -- ---- each step
 
@@ -100,7 +66,7 @@ module _ (c : Contract) (t : FitsContract c) where
       (λ i l. function-events (getD (c .functions) i noFunction) (every-at (functionIn c) (c .functions) (t .functions) i l noFunction)) (p .function) (p .event)
 
   module _ {s : State} (g : Good c s) where
-    agreement-good : (ps : List Part) → s .agreed ≡ false → every (λ p. every within (p .values)) ps ≡ true → Good c (opened c (setClauses s (c .clauses) ps))
+    agreement-good : (ps : List Part) → s .agreed ≡ false → every (λ p. every within (p .values)) ps ≡ true → Good c (opened (setClauses s (c .clauses) ps) (c .initial))
     agreement-good ps a e =
         let n = length (c .fields) in
         let unused : (m : ℕ) → used s m ≡ 0 = λ m. pick-false (s .agreed) m 0 a in
@@ -111,7 +77,7 @@ module _ (c : Contract) (t : FitsContract c) where
         (set-clauses-filled (length (c .strings)) n (t .fields-few) s (no-texts o) c refl (c .clauses) ps (t .clauses) e
         (filled-so (s .kinds) (s .numbers) (more-fields o n)))
       where
-        opened-good : {q : State} → Assets 0 (s .assets) → Filled (length (c .strings)) (length (c .fields)) s q → Good c (opened c q)
+        opened-good : {q : State} → Assets 0 (s .assets) → Filled (length (c .strings)) (length (c .fields)) s q → Good c (opened q (c .initial))
         opened-good b (filled-so ks ns o) =
             record {
               clock = g .clock;
@@ -130,15 +96,15 @@ module _ (c : Contract) (t : FitsContract c) where
       others-few k = omega (arith, without-length k (live s), live-length g, g .events .few)
 
       call-good : (i : Invocation) (n : ℕ) (f : Function) (ps : List Pending) → CallOk c s i n f ps → every within (i .values) ≡ true → every within (i .assets) ≡ true
-          → every (leZ (pos 0)) (i .assets) ≡ true → Good c (ended s (bodyRan s i f) (f .last) (live s ++ ps))
+          → Good c (ended s (bodyRan s i f) (f .last) (live s ++ ps))
       unfolding scopeOf
-      call-good i n f ps o v d p =
+      call-good i n f ps o v d =
           let q : FitsFunction c f =
           subst (FitsFunction c) (o .function-is) (fits-function c (getD (c .functions) n noFunction) (every-at (functionIn c) (c .functions) (t .functions) n (o .known) noFunction)) in
           let b = scopeOf c (f .values) (f .parameters) in
           let r : Right b (bodyRan s i f) =
           ran-right b (t .fields-few) (i .values) (values-in (i .values) v) (s .clock) (f .body) (q .body)
-          (begun-right g a (f .values) (f .parameters) (amounts (i .assets)) (amounts-most (i .assets) d p)) in
+          (begun-right g a (f .values) (f .parameters) (amounts (i .assets)) (amounts-most (i .assets) d (o .deposits))) in
           let es : Each (λ p. pendingOk c (s .clock) p ≡ true) ps =
           subst (ScheduledIn c (s .clock)) (o .given)
           (schedule-in c f n (s .clock) (memoryIn (i .values) (s .clock) (bodyRan s i f)) (memory-in b (t .fields-few) (i .values) (values-in (i .values) v) (s .clock) r) (o .known)
@@ -166,7 +132,7 @@ module _ (c : Contract) (t : FitsContract c) where
             events = with-events c s (without k (live s)) (others-few k) (others-in k);
           }
 
-      tick-good : s .clock < top → Good c (later (lapsed s))
+      tick-good : s .clock < top → Good c (timePassed s)
       unfolding lapsed withPending
       tick-good h =
           let ps = keep (λ p. not (eqb (p .time) (s .clock))) (live s) in
@@ -180,26 +146,18 @@ module _ (c : Contract) (t : FitsContract c) where
                 (subst (Each (λ p. pendingOk c (suc (s .clock)) p ≡ true)) (live-lapsed s) (lapsed-later c s (good-ok g)));
           }
 
-    -- asset arguments are 0 or more, question 28
-    came-good : {q : Request} {r : Stepped} → within64 q ≡ true → positive q ≡ true → ComesOut c s q r → Good c (r .state)
+    came-good : {q : Request} {r : Stepped} → within64 q ≡ true → ComesOut c s q r → Good c (r .state)
     unfolding within64
-    came-good e p (refusal n) = g
-    came-good e p (agrees ps a) = agreement-good ps a e
-    came-good e p (calls i n f ps o) =
-        call-good (o .agreed) i n f ps o (both-left (every within (i .values)) (every within (i .assets)) e) (both-right (every within (i .values)) (every within (i .assets)) e) p
-    came-good e p (fires k a d h) = firing-good a k
-    came-good e p (fails k a d h) = removed-good a k
-    came-good e p (ticks a d l) = tick-good a l
+    came-good e (refusal n) = g
+    came-good e (agrees ps a) = agreement-good ps a e
+    came-good e (calls i n f ps o) =
+        call-good (o .agreed) i n f ps o (both-left (every within (i .values)) (every within (i .assets)) e) (both-right (every within (i .values)) (every within (i .assets)) e)
+    came-good e (fires k a d h) = firing-good a k
+    came-good e (fails k a d h) = removed-good a k
+    came-good e (ticks a d l) = tick-good a l
 
   pub request-good : {s : State} → Good c s → (q : Request) → within64 q ≡ true → Good c (requested s q c .state)
-  request-good {s} g (agreement ps) e = came-good g e refl (request-came c s (agreement ps))
-  request-good {s} g (call i) e = go (every (leZ (pos 0)) (i .assets)) refl
-    where
-      go : (b : Bool) → every (leZ (pos 0)) (i .assets) ≡ b → Good c (called c s i .state)
-      go true p = came-good g e p (call-came c s i)
-      go false p = subst (Good c) (sym (negative-same c s i p)) g
-  request-good {s} g firing e = came-good g e refl (request-came c s firing)
-  request-good {s} g tick e = came-good g e refl (request-came c s tick)
+  request-good {s} g q e = came-good g e (request-came c s q)
 
 -- ---- lists of steps
 
@@ -211,11 +169,11 @@ module _ (w : List ℕ) (p : passes w ≡ true) where
       let t = fits-contract (contractOf w) (sound w p) in
       by-cases P _ _ _ (λ _. by-cases P _ _ _ (λ _. by-cases P _ _ _ (λ _. request-good (contractOf w) t g (a .request) e) (λ _. g)) (λ _. g)) (λ _. g)
 
-  pub last-good : {s : State} → Good (contractOf w) s → (xs : List Step) → every (λ a. within64 (a .request)) xs ≡ true → Good (contractOf w) (lastState w s xs)
-  unfolding lastState
+  pub last-good : {s : State} → Good (contractOf w) s → (xs : List Step) → every (λ a. within64 (a .request)) xs ≡ true → Good (contractOf w) (history w s xs .state)
+  unfolding history
   last-good g [] e = g
   last-good g (a ∷ xs) e = last-good (step-good g a (every-head (λ a. within64 (a .request)) a xs e)) xs (every-tail (λ a. within64 (a .request)) a xs e)
 
   -- from the fresh state on, no state fails question 4
-  pub last-ok : (clock : ℕ) → clock ≤ top → (xs : List Step) → every (λ a. within64 (a .request)) xs ≡ true → stateOk (contractOf w) (lastState w (freshAt clock) xs) ≡ true
+  pub last-ok : (clock : ℕ) → clock ≤ top → (xs : List Step) → every (λ a. within64 (a .request)) xs ≡ true → stateOk (contractOf w) (history w (freshAt clock) xs .state) ≡ true
   last-ok clock h xs e = good-ok (last-good (fresh-good (contractOf w) clock h) xs e)

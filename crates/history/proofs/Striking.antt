@@ -1,81 +1,86 @@
--- A refused step changes nothing, so that refused steps can be struck out of a list: all others are answered as before, and the last
--- state and the payouts are the same. Assumes nothing.
-use mathlib.Core.Path.{_≡_, refl, sym, ap, subst, _∙_}
-use mathlib.Core.Bool.{true, false}
+-- Refused steps can be struck out of a list: all others are answered as before, and the last state, the deposits and the payouts are
+-- the same. Assumes nothing.
+use mathlib.Core.Path.{_≡_, refl, sym, ap, _∙_}
+use mathlib.Core.Bool.{Bool, true, false, not}
 use mathlib.Core.List.{List, [], _∷_, _++_}
 use Prim.Native.Nat.{ℕ}
-use Rattle.laws.proofs.Choice.{by-cases, true-false}
-use Rattle.contract.specs.Tree.{Contract}
-use Rattle.contract.specs.Decode.{contractOf}
+use Rattle.laws.specs.Choice.{pick}
+use Rattle.laws.proofs.Choice.{true-false}
+use Rattle.laws.specs.Lists.{keep}
 use Rattle.state.specs.declared.State.{State}
-use Rattle.outcomes.specs.declared.Stepped.{Stepped}
-use Rattle.history.specs.Histories.{Request, Step, answerTo, answers, lastState, payoutsOf, payouts, isRefused, Struck, end, stays, strikes, unrefused}
-use Rattle.history.proofs.Cases.{ComesOut, refusal, agrees, calls, fires, fails, ticks, Answers, first-refusal, by-rule, answered-so}
+use Rattle.outcomes.specs.declared.Outcome.{Outcome}
+use Rattle.outcomes.specs.declared.Outcome.the-variants.{Accepted, Failed, Refused}
+use Rattle.machine.specs.Steps.{Request, agreement, call, firing, tick}
+use Rattle.history.specs.Histories.{Step, answerTo, Returned, returned, deposit, payoutsOf, History, history, isRefused, Struck, end, stays, strikes, unrefused, stayed}
+use Rattle.history.specs.Demand.{Same}
+use Rattle.history.proofs.Untouched.{step-idle}
 
--- ---- a step
+-- ---- a refused step
 
--- what a refusal leaves
-pub record Unchanged (s : State) (r : Stepped) : Type 0 where
-  pub state-same : isRefused (r .outcome) ≡ true → r .state ≡ s
-  pub no-payouts : isRefused (r .outcome) ≡ true → payoutsOf r (r .outcome) ≡ []
+refused-same : (w : List ℕ) (s : State) (a : Step) → isRefused (answerTo w s a .outcome) ≡ true → answerTo w s a .state ≡ s
+refused-same w s a = step-idle w s a .state-same
 
-no-refusal : {s : State} (r : Stepped) → isRefused (r .outcome) ≡ false → Unchanged s r
-no-refusal r e = record { state-same = λ f. true-false (sym f ∙ e); no-payouts = λ f. true-false (sym f ∙ e) }
+no-deposit : (q : Request) (o : Outcome) → isRefused o ≡ true → deposit q o ≡ []
+no-deposit (call i) (Accepted r) e = true-false (sym e)
+no-deposit (call i) (Failed n) e = refl
+no-deposit (call i) (Refused n) e = refl
+no-deposit (agreement ps) o e = refl
+no-deposit firing o e = refl
+no-deposit tick o e = refl
 
-came-unchanged : {s : State} {q : Request} {r : Stepped} (c : Contract) → ComesOut c s q r → Unchanged s r
-came-unchanged c (refusal n) = record { state-same = λ _. refl; no-payouts = λ _. refl }
-came-unchanged c (agrees ps a) = no-refusal _ refl
-came-unchanged c (calls i n f ps o) = no-refusal _ refl
-came-unchanged c (fires k a d h) = no-refusal _ refl
-came-unchanged c (fails k a d h) = no-refusal _ refl
-came-unchanged c (ticks a d l) = no-refusal _ refl
+no-payout : (r : Returned) (o : Outcome) → isRefused o ≡ true → payoutsOf r o ≡ []
+no-payout r (Accepted q) e = true-false (sym e)
+no-payout r (Failed n) e = true-false (sym e)
+no-payout r (Refused n) e = refl
 
-answer-unchanged : {w : List ℕ} {s : State} {q : Request} {r : Stepped} → Answers w s q r → Unchanged s r
-answer-unchanged (first-refusal n) = record { state-same = λ _. refl; no-payouts = λ _. refl }
-answer-unchanged {w} (by-rule p o c) = came-unchanged (contractOf w) c
+-- ---- some refused steps struck out
 
-pub step-unchanged : (w : List ℕ) (s : State) (a : Step) → Unchanged s (answerTo w s a)
-step-unchanged w s a = answer-unchanged (answered-so w s a)
+-- one step before both
+stays-same : {w : List ℕ} {s : State} {a : Step} {xs ys : List Step} {rs : List Returned} → Same w (answerTo w s a .state) xs ys rs → Same w s (a ∷ xs) (a ∷ ys) (returned w s a ∷ rs)
+unfolding history
+stays-same {w} {s} {a} t =
+    record {
+      state = t .state;
+      answer = ap (λ rs. returned w s a ∷ rs) (t .answer);
+      deposit = ap (λ zs. deposit (a .request) (answerTo w s a .outcome) ++ zs) (t .deposit);
+      payout = ap (λ ls. payoutsOf (returned w s a) (answerTo w s a .outcome) ++ ls) (t .payout);
+    }
 
--- a refused step hands back the state it was given
-pub refused-same : (w : List ℕ) (s : State) (a : Step) → isRefused (answerTo w s a .outcome) ≡ true → answerTo w s a .state ≡ s
-refused-same w s a = step-unchanged w s a .state-same
+-- a refused one before the first
+strikes-same : {w : List ℕ} {s : State} {a : Step} {xs ys : List Step} {rs : List Returned} → isRefused (answerTo w s a .outcome) ≡ true
+    → Same w (answerTo w s a .state) xs ys rs → Same w s (a ∷ xs) ys rs
+unfolding history
+strikes-same {w} {s} {a} {xs} {ys} e t =
+    let back : history w s ys ≡ history w (answerTo w s a .state) ys = ap (λ (u : State). history w u ys) (sym (refused-same w s a e)) in
+    record {
+      state = ap (λ (h : History). h .state) back ∙ t .state;
+      answer = ap (λ (h : History). h .answers) back ∙ t .answer;
+      deposit =
+          ap (λ (h : History). h .deposits) back ∙ t .deposit
+          ∙ ap (λ zs. zs ++ history w (answerTo w s a .state) xs .deposits) (sym (no-deposit (a .request) (answerTo w s a .outcome) e));
+      payout =
+          ap (λ (h : History). h .payouts) back ∙ t .payout
+          ∙ ap (λ ls. ls ++ history w (answerTo w s a .state) xs .payouts) (sym (no-payout (returned w s a) (answerTo w s a .outcome) e));
+    }
 
--- ---- lists of steps, some refused ones struck out
-
--- the last state is the same
-pub last-struck : {w : List ℕ} {s : State} {xs ys : List Step} {rs : List Stepped} → Struck w s xs ys rs → lastState w s xs ≡ lastState w s ys
-unfolding lastState
-last-struck end = refl
-last-struck (stays r) = last-struck r
-last-struck {w} (strikes {s = s} {a = a} {ys = ys} e r) = last-struck r ∙ ap (λ t. lastState w t ys) (refused-same w s a e)
-
--- all others are answered as before
-pub answers-struck : {w : List ℕ} {s : State} {xs ys : List Step} {rs : List Stepped} → Struck w s xs ys rs → rs ≡ answers w s ys
-unfolding answers
-answers-struck end = refl
-answers-struck {w} (stays {s = s} {a = a} r) = ap (λ l. answerTo w s a ∷ l) (answers-struck r)
-answers-struck {w} (strikes {s = s} {a = a} {ys = ys} e r) = answers-struck r ∙ ap (λ t. answers w t ys) (refused-same w s a e)
-
--- the payouts are the same
-pub payouts-struck : {w : List ℕ} {s : State} {xs ys : List Step} {rs : List Stepped} → Struck w s xs ys rs
-    → payouts (answers w s xs) ≡ payouts (answers w s ys)
-unfolding answers payouts
-payouts-struck end = refl
-payouts-struck {w} (stays {s = s} {a = a} r) = ap (λ l. payoutsOf (answerTo w s a) (answerTo w s a .outcome) ++ l) (payouts-struck r)
-payouts-struck {w} (strikes {s = s} {a = a} {xs = xs} {ys = ys} e r) =
-    ap (λ l. l ++ payouts (answers w (answerTo w s a .state) xs)) (step-unchanged w s a .no-payouts e)
-    ∙ payouts-struck r
-    ∙ ap (λ t. payouts (answers w t ys)) (refused-same w s a e)
+pub struck-same : {w : List ℕ} {s : State} {xs ys : List Step} {rs : List Returned} → Struck w s xs ys rs → Same w s xs ys rs
+unfolding history
+struck-same end = record { state = refl; answer = refl; deposit = refl; payout = refl }
+struck-same (stays r) = stays-same (struck-same r)
+struck-same (strikes e r) = strikes-same e (struck-same r)
 
 -- ---- all refused steps struck out
 
--- the answers that are no refusals
-pub all-struck : (w : List ℕ) (s : State) (xs : List Step) → Struck w s xs (unrefused w s xs) (answers w s (unrefused w s xs))
-unfolding unrefused answers
+pub all-struck : (w : List ℕ) (s : State) (xs : List Step) → Struck w s xs (unrefused w s xs) (stayed (history w s xs .answers))
+unfolding unrefused history keep pick
 all-struck w s [] = end
 all-struck w s (a ∷ xs) =
     let t = answerTo w s a .state in
-    by-cases (λ ys. Struck w s (a ∷ xs) ys (answers w s ys)) (isRefused (answerTo w s a .outcome)) (unrefused w t xs) (a ∷ unrefused w t xs)
-    (λ e. strikes e (subst (λ z. Struck w t xs (unrefused w t xs) (answers w z (unrefused w t xs))) (refused-same w s a e) (all-struck w t xs)))
-    (λ _. stays (all-struck w t xs))
+    let ys = unrefused w t xs in
+    let rs = stayed (history w t xs .answers) in
+    go ys rs (isRefused (answerTo w s a .outcome)) refl (all-struck w t xs)
+  where
+    go : (ys : List Step) (rs : List Returned) (b : Bool) → isRefused (answerTo w s a .outcome) ≡ b → Struck w (answerTo w s a .state) xs ys rs
+        → Struck w s (a ∷ xs) (pick b ys (a ∷ ys)) (pick (not b) (returned w s a ∷ rs) rs)
+    go ys rs true e r = strikes e r
+    go ys rs false e r = stays r

@@ -1,6 +1,5 @@
 -- Document 01's starred cases: an expression, a move, or a step, with what it must give.
 use Prim.Native.Nat.{ℕ}
-use mathlib.Core.Bool.{true}
 use mathlib.Core.List.{List, [], _∷_}
 use lib.ListN.{take}
 use lib.IntN.{ℤ, pos, negsuc}
@@ -12,10 +11,11 @@ use Rattle.numbers.specs.declared.Operator.the-variants.{Plus, Minus, Over}
 use Rattle.numbers.specs.declared.Comparison.the-variants.{AtLeast}
 use Rattle.contract.specs.Limits.{top, maxFields}
 use Rattle.contract.specs.Tree.{Expression, constant, clock, field, held, apply, asset, assetParameter, compare, Action, move, none, perform, moveAll, pay, payAll, omitted, given, set, ok, Contract}
+use Rattle.contract.specs.Encode.{encode}
 use Rattle.evaluation.specs.Memory.{memoryOf}
 use Rattle.evaluation.specs.Meaning.{valueOf}
 use Rattle.state.specs.declared.State.{State}
-use Rattle.state.specs.States.{freshAt, withPending}
+use Rattle.state.specs.States.{freshAt, withMemory, opened, withPending}
 use Rattle.laws.specs.Lists.{repeated}
 use Rattle.statements.specs.declared.Work.{Work}
 use Rattle.statements.specs.Running.{performed}
@@ -23,15 +23,16 @@ use Rattle.outcomes.specs.declared.Rule.the-variants.{Call}
 use Rattle.outcomes.specs.declared.Outcome.{Outcome}
 use Rattle.outcomes.specs.declared.Outcome.the-variants.{Accepted, Refused}
 use Rattle.outcomes.specs.declared.Stepped.{Stepped}
-use Rattle.machine.specs.Steps.{begun}
-use Rattle.history.specs.Histories.{Request, call, tick, requested}
+use Rattle.machine.specs.Steps.{begun, Request, call, tick}
+use Rattle.outcomes.specs.Outcomes.{noLabels}
+use Rattle.history.specs.Histories.{answerTo}
 
 pub data Case : Type 0 where
   -- an expression
   worksOut : Expression → Case
   -- a statement, where the first two assets hold these amounts
   moves : ℕ → ℕ → Action → Case
-  -- a step of a contract in a state
+  -- a step in a state, on the contract's table and with a slice of 64 labels: 3, 4 and 20 are asked
   steps : Contract → State → Request → Case
 
 pub data Result : Type 0 where
@@ -44,17 +45,7 @@ pub data Result : Type 0 where
 -- a state that was agreed on, in state q at clock t, the first field holding 3 and the assets these amounts
 abbrev pub agreedAt : ℕ → ℕ → ℕ → ℕ → State
 agreedAt q t a b =
-    record {
-      agreed = true;
-      state = q;
-      kinds = 1 ∷ repeated 31 0;
-      numbers = pos 3 ∷ repeated 31 (pos 0);
-      texts = repeated maxFields 0;
-      assets = a ∷ b ∷ repeated 14 0;
-      clock = t;
-      pending = 0;
-      events = freshAt t .events;
-    }
+    opened (withMemory (freshAt t) (1 ∷ repeated 31 0) (pos 3 ∷ repeated 31 (pos 0)) (repeated maxFields 0) (a ∷ b ∷ repeated 14 0)) q
 
 -- document 01's Lot
 abbrev pub lot : Contract
@@ -100,17 +91,19 @@ lot =
           ∷ [];
     }
 
--- @Open Broker : late { now - 1 >> @Open { } => @Open } => @Open, and @Open Broker : keep [y] { } => @Open
+-- legal_contract Other { assets bales fields part agreement (Broker, Ann) { Broker =SET=> part Ann =OK=> part } => @Open
+-- @Open Broker : late { now - 1 >> @Open { } => @Open } => @Open
+-- @Open Broker : keep [y] { } => @Open }
 abbrev pub other : Contract
 other =
     record {
       name = bytes "Other";
-      parties = bytes "Broker" ∷ [];
+      parties = bytes "Broker" ∷ bytes "Ann" ∷ [];
       assets = bytes "bales" ∷ [];
       fields = bytes "part" ∷ [];
       states = bytes "Open" ∷ [];
       strings = [];
-      clauses = record { party = 0; verb = set; fields = 0 ∷ [] } ∷ [];
+      clauses = record { party = 0; verb = set; fields = 0 ∷ [] } ∷ record { party = 1; verb = ok; fields = 0 ∷ [] } ∷ [];
       initial = 0;
       functions =
           record {
@@ -205,7 +198,7 @@ afterStep r = comes (r .outcome) (r .state .pending)
 abbrev pub result : Case → Result
 result (worksOut e) = gives (valueOf (memoryOf [] [] [] [] [] 0) e)
 result (moves a b m) = afterMove (performed [] 0 (begun (agreedAt 0 0 a b) []) m)
-result (steps c s q) = afterStep (requested s q c)
+result (steps c s q) = afterStep (answerTo (encode c) s (record { request = q; slice = noLabels }))
 
 unfoldable pub results : List Case → List Result
 results [] = []

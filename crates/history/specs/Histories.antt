@@ -1,15 +1,13 @@
--- Lists of agreements, calls, firings and ticks, each with any arguments and any length of the label slice.
-use Prim.Native.Nat.{ℕ, _+_}
+-- Lists of agreements, calls, firings and ticks, each with any arguments and a lent label slice of any length.
+use Prim.Native.Nat.{ℕ, suc, _+_, _*_}
 use mathlib.Core.Path.{_≡_}
-use mathlib.Core.Bool.{Bool, true, false, _&&_}
+use mathlib.Core.Bool.{Bool, true, false, not, _&&_}
 use mathlib.Core.List.{List, [], _∷_, _++_}
-use lib.ListN.{take}
+use lib.ListN.{length, take}
 use lib.Dec.{eqb}
-use lib.IntN.{pos, natAbs}
-use lib.Signed.{leZ}
+use lib.IntN.{ℤ, pos, _+ℤ_}
 use Rattle.laws.specs.Choice.{pick}
-use Rattle.contract.specs.Tree.{Contract}
-use Rattle.laws.specs.Lists.{every}
+use Rattle.laws.specs.Lists.{every, keep}
 use Rattle.numbers.specs.Numbers.{within}
 use Rattle.state.specs.declared.State.{State}
 use Rattle.statements.specs.declared.Label.{Label}
@@ -17,87 +15,95 @@ use Rattle.statements.specs.Running.{assetLabel}
 use Rattle.outcomes.specs.declared.Outcome.{Outcome}
 use Rattle.outcomes.specs.declared.Outcome.the-variants.{Accepted, Failed, Refused}
 use Rattle.outcomes.specs.declared.Stepped.{Stepped}
-use Rattle.holdings.specs.Holdings.{amounts}
-use Rattle.machine.specs.Steps.{Invocation, called, fired, ticked, step}
-use Rattle.agreements.specs.Agreement.{Part, agreedOn}
+use Rattle.machine.specs.Steps.{Request, agreement, call, firing, tick, requested, step}
+use Rattle.steps.specs.declared.Left.{Left}
+use Rattle.steps.specs.Left.{leftOf, slotsOf}
 
-pub data Request : Type 0 where
-  agreement : List Part → Request
-  call : Invocation → Request
-  firing : Request
-  tick : Request
-
--- a step asked for, with so many entries in its label slice
+-- a step asked for, and the label slice lent to it
 pub record Step : Type 0 where
   pub request : Request
-  pub room : ℕ
+  pub slice : List Label
 
-abbrev pub requested : State → Request → Contract → Stepped
-requested s (agreement ps) c = agreedOn c s ps
-requested s (call i) c = called c s i
-requested s firing c = fired c s
-requested s tick c = ticked c s
-
--- the answer to one step on a table
+-- the machine's answer to a step on a table
 unfoldable pub answerTo : List ℕ → State → Step → Stepped
-answerTo w s a = step w (a .room) s (requested s (a .request))
+answerTo w s a = step w (length (a .slice)) s (requested s (a .request))
 
--- the answers to a list of steps, and the last state
-unfoldable pub answers : List ℕ → State → List Step → List Stepped
-answers w s [] = []
-answers w s (a ∷ xs) = answerTo w s a ∷ answers w (answerTo w s a .state) xs
+-- what the caller holds then: what came of it, the state and how many labels there are; and the slice
+pub record Returned : Type 0 where
+  pub left : Left
+  pub slice : List Label
 
-unfoldable pub lastState : List ℕ → State → List Step → State
-lastState w s [] = s
-lastState w s (a ∷ xs) = lastState w (answerTo w s a .state) xs
+abbrev pub returned : List ℕ → State → Step → Returned
+returned w s a = record { left = leftOf (answerTo w s a); slice = slotsOf (a .slice) (answerTo w s a) }
 
--- ---- the count
+-- ---- what a step brings in and pays out
 
-unfoldable pub sum : List ℕ → ℕ
-sum [] = 0
-sum (n ∷ ns) = n + sum ns
-
--- what a call brings in, if it is accepted
-abbrev pub deposit : Request → Outcome → ℕ
-deposit (call i) (Accepted r) = sum (amounts (i .assets))
-deposit (call i) (Failed n) = 0
-deposit (call i) (Refused n) = 0
-deposit (agreement ps) o = 0
-deposit firing o = 0
-deposit tick o = 0
-
-unfoldable pub deposits : List ℕ → State → List Step → ℕ
-deposits w s [] = 0
-deposits w s (a ∷ xs) =
-    deposit (a .request) (answerTo w s a .outcome) + deposits w (answerTo w s a .state) xs
+-- the asset arguments of a call that is accepted
+abbrev pub deposit : Request → Outcome → List ℤ
+deposit (call i) (Accepted r) = i .assets
+deposit (call i) (Failed n) = []
+deposit (call i) (Refused n) = []
+deposit (agreement ps) o = []
+deposit firing o = []
+deposit tick o = []
 
 -- the asset payouts among some labels
 unfoldable pub payoutsIn : List Label → List Label
 payoutsIn [] = []
 payoutsIn (l ∷ ls) = pick (eqb (l .kind) assetLabel) (l ∷ payoutsIn ls) (payoutsIn ls)
 
--- the asset payouts that an accepted step left
-abbrev pub payoutsOf : Stepped → Outcome → List Label
-payoutsOf r (Accepted rule) = payoutsIn (take (r .count) (r .labels))
-payoutsOf r (Failed n) = payoutsIn (take (r .count) (r .labels))
+-- the asset payouts that an accepted step left, read off the slice
+abbrev pub payoutsOf : Returned → Outcome → List Label
+payoutsOf r (Accepted rule) = payoutsIn (take (r .left .count) (r .slice))
+payoutsOf r (Failed n) = payoutsIn (take (r .left .count) (r .slice))
 payoutsOf r (Refused n) = []
 
-unfoldable pub payouts : List Stepped → List Label
-payouts [] = []
-payouts (r ∷ rs) = payoutsOf r (r .outcome) ++ payouts rs
+-- ---- a list of steps
 
--- the sum of the values of labels
-unfoldable pub worth : List Label → ℕ
-worth [] = 0
-worth (l ∷ ls) = natAbs (l .value) + worth ls
+-- what a list of steps comes to: the last state, what callers hold after each step, the asset arguments of accepted calls, the payouts
+pub record History : Type 0 where
+  pub state : State
+  pub answers : List Returned
+  pub deposits : List ℤ
+  pub payouts : List Label
 
--- whether a label's value is 0 or more
-abbrev pub isAmount : Label → Bool
-isAmount l = leZ (pos 0) (l .value)
+-- one step, and what those after it come to
+abbrev pub followed : Request → Returned → History → History
+followed q r h =
+    record {
+      state = h .state;
+      answers = r ∷ h .answers;
+      deposits = deposit q (r .left .outcome) ++ h .deposits;
+      payouts = payoutsOf r (r .left .outcome) ++ h .payouts;
+    }
+
+unfoldable pub history : List ℕ → State → List Step → History
+history w s [] = record { state = s; answers = []; deposits = []; payouts = [] }
+history w s (a ∷ xs) = followed (a .request) (returned w s a) (history w (answerTo w s a .state) xs)
+
+-- ---- the count
+
+unfoldable pub total : List ℤ → ℤ
+total [] = pos 0
+total (z ∷ zs) = z +ℤ total zs
+
+-- the values of labels
+unfoldable pub valuesOf : List Label → List ℤ
+valuesOf [] = []
+valuesOf (l ∷ ls) = l .value ∷ valuesOf ls
+
+-- amounts weighed by their places, which are counted from i
+unfoldable pub weighed : (ℕ → ℕ) → ℕ → List ℕ → ℕ
+weighed f i [] = 0
+weighed f i (n ∷ ns) = f i * n + weighed f (suc i) ns
+
+-- every unit counts one, wherever it is
+abbrev pub alike : ℕ → ℕ
+alike i = 1
 
 -- what the state holds
 abbrev pub holdings : State → ℕ
-holdings s = sum (s .assets)
+holdings s = weighed alike 0 (s .assets)
 
 -- ---- striking out
 
@@ -107,12 +113,12 @@ isRefused (Failed n) = false
 isRefused (Refused n) = true
 
 -- the second list is the first without some refused steps; the third has the first's answers to the steps that stay
-pub data Struck (w : List ℕ) : State → List Step → List Step → List Stepped → Type 0 where
+pub data Struck (w : List ℕ) : State → List Step → List Step → List Returned → Type 0 where
   end : {s : State} → Struck w s [] [] []
-  stays : {s : State} {a : Step} {xs ys : List Step} {rs : List Stepped}
+  stays : {s : State} {a : Step} {xs ys : List Step} {rs : List Returned}
       → Struck w (answerTo w s a .state) xs ys rs
-      → Struck w s (a ∷ xs) (a ∷ ys) (answerTo w s a ∷ rs)
-  strikes : {s : State} {a : Step} {xs ys : List Step} {rs : List Stepped}
+      → Struck w s (a ∷ xs) (a ∷ ys) (returned w s a ∷ rs)
+  strikes : {s : State} {a : Step} {xs ys : List Step} {rs : List Returned}
       → isRefused (answerTo w s a .outcome) ≡ true
       → Struck w (answerTo w s a .state) xs ys rs
       → Struck w s (a ∷ xs) ys rs
@@ -124,17 +130,21 @@ unrefused w s (a ∷ xs) =
     let ys = unrefused w (answerTo w s a .state) xs in
     pick (isRefused (answerTo w s a .outcome)) ys (a ∷ ys)
 
+-- the answers that are no refusals
+abbrev pub stayed : List Returned → List Returned
+stayed = keep (λ r. not (isRefused (r .left .outcome)))
+
 -- ---- the clock
 
--- a firing with so many entries in its label slice, for each of these numbers
-unfoldable pub firings : List ℕ → List Step
+-- a firing with each of these label slices
+unfoldable pub firings : List (List Label) → List Step
 firings [] = []
-firings (n ∷ ns) = record { request = firing; room = n } ∷ firings ns
+firings (l ∷ ls) = record { request = firing; slice = l } ∷ firings ls
 
 -- none of these answers is a refusal
-unfoldable pub noneRefused : List Stepped → Bool
+unfoldable pub noneRefused : List Returned → Bool
 noneRefused [] = true
-noneRefused (r ∷ rs) = pick (isRefused (r .outcome)) false (noneRefused rs)
+noneRefused (r ∷ rs) = pick (isRefused (r .left .outcome)) false (noneRefused rs)
 
 -- arguments are signed 64-bit integers
 unfoldable pub within64 : Request → Bool

@@ -1,4 +1,5 @@
 pub mod Histories
 pub mod Demand
+pub mod Untouched
 pub mod Cases
 pub mod Sessions

@@ -6,6 +6,7 @@ use lib.IntN.{ℤ, natAbs}
 use Rattle.laws.specs.Lists.{repeated}
 use Rattle.contract.specs.Limits.{maxAssets, maxParameters}
 use Rattle.state.specs.declared.State.{State}
+use Rattle.state.specs.States.{withMemory, withState}
 use Rattle.statements.specs.declared.Work.{Work}
 
 -- asset arguments as amounts
@@ -19,15 +20,4 @@ holdingsOf assets zs = take maxAssets assets ++ take maxParameters (amounts zs +
 
 -- the state in state q, with the memory that statements have reached
 abbrev pub reached : State → Work → ℕ → State
-reached s w q =
-    record {
-      agreed = s .agreed;
-      state = q;
-      kinds = w .kinds;
-      numbers = w .numbers;
-      texts = w .texts;
-      assets = take maxAssets (w .holdings);
-      clock = s .clock;
-      pending = s .pending;
-      events = s .events;
-    }
+reached s w q = withState (withMemory s (w .kinds) (w .numbers) (w .texts) (take maxAssets (w .holdings))) (s .agreed) q

@@ -4,3 +4,4 @@ pub mod Lists
 pub mod Bytes
 pub mod Truths
 pub mod Members
+pub mod Bits

@@ -32,7 +32,14 @@ pub struct Line {
     pub values: usize,
     pub assets: usize,
     // The values, then the assets, then zeros. A line has fewer than 256.
-    pub numbers: [i64; 256],
+    pub numbers: [i64; Line::NUMBERS],
+}
+
+impl Line {
+    // The most bytes of a line, and the numbers that there is room for.
+    pub const BYTES: usize = 512;
+
+    pub const NUMBERS: usize = Line::BYTES / 2;
 }
 
 // The parts of an agreement; nothing for any other line. A line has at most 64 parts and 85 fields.
@@ -41,15 +48,23 @@ pub struct Agreement {
     // How many fields all parts have.
     pub fields: usize,
     // Four a part: where its party's name starts and ends, 0 for SET and 1 for OK, how many fields it has; then zeros.
-    pub heads: [usize; 256],
+    pub heads: [usize; Agreement::HEADS],
     // Two a field: where its name starts and ends; then zeros.
-    pub spans: [usize; 172],
+    pub spans: [usize; Agreement::SPANS],
     // One a field; then zeros.
-    pub values: [i64; 86],
+    pub values: [i64; Agreement::FIELDS],
 }
 
-// The most bytes of a line.
-const LINE_BYTES: usize = 512;
+impl Agreement {
+    // The parts and the fields that there is room for, and the numbers of both.
+    pub const PARTS: usize = 64;
+
+    pub const FIELDS: usize = 86;
+
+    pub const HEADS: usize = 4 * Agreement::PARTS;
+
+    pub const SPANS: usize = 2 * Agreement::FIELDS;
+}
 
 // The place after a mark.
 enum Place {
@@ -467,9 +482,9 @@ fn parts_of(line: &[u8]) -> Agreement
     requires { ⌜ length (now line) ≤ 512 ⌝ }
     ensures { λ r. ⌜ r ≡ agreementOf (partsOf (orRefused (agreementLine (now (line .entry)) 0))) ⌝ }
 {
-    let mut heads = [0usize; 256];
-    let mut spans = [0usize; 172];
-    let mut values = [0i64; 86];
+    let mut heads = [0usize; Agreement::HEADS];
+    let mut spans = [0usize; Agreement::SPANS];
+    let mut values = [0i64; Agreement::FIELDS];
     let Found::At(count, all) = parts(line, &mut heads, &mut spans, &mut values) else {
         return no_agreement();
     };
@@ -486,9 +501,9 @@ fn parts_of(line: &[u8]) -> Agreement
 fn no_agreement() -> Agreement
     ensures { λ r. ⌜ r ≡ agreementOf [] ⌝ }
 {
-    let heads = [0usize; 256];
-    let spans = [0usize; 172];
-    let values = [0i64; 86];
+    let heads = [0usize; Agreement::HEADS];
+    let spans = [0usize; Agreement::SPANS];
+    let values = [0i64; Agreement::FIELDS];
     Agreement {
         parts: 0,
         fields: 0,
@@ -502,7 +517,7 @@ fn no_agreement() -> Agreement
 pub fn agreement_of(line: &[u8]) -> Agreement
     ensures { λ r. ⌜ r ≡ agreementOf (partsOf (asked (now (line .entry)))) ⌝ }
 {
-    if LINE_BYTES < line.len() {
+    if Line::BYTES < line.len() {
         return no_agreement();
     }
     parts_of(line)
@@ -514,7 +529,7 @@ pub fn agreement_of(line: &[u8]) -> Agreement
 fn plain(request: Request) -> Line
     ensures { λ r. ⌜ r ≡ plain request ⌝ }
 {
-    let numbers = [0i64; 256];
+    let numbers = [0i64; Line::NUMBERS];
     Line {
         request,
         party_start: 0,
@@ -543,7 +558,7 @@ fn other(line: &[u8]) -> Line
 pub fn read(line: &[u8]) -> Line
     ensures { λ r. ⌜ r ≡ lineOf (asked (now (line .entry))) ⌝ }
 {
-    if LINE_BYTES < line.len() {
+    if Line::BYTES < line.len() {
         return plain(Request::Refused(questions::LINE_LENGTH));
     }
     if is_tick(line) {
@@ -552,7 +567,7 @@ pub fn read(line: &[u8]) -> Line
     let Names::At(party_start, party_end, function_start, function_end) = call_names(line) else {
         return other(line);
     };
-    let mut numbers = [0i64; 256];
+    let mut numbers = [0i64; Line::NUMBERS];
     let Found::At(values, assets) = arguments(line, function_end, &mut numbers) else {
         return other(line);
     };

@@ -106,7 +106,7 @@ module _ (w : List ℕ) (s : State) (i : Invocation) (e : s .agreed ≡ true) wh
     by-found : called (contractOf w) s i ≡ byChosen s i (chosenIn w r)
     by-found =
         by-due ∙ ap (callByDue (contractOf w) s i) d
-        ∙ ap (byChosen s i) (choose-named (contractOf w) (s .state) i 0 (contractOf w .functions) ∙ f .same)
+        ∙ ap (byChosen s i) (choose-named (contractOf w) s i 0 (contractOf w .functions) ∙ f .same)
 
     pub call-unknown : r ≡ found.Nothing → refused s 26 ≡ called (contractOf w) s i
     call-unknown q = sym (by-found ∙ ap (λ (x : Found). byChosen s i (chosenIn w x)) q)

@@ -4,6 +4,7 @@ use mathlib.Core.List.{List}
 use Prim.Native.Nat.{ℕ, _+_, _-_, _<_, _≤_}
 use native.Mathlib.Omega.{arith}
 use lib.ListN.{length}
+use Rattle.laws.specs.Choice.{pick}
 use Rattle.contract.specs.Table.{wordAt, functionWord, eventWord, argumentAt}
 use Rattle.contract.specs.Tree as tree
 use Rattle.contract.specs.Decode.{expressionAt, blockWithin, blockBetween, eventAt, contractOf}
@@ -25,7 +26,7 @@ zero-row w i h =
     λ k. record { state = sym (event-word-past w i 0 h) k; last = sym (event-word-past w i 1 h) k; node = sym (event-word-past w i 2 h) k }
 
 no-handler : (w : List ℕ) (e : tree.Event) → e ≡ noEvent → HandlerOf w e (record { from = 0; end = 0; last = 0 })
-unfolding blockWithin
+unfolding blockWithin pick
 no-handler w e q = record { block = sym (ap (λ (x : tree.Event). x .handler) q); last = sym (ap (λ (x : tree.Event). x .last) q) }
 
 module _ (w : List ℕ) (p : Pending) (c : TableHead) (h : c ≡ headOf w) where

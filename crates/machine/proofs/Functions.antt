@@ -20,12 +20,13 @@ use Rattle.contract.specs.declared.Function as rows
 use Rattle.contract.specs.Decode.{eachFrom, wordOf, preconditionAt, blockBetween, eventAt, functionAt, contractOf}
 use Rattle.contract.specs.Check.{nameOk, scopeAt, preconditionOk, bodyOk, eventOk, eventFirst, firstNode, firstEvent, functionNodesOk, functionOk, passes}
 use Rattle.contract_laws.proofs.Sound.{passed}
+use Rattle.state.specs.declared.State.{State}
 use Rattle.state.specs.States.{noEvent}
 use Rattle.state.proofs.Decoded.{each-length, each-at}
 use Rattle.agreements.proofs.Clauses.{party-name}
 use Rattle.machine.specs.declared.Found.the-variants as found
 use Rattle.machine.specs.Steps.{Invocation, Chosen, chosen, unknown, choose, answersTo}
-use Rattle.machine.specs.Private.{naming, FoundIn}
+use Rattle.machine.specs.Private.{naming, inState, FoundIn}
 
 -- ---- what passing says of function i
 pub record Placed (w : List ℕ) (i : ℕ) : Type 0 where
@@ -80,25 +81,25 @@ placed w e i h =
 
 -- ---- whether a function is called
 module _ (w : List ℕ) (i q : ℕ) (a b : List ℕ) where
-  pub other-state : (functionWord w i 0 ≡ q → ⊥) → false ≡ answersTo (contractOf w) q (naming a b) (functionAt w i)
+  pub other-state : (functionWord w i 0 ≡ q → ⊥) → false ≡ answersTo (contractOf w) (inState q) (naming a b) (functionAt w i)
   unfolding answersTo functionAt
   other-state n = sym (rw (ne-eqb (functionWord w i 0) q n))
 
   module _ (h : functionWord w i 1 < wordAt w 0) (e : functionWord w i 0 ≡ q) where
-    named : answersTo (contractOf w) q (naming a b) (functionAt w i) ≡ (sameBytes a (wordOf w (partiesStart + functionWord w i 1 * nameWords)) && sameBytes b (wordOf w (functionsStart + i * functionWords + 10)))
+    named : answersTo (contractOf w) (inState q) (naming a b) (functionAt w i) ≡ (sameBytes a (wordOf w (partiesStart + functionWord w i 1 * nameWords)) && sameBytes b (wordOf w (functionsStart + i * functionWords + 10)))
     unfolding answersTo functionAt
     named =
         rw (eq-eqb (functionWord w i 0) q e)
         (λ j. sameBytes a (party-name w (functionWord w i 1) h j) && sameBytes b (wordOf w (functionsStart + i * functionWords + 10)))
 
-    pub other-party : sameBytes a (wordOf w (partiesStart + functionWord w i 1 * nameWords)) ≡ false → false ≡ answersTo (contractOf w) q (naming a b) (functionAt w i)
+    pub other-party : sameBytes a (wordOf w (partiesStart + functionWord w i 1 * nameWords)) ≡ false → false ≡ answersTo (contractOf w) (inState q) (naming a b) (functionAt w i)
     other-party n = sym (named ∙ rw n)
 
-    pub same-party : sameBytes a (wordOf w (partiesStart + functionWord w i 1 * nameWords)) ≡ true → sameBytes b (wordOf w (functionsStart + i * functionWords + 10)) ≡ answersTo (contractOf w) q (naming a b) (functionAt w i)
+    pub same-party : sameBytes a (wordOf w (partiesStart + functionWord w i 1 * nameWords)) ≡ true → sameBytes b (wordOf w (functionsStart + i * functionWords + 10)) ≡ answersTo (contractOf w) (inState q) (naming a b) (functionAt w i)
     same-party n = sym (named ∙ rw n)
 
 -- ---- the first function that is called, turn by turn
-module _ (c : Contract) (q : ℕ) (m : Invocation) (f : ℕ → Function) (n i : ℕ) where
+module _ (c : Contract) (q : State) (m : Invocation) (f : ℕ → Function) (n i : ℕ) where
   choose-at : i < n → choose c q m i (eachFrom i (n - i) f) ≡ pick (answersTo c q m (f i)) (chosen i (f i)) (choose c q m (i + 1) (eachFrom (i + 1) (n - (i + 1)) f))
   unfolding choose eachFrom
   choose-at h =
@@ -123,34 +124,34 @@ module _ (c : Contract) (q : ℕ) (m : Invocation) (f : ℕ → Function) (n i :
 
 -- from number i on
 abbrev pub onward : List ℕ → ℕ → Invocation → ℕ → Chosen
-onward w q m i = choose (contractOf w) q m i (eachFrom i (wordAt w 6 - i) (functionAt w))
+onward w q m i = choose (contractOf w) (inState q) m i (eachFrom i (wordAt w 6 - i) (functionAt w))
 
-pub onward-first : (w : List ℕ) (q : ℕ) (m : Invocation) → choose (contractOf w) q m 0 (contractOf w .functions) ≡ onward w q m 0
+pub onward-first : (w : List ℕ) (q : ℕ) (m : Invocation) → choose (contractOf w) (inState q) m 0 (contractOf w .functions) ≡ onward w q m 0
 unfolding contractOf
 onward-first w q m =
     let e : wordAt w 6 ≡ wordAt w 6 - 0 = omega arith in
-    ap (λ (k : ℕ). choose (contractOf w) q m 0 (eachFrom 0 k (functionAt w))) e
+    ap (λ (k : ℕ). choose (contractOf w) (inState q) m 0 (eachFrom 0 k (functionAt w))) e
 
-module _ (w : List ℕ) (q : ℕ) (m : Invocation) (i : ℕ) (e : choose (contractOf w) q m 0 (contractOf w .functions) ≡ onward w q m i) where
-  pub found-here : i < wordAt w 6 → answersTo (contractOf w) q m (functionAt w i) ≡ true → FoundIn w q m (found.At i)
+module _ (w : List ℕ) (q : ℕ) (m : Invocation) (i : ℕ) (e : choose (contractOf w) (inState q) m 0 (contractOf w .functions) ≡ onward w q m i) where
+  pub found-here : i < wordAt w 6 → answersTo (contractOf w) (inState q) m (functionAt w i) ≡ true → FoundIn w q m (found.At i)
   found-here h t =
       record {
-        same = e ∙ choose-hit (contractOf w) q m (functionAt w) (wordAt w 6) i h t;
+        same = e ∙ choose-hit (contractOf w) (inState q) m (functionAt w) (wordAt w 6) i h t;
         within = λ n r. let d : i ≡ n = cc in omega arith;
       }
 
   pub found-none : wordAt w 6 ≤ i → FoundIn w q m found.Nothing
   found-none h =
       record {
-        same = e ∙ choose-end (contractOf w) q m (functionAt w) (wordAt w 6) i h;
+        same = e ∙ choose-end (contractOf w) (inState q) m (functionAt w) (wordAt w 6) i h;
         within = λ n r. let z : _≡_ {A = ℕ} 0 1 = cc in absurd (omega arith);
       }
 
--- the arguments of a call do not matter for which function is called
-pub choose-named : (c : Contract) (q : ℕ) (m : Invocation) (n : ℕ) (fs : List Function) → choose c q m n fs ≡ choose c q (naming (m .caller) (m .function)) n fs
+-- the arguments of a call, and all of a state but its state, do not matter for which function is called
+pub choose-named : (c : Contract) (s : State) (m : Invocation) (n : ℕ) (fs : List Function) → choose c s m n fs ≡ choose c (inState (s .state)) (naming (m .caller) (m .function)) n fs
 unfolding choose answersTo
-choose-named c q m n [] = refl
-choose-named c q m n (f ∷ fs) = ap (pick (answersTo c q m f) (chosen n f)) (choose-named c q m (suc n) fs)
+choose-named c s m n [] = refl
+choose-named c s m n (f ∷ fs) = ap (pick (answersTo c s m f) (chosen n f)) (choose-named c s m (suc n) fs)
 
 -- ---- a function's row, and what stands there
 module _ (w : List ℕ) (n : ℕ) (row : rows.Function) (r : row ≡ functionRowOf w n) where

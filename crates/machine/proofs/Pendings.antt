@@ -1,5 +1,5 @@
 -- Steps keep the number of pending events within its bound, and the arrays of a state and of an answer at their lengths. Assumes nothing.
-use mathlib.Core.Path.{_≡_, _∙_}
+use mathlib.Core.Path.{_≡_, refl, _∙_}
 use mathlib.Core.Bool.{true, false, not}
 use mathlib.Core.List.{List, [], _∷_, _++_}
 use Prim.Native.Nat.{ℕ, suc, _+_, _-_, _≤_}
@@ -22,36 +22,38 @@ use Rattle.state.specs.declared.State.{State}
 use Rattle.state.specs.declared.Pending.{Pending}
 use Rattle.state.specs.declared.Due.{Due}
 use Rattle.state.specs.declared.Due.the-variants as due
-use Rattle.state.specs.States.{blank, live, eventOf, dueIn, withPending, lapsed, removed}
+use Rattle.state.specs.States.{blank, live, eventOf, dueIn, withPending, lapsed, removed, withInteger, opened, timePassed}
 use Rattle.laws.proofs.Members.{keep-length}
 use Rattle.laws.specs.Lists.{repeated, keep}
 use Rattle.state.proofs.Each.{without-length}
 use Rattle.state.proofs.Kept.{without}
 use Rattle.statements.specs.declared.Work.{Work}
-use Rattle.statements.specs.Running.{integerLabel, stringLabel, assetLabel, memoryIn, onward, stored, labelled, sent, place, moved, paid, withValue, withAmount, performed, byTruth, ran}
+use Rattle.statements.specs.Running.{integerLabel, stringLabel, assetLabel, memoryIn, onward, stored, labelled, sent, receiver, place, moved, paid, withValue, withAmount, performed, byTruth, ran}
+use Rattle.statements.proofs.Silent.{ran-silent}
 use Rattle.lines.specs.Lines.{Asked, asked}
 use Rattle.lines.specs.Lines as lines
 use Rattle.outcomes.specs.declared.Rule.the-variants.{Agree, Call, EventMatch, Tick}
 use Rattle.outcomes.specs.declared.Outcome.the-variants.{Accepted, Failed}
 use Rattle.outcomes.specs.declared.Stepped.{Stepped}
-use Rattle.outcomes.specs.Outcomes.{noLabel, answered, refused}
+use Rattle.outcomes.specs.Outcomes.{noLabel, noLabels, answered, refused}
 use Rattle.holdings.specs.Holdings.{amounts}
-use Rattle.machine.specs.Steps.{accepted, begun, ended, Invocation, Chosen, chosen, answersTo, choose, preconditionHolds, Scheduled, times, no, schedule, withScheduled, finished, byPrecondition, invoked, byChosen, callByDue, called, handled, fireByDue, fired, later, tickByDue, ticked}
-use Rattle.agreements.specs.Agreement.{Part, withInteger, setFields, setClause, setClauses, opened, agreedOn}
-use Rattle.machine.specs.Sessions.{partsSaid, invocationIn, takenBy, taken}
+use Rattle.machine.specs.Steps.{accepted, begun, ended, Invocation, Chosen, chosen, answersTo, choose, preconditionHolds, Scheduled, times, no, schedule, withScheduled, finished, byPrecondition, invoked, byChosen, callByDue, called, handled, fireByDue, fired, tickByDue, ticked}
+use Rattle.agreements.specs.Agreement.{Part, setFields, setClause, setClauses, agreedOn}
+use Rattle.machine.specs.Sessions.{partsSaid, invocationIn}
+use Rattle.machine.specs.Private.{takenBy, taken}
 use Rattle.laws.proofs.Members.{repeated-length}
 
 -- ---- how a step can come out
 
 pub data Outcomes (s : State) : Stepped → Type 0 where
   refusal : (n : ℕ) → Outcomes s (refused s n)
-  agrees : (c : Contract) (ps : List Part) → Outcomes s (answered (Accepted Agree) (opened c (setClauses s (c .clauses) ps)))
+  agrees : (c : Contract) (ps : List Part) → Outcomes s (answered (Accepted Agree) (opened (setClauses s (c .clauses) ps) (c .initial)))
   calls : (v : List ℤ) (hs : List ℕ) (b : Block) (q : ℕ) (ps : List Pending) → length (live s) + length ps ≤ 64
       → Outcomes s (accepted Call (ended s (ran v (s .clock) (begun s hs) b) q (live s ++ ps)) (ran v (s .clock) (begun s hs) b))
   fires : (k : ℕ) (b : Block) (q : ℕ)
       → Outcomes s (accepted EventMatch (ended s (ran [] (s .clock) (begun s []) b) q (live (removed s k))) (ran [] (s .clock) (begun s []) b))
   fails : (k n : ℕ) → Outcomes s (answered (Failed n) (removed s k))
-  ticks : Outcomes s (answered (Accepted Tick) (later (lapsed s)))
+  ticks : Outcomes s (answered (Accepted Tick) (timePassed s))
 
 module _ (c : Contract) (s : State) where
   agreement-outcomes : (ps : List Part) → Outcomes s (agreedOn c s ps)
@@ -110,11 +112,11 @@ module _ (c : Contract) (s : State) where
           (λ _. refusal 28))
           (λ _. refusal 27)
 
-    chosen-outcomes : (n : ℕ) (fs : List Function) → Outcomes s (byChosen s i (choose c (s .state) i n fs))
+    chosen-outcomes : (n : ℕ) (fs : List Function) → Outcomes s (byChosen s i (choose c s i n fs))
     unfolding choose
     chosen-outcomes n [] = refusal 26
     chosen-outcomes n (f ∷ fs) =
-        by-cases (λ (z : Chosen). Outcomes s (byChosen s i z)) (answersTo c (s .state) i f) (chosen n f) (choose c (s .state) i (suc n) fs)
+        by-cases (λ (z : Chosen). Outcomes s (byChosen s i z)) (answersTo c s i f) (chosen n f) (choose c s i (suc n) fs)
         (λ _. invoked-outcomes n f) (λ _. chosen-outcomes (suc n) fs)
 
     call-outcomes : Outcomes s (called c s i)
@@ -161,7 +163,7 @@ module _ (s : State) (h : s .pending ≤ 64) where
   removed-few : (k : ℕ) → length (live (removed s k)) ≤ 64
   removed-few k = omega (arith, length-take (removed s k .pending) (removed s k .events), removed-slotted k .pending)
 
-  lapsed-slotted : Slotted (later (lapsed s))
+  lapsed-slotted : Slotted (timePassed s)
   unfolding lapsed
   lapsed-slotted =
       let p : Pending → _ = λ x. not (eqb (x .time) (s .clock)) in
@@ -242,11 +244,11 @@ module _ (v : List ℤ) (t : ℕ) where
   performed-labels : (w : Work) (a : Action) → Labels w → Labels (performed v t w a)
   unfolding performed
   performed-labels w (assign e x) h = value-labels w (valueOf (memoryIn v t w) e) _ h (λ z. stored-labels w x z h)
-  performed-labels w (send e a) h = value-labels w (valueOf (memoryIn v t w) e) _ h (λ z. sent-labels w a z h)
+  performed-labels w (send e a) h = value-labels w (valueOf (memoryIn v t w) e) _ h (λ z. sent-labels w (receiver a) z h)
   performed-labels w (move e i j) h = amount-labels w (valueOf (memoryIn v t w) e) _ h (λ n. moved-labels w (place i) (place j) n h)
-  performed-labels w (pay e i a) h = amount-labels w (valueOf (memoryIn v t w) e) _ h (λ n. paid-labels w (place i) a n h)
+  performed-labels w (pay e i a) h = amount-labels w (valueOf (memoryIn v t w) e) _ h (λ n. paid-labels w (place i) (receiver a) n h)
   performed-labels w (moveAll i j) h = amount-labels w (valueOf (memoryIn v t w) (held i)) _ h (λ n. moved-labels w (place i) (place j) n h)
-  performed-labels w (payAll i a) h = amount-labels w (valueOf (memoryIn v t w) (held i)) _ h (λ n. paid-labels w (place i) a n h)
+  performed-labels w (payAll i a) h = amount-labels w (valueOf (memoryIn v t w) (held i)) _ h (λ n. paid-labels w (place i) (receiver a) n h)
 
   ran-labels : (w : Work) (b : Block) → Labels w → Labels (ran v t w b)
   unfolding ran
@@ -265,6 +267,15 @@ outcome-labels {s} (fires k b q) = ran-labels [] (s .clock) (begun s []) b (repe
 outcome-labels (fails k n) = repeated-length 64 noLabel
 outcome-labels ticks = repeated-length 64 noLabel
 
+-- a step that sent no label left none
+outcome-blank : {s : State} {r : Stepped} → Outcomes s r → r .count ≡ 0 → r .labels ≡ noLabels
+outcome-blank (refusal n) e = refl
+outcome-blank (agrees c ps) e = refl
+outcome-blank {s} (calls v hs b q ps l) e = ran-silent v (s .clock) (begun s hs) b e .1
+outcome-blank {s} (fires k b q) e = ran-silent [] (s .clock) (begun s []) b e .1
+outcome-blank (fails k n) e = refl
+outcome-blank ticks e = refl
+
 -- ---- firings and lines
 
 module _ (c : Contract) (s : State) where
@@ -279,3 +290,9 @@ module _ (c : Contract) (s : State) where
 
   pub labels-taken : (line : List ℕ) → length (taken c s line .labels) ≡ 64
   labels-taken line = outcome-labels (taken-outcomes c s line (asked line))
+
+  pub blank-fired : fired c s .count ≡ 0 → fired c s .labels ≡ noLabels
+  blank-fired = outcome-blank (fired-outcomes c s)
+
+  pub blank-taken : (line : List ℕ) → taken c s line .count ≡ 0 → taken c s line .labels ≡ noLabels
+  blank-taken line = outcome-blank (taken-outcomes c s line (asked line))

@@ -1,23 +1,22 @@
 -- An answer and its labels apart: a step's answer by its parts, and the end of a call. Assumes nothing.
 use mathlib.Core.Path.{_≡_, refl, sym, ap, _∙_}
 use mathlib.Core.Bool.{Bool, true, false}
-use mathlib.Core.List.{List, [], _∷_}
-use Prim.Native.Nat.{ℕ, zero, suc, _≤_}
-use lib.IntN.{ℤ, pos}
+use mathlib.Core.List.{List, []}
+use Prim.Native.Nat.{ℕ, _≤_}
+use lib.IntN.{ℤ}
 use Rattle.laws.specs.Choice.{pick}
 use Rattle.laws.proofs.Choice.{true-false}
 use Rattle.contract.specs.Tree.{Function, Contract}
 use Rattle.state.specs.declared.State.{State}
 use Rattle.state.specs.States.{stateOk}
-use Rattle.laws.specs.Lists.{repeated}
 use Rattle.state.proofs.Within.{within}
 use Rattle.statements.specs.declared.Label.{Label}
 use Rattle.statements.specs.declared.Work.{Work}
-use Rattle.statements.specs.Running.{memoryIn, labelsFrom, workFrom}
+use Rattle.statements.specs.Running.{memoryIn, workFrom}
 use Rattle.outcomes.specs.declared.Rule.the-variants.{Call}
 use Rattle.outcomes.specs.declared.Stepped.{Stepped}
 use Rattle.machine.specs.declared.Reply.{Reply}
-use Rattle.outcomes.specs.Outcomes.{noLabel, noLabels, refused}
+use Rattle.outcomes.specs.Outcomes.{noLabels, refused}
 use Rattle.holdings.specs.Holdings.{amounts}
 use Rattle.machine.specs.Steps.{accepted, begun, Scheduled, times, no, schedule, withScheduled, finished}
 use Rattle.holdings.specs.Holdings.{holdingsOf}
@@ -32,15 +31,6 @@ by-answer x t e r f ls g = (f ∙ ap (λ (y : Stepped). replyOf y) e, g ∙ ap (
 -- an answer with the labels that stood beside it
 pub with-its-labels : (x : Stepped) (r : Reply) → r ≡ replyOf x → (ls : List Label) → ls ≡ x .labels → _≡_ {A = Stepped} (record { outcome = r .outcome; state = r .state; labels = ls; count = r .count }) x
 with-its-labels x r e ls g = λ i. record { outcome = e i .outcome; state = e i .state; labels = g i; count = e i .count }
-
--- columns of zeros
-zero-labels : (n : ℕ) → labelsFrom (repeated n 0) (repeated n 0) (repeated n (pos 0)) ≡ repeated n noLabel
-unfolding repeated labelsFrom
-zero-labels zero = refl
-zero-labels (suc n) = ap (λ (l : List Label). noLabel ∷ l) (zero-labels n)
-
-pub no-labels : labelsFrom (repeated 64 0) (repeated 64 0) (repeated 64 (pos 0)) ≡ noLabels
-no-labels = zero-labels 64
 
 -- few events are pending in a state in range
 pub few-pending : (c : Contract) (s : State) → stateOk c s ≡ true → s .pending ≤ 64

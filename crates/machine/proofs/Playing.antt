@@ -24,100 +24,110 @@ use Rattle.statements.specs.Running.{labelsFrom}
 use Rattle.results.specs.declared.Report.{Report}
 use Rattle.results.specs.Coded.{codedAll, integersOf}
 use Rattle.outcomes.specs.declared.Stepped.{Stepped}
+use Rattle.outcomes.specs.Outcomes.{noLabels}
 use Rattle.machine.specs.declared.Reply.{Reply}
 use Rattle.machine.specs.declared.Next.{Next}
 use Rattle.machine.specs.declared.Played.{Played}
 use Rattle.machine.specs.Steps.{fired}
-use Rattle.machine.specs.Sessions.{taken, endOfLine, Turn, makes, wait, turnByDue, turnAt, Session, here, before, onTurn, sessionFor, session, notPlayed, played, reportsOf}
-use Rattle.machine.specs.Private.{firstNo, replyOf, TurnIs, stepped, waits, PlayedIs}
+use Rattle.machine.specs.Sessions.{Said, asks, said, heard, endOfLine, Turn, takes, wait, turnByDue, turnAt, Session, here, before, onTurn, sessionFor, session, notPlayed, played, reportsOf}
+use Rattle.machine.specs.Private.{firstNo, replyOf, takenBy, taken, TurnIs, stepped, waits, PlayedIs}
 use Rattle.step_reports.specs.Reports.{reportOf, labelReports, told as linesTold, roomIn, hasRoom, stepReports}
-use Rattle.step_reports.proofs.Reports.{Told, told-none, told-more, numbers-kept, integers-kept, sent-length, columns-told}
+use Rattle.step_reports.proofs.Reports.{Told, told-none, told-more, numbers-kept, integers-kept, sent-length, words-told}
 use Rattle.machine.proofs.Gates.{stops, goes}
-use Rattle.machine.proofs.Pendings.{Slotted, slotted-fired, slotted-taken, labels-fired, labels-taken}
+use Rattle.machine.proofs.Pendings.{Slotted, slotted-fired, slotted-taken, labels-fired, labels-taken, blank-fired, blank-taken}
 
 -- ---- how a turn comes out
 
 module _ (c : Contract) (bytes : List ℕ) (s : State) (at : ℕ) (labels : List Label) (came : Reply) where
-  pub turn-fired : (k : ℕ) → dueIn c s ≡ due.At k → came ≡ replyOf (fired c s) → labels ≡ fired c s .labels → TurnIs (record { more = true; at = at; came = came }) labels (turnAt c bytes s at)
+  pub turn-fired : (k : ℕ) → dueIn c s ≡ due.At k → came ≡ replyOf (fired c s) → labels ≡ fired c s .labels → TurnIs c s (record { more = true; at = at; came = came }) labels (turnAt c bytes s at)
   unfolding turnAt
   turn-fired k e a b =
-      subst (TurnIs (record { more = true; at = at; came = came }) labels) (sym (ap (turnByDue c bytes s at) e)) (stepped refl refl a b)
+      subst (TurnIs c s (record { more = true; at = at; came = came }) labels) (sym (ap (turnByDue bytes at) e)) (stepped refl refl a b)
 
   module _ (end : ℕ) (e : dueIn c s ≡ due.Nothing) (f : end ≡ endOfLine bytes at) where
-    pub turn-taken : (line : List ℕ) → line ≡ between bytes at end → end < length bytes → came ≡ replyOf (taken c s line) → labels ≡ taken c s line .labels → TurnIs (record { more = true; at = end + 1; came = came }) labels (turnAt c bytes s at)
-    unfolding turnAt
+    pub turn-taken : (line : List ℕ) → line ≡ between bytes at end → end < length bytes → came ≡ replyOf (taken c s line) → labels ≡ taken c s line .labels → TurnIs c s (record { more = true; at = end + 1; came = came }) labels (turnAt c bytes s at)
+    unfolding turnAt takenBy
     turn-taken line g h a b =
         let w : line ≡ between bytes at (endOfLine bytes at) = g ∙ ap (between bytes at) f in
         let n : end + 1 ≡ suc (endOfLine bytes at) = omega arith in
         let l : endOfLine bytes at < length bytes = omega arith in
-        subst (TurnIs (record { more = true; at = end + 1; came = came }) labels)
-        (sym (ap (turnByDue c bytes s at) e ∙ pick-true _ _ _ (lt-ltb _ _ l)))
+        subst (TurnIs c s (record { more = true; at = end + 1; came = came }) labels)
+        (sym (ap (turnByDue bytes at) e ∙ pick-true _ _ _ (lt-ltb _ _ l)))
         (stepped refl n (a ∙ ap (λ (x : List ℕ). replyOf (taken c s x)) w) (b ∙ ap (λ (x : List ℕ). taken c s x .labels) w))
 
-    pub turn-waits : (next : ℕ) → length bytes ≤ end → TurnIs (record { more = false; at = next; came = came }) labels (turnAt c bytes s at)
+    pub turn-waits : (next : ℕ) → length bytes ≤ end → TurnIs c s (record { more = false; at = next; came = came }) labels (turnAt c bytes s at)
     unfolding turnAt
     turn-waits next h =
         let l : length bytes ≤ endOfLine bytes at = omega arith in
-        subst (TurnIs (record { more = false; at = next; came = came }) labels)
-        (sym (ap (turnByDue c bytes s at) e ∙ pick-false _ _ _ (le-ltb _ _ l)))
+        subst (TurnIs c s (record { more = false; at = next; came = came }) labels)
+        (sym (ap (turnByDue bytes at) e ∙ pick-false _ _ _ (le-ltb _ _ l)))
         (waits refl)
 
 -- ---- turns
 
-abbrev Kept : Turn → Type 0
-Kept wait = Unit
-Kept (makes t next) = (length (t .labels) ≡ 64) × Slotted (t .state)
+module _ (c : Contract) (s : State) where
+  abbrev Kept : Turn → Type 0
+  Kept wait = Unit
+  Kept (takes x next) =
+      (length (heard c s x .labels) ≡ 64) × Slotted (heard c s x .state) × (heard c s x .count ≡ 0 → heard c s x .labels ≡ noLabels)
 
-module _ (c : Contract) (bytes : List ℕ) (s : State) (at : ℕ) (h : Slotted s) where
-  kept-by : (d : Due) → Kept (turnByDue c bytes s at d)
-  kept-by (due.At k) = (labels-fired c s, slotted-fired c s h)
-  kept-by due.Nothing =
-      by-cases Kept _ _ _ (λ _. (labels-taken c s _, slotted-taken c s _ h)) (λ _. tt)
+  module _ (bytes : List ℕ) (at : ℕ) (h : Slotted s) where
+    line-kept : (line : List ℕ) (next : ℕ) → Kept (takes (said line) next)
+    unfolding takenBy
+    line-kept line next = (labels-taken c s line, slotted-taken c s line h, blank-taken c s line)
 
-  kept : Kept (turnAt c bytes s at)
-  unfolding turnAt
-  kept = kept-by (dueIn c s)
+    kept-by : (d : Due) → Kept (turnByDue bytes at d)
+    kept-by (due.At k) = (labels-fired c s, slotted-fired c s h, blank-fired c s)
+    kept-by due.Nothing = by-cases Kept _ _ _ (λ _. line-kept (between bytes at (endOfLine bytes at)) (suc (endOfLine bytes at))) (λ _. tt)
 
--- a turn that made a step
-pub record Made (r : Next) (labels : List Label) (turn : Turn) : Type 0 where
-  pub answer : Stepped
-  pub turned : turn ≡ makes answer (r .at)
-  pub came : r .came ≡ replyOf answer
-  pub labelled : labels ≡ answer .labels
+    kept : Kept (turnAt c bytes s at)
+    unfolding turnAt
+    kept = kept-by (dueIn c s)
 
-made : {r : Next} {labels : List Label} {turn : Turn} → TurnIs r labels turn → r .more ≡ true → Made r labels turn
-made (stepped {t} {at} a b d e) h = record { answer = t; turned = ap (makes t) (sym b); came = d; labelled = e }
-made (waits a) h = true-false (sym h ∙ a)
+  -- a turn that took something up
+  pub record Made (r : Next) (labels : List Label) (turn : Turn) : Type 0 where
+    pub taken-up : Said
+    pub turned : turn ≡ takes taken-up (r .at)
+    pub came : r .came ≡ replyOf (heard c s taken-up)
+    pub labelled : labels ≡ heard c s taken-up .labels
 
-waited : {r : Next} {labels : List Label} {turn : Turn} → TurnIs r labels turn → r .more ≡ false → turn ≡ wait
-waited (stepped a b d e) h = true-false (sym a ∙ h)
-waited (waits a) h = refl
+  made : {r : Next} {labels : List Label} {turn : Turn} → TurnIs c s r labels turn → r .more ≡ true → Made r labels turn
+  made (stepped {x} {at} a b d e) h = record { taken-up = x; turned = ap (takes x) (sym b); came = d; labelled = e }
+  made (waits a) h = true-false (sym h ∙ a)
+
+  waited : {r : Next} {labels : List Label} {turn : Turn} → TurnIs c s r labels turn → r .more ≡ false → turn ≡ wait
+  waited (stepped a b d e) h = true-false (sym a ∙ h)
+  waited (waits a) h = refl
 
 -- ---- a session from its turns
 
-module _ (c : Contract) (bytes : List ℕ) (room : ℕ) (s : State) (at : ℕ) where
-  session-full : (turns : ℕ) → room < 65 → sessionFor turns c bytes room s at ≡ here s at
+module _ (hear : State → Said → Stepped) (c : Contract) (bytes : List ℕ) (room : ℕ) (s : State) (at : ℕ) where
+  -- what is done after a turn, with so many more at most
+  abbrev further : ℕ → Said → ℕ → Session
+  further k x next = before (linesTold (hear s x)) (sessionFor k hear c bytes (room - length (linesTold (hear s x))) (hear s x .state) next)
+
+  session-full : (turns : ℕ) → room < 65 → sessionFor turns hear c bytes room s at ≡ here s at
   unfolding sessionFor
   session-full zero h = refl
   session-full (suc k) h = pick-false _ _ _ (lt-leb 65 room h)
 
-  session-wait : (turns : ℕ) → turnAt c bytes s at ≡ wait → sessionFor turns c bytes room s at ≡ here s at
+  session-wait : (turns : ℕ) → turnAt c bytes s at ≡ wait → sessionFor turns hear c bytes room s at ≡ here s at
   unfolding sessionFor
   session-wait zero e = refl
   session-wait (suc k) e =
-      by-cases (λ x. x ≡ here s at) _ _ _ (λ _. ap (onTurn (here s at) (λ t next. sessionFor k c bytes (room - length (linesTold t)) (t .state) next)) e) (λ _. refl)
+      by-cases (λ x. x ≡ here s at) _ _ _ (λ _. ap (onTurn (here s at) (further k)) e) (λ _. refl)
 
-  session-step : (turns k : ℕ) (t : Stepped) (next : ℕ) → turns ≡ suc k → 65 ≤ room → turnAt c bytes s at ≡ makes t next → sessionFor turns c bytes room s at ≡ before (linesTold t) (sessionFor k c bytes (room - length (linesTold t)) (t .state) next)
+  session-step : (turns k : ℕ) (x : Said) (next : ℕ) → turns ≡ suc k → 65 ≤ room → turnAt c bytes s at ≡ takes x next → sessionFor turns hear c bytes room s at ≡ further k x next
   unfolding sessionFor
-  session-step turns k t next e h f =
-      ap (λ n. sessionFor n c bytes room s at) e ∙ pick-true _ _ _ (le-leb 65 room h) ∙ ap (onTurn (here s at) (λ t next. sessionFor k c bytes (room - length (linesTold t)) (t .state) next)) f
+  session-step turns k x next e h f =
+      ap (λ n. sessionFor n hear c bytes room s at) e ∙ pick-true _ _ _ (le-leb 65 room h) ∙ ap (onTurn (here s at) (further k)) f
 
 before-before : (a b : List Report) (e : Session) → before a (before b e) ≡ before (a ++ b) e
 before-before a b e = ap (λ l. record { state = e .state; at = e .at; reports = l }) (sym (append-assoc a b (e .reports)))
 
--- the result lines of an answer whose labels stand in three columns
-abbrev pub repliesOf : Reply → List ℕ → List ℕ → List ℤ → List Report
-repliesOf r ks ps vs = stepReports (r .outcome) (r .state .state) (r .state .clock) (r .count) ks ps vs
+-- the result lines of an answer whose labels stand in these words
+abbrev pub repliesOf : Reply → List ℤ → List Report
+repliesOf r ws = stepReports (r .outcome) (r .state .state) (r .state .clock) (r .count) ws
 
 -- what is told so far, followed by the session from here on, is the whole session
 pub record Going (c : Contract) (bytes : List ℕ) (room : ℕ) (e : Session) (numbers : List ℕ) (integers : List ℤ) (told : List ℕ) (values : List ℤ) (s : State) (at n : ℕ) : Type 0 where
@@ -126,7 +136,7 @@ pub record Going (c : Contract) (bytes : List ℕ) (room : ℕ) (e : Session) (n
   pub counted : n ≡ length so
   pub within : n ≤ room
   pub enough : room ≤ n + turns
-  pub same : e ≡ before so (sessionFor turns c bytes (room - n) s at)
+  pub same : e ≡ before so (sessionFor turns (heard c) c bytes (room - n) s at)
   pub written : Told numbers integers 0 so told values
   pub slotted : Slotted s
 
@@ -140,7 +150,7 @@ module _ {c : Contract} {bytes : List ℕ} {room : ℕ} {numbers : List ℕ} {in
         counted = refl;
         within = omega arith;
         enough = omega arith;
-        same = ap (λ k. sessionFor k c bytes k s 0) (sym e) ∙ ap (λ k. sessionFor room c bytes k s 0) z;
+        same = ap (λ k. sessionFor k (heard c) c bytes k s 0) (sym e) ∙ ap (λ k. sessionFor room (heard c) c bytes k s 0) z;
         written = told-none;
         slotted = h;
       }
@@ -159,11 +169,18 @@ module _ {c : Contract} {bytes : List ℕ} {room : ℕ} {numbers : List ℕ} {in
         }
 
     pub ended-full : room - n < 65 → PlayedIs e (record { question = 0; state = s; used = at; many = n }) numbers integers told values
-    ended-full h = ended (g .same ∙ ap (before (g .so)) (session-full c bytes (room - n) s at (g .turns) h))
+    ended-full h = ended (g .same ∙ ap (before (g .so)) (session-full (heard c) c bytes (room - n) s at (g .turns) h))
 
-    pub ended-wait : (r : Next) (labels : List Label) → TurnIs r labels (turnAt c bytes s at) → r .more ≡ false → PlayedIs e (record { question = 0; state = s; used = at; many = n }) numbers integers told values
+    pub ended-wait : (r : Next) (labels : List Label) → TurnIs c s r labels (turnAt c bytes s at) → r .more ≡ false → PlayedIs e (record { question = 0; state = s; used = at; many = n }) numbers integers told values
     ended-wait r labels t h =
-        ended (g .same ∙ ap (before (g .so)) (session-wait c bytes (room - n) s at (g .turns) (waited t h)))
+        ended (g .same ∙ ap (before (g .so)) (session-wait (heard c) c bytes (room - n) s at (g .turns) (waited c s t h)))
+
+    -- a turn that sent no label left none
+    pub left-blank : (r : Next) (labels : List Label) → TurnIs c s r labels (turnAt c bytes s at) → r .more ≡ true → r .came .count ≡ 0 → labels ≡ noLabels
+    left-blank r labels turn h z =
+        let w = made c s turn h in
+        let k = subst (Kept c s) (w .turned) (kept c s bytes at (g .slotted)) in
+        w .labelled ∙ k .2 (sym (ap (λ (x : Reply). x .count) (w .came)) ∙ z)
 
     -- there is room for the result lines of a step
     module _ (enough : 65 ≤ room - n) (whole : room ≡ roomIn (length numbers) (length integers)) where
@@ -176,24 +193,24 @@ module _ {c : Contract} {bytes : List ℕ} {room : ℕ} {numbers : List ℕ} {in
       pub goes-up : (k m : ℕ) → m ≡ pick (hasRoom told values n) (n + 1 + k) n → room - m < room - n
       goes-up k m e = let d : m ≡ n + 1 + k = e ∙ pick-true _ _ _ fit in omega arith
 
-      pub going-on : (r : Next) (ks ps : List ℕ) (vs : List ℤ) → TurnIs r (labelsFrom ks ps vs) (turnAt c bytes s at) → r .more ≡ true
+      pub going-on : (r : Next) (ws : List ℤ) → TurnIs c s r (labelsFrom ws) (turnAt c bytes s at) → r .more ≡ true
           → {m : ℕ} {more : List ℕ} {others : List ℤ}
           → m ≡ pick (hasRoom told values n) (n + 1 + min (r .came .count) 64) n
-          → more ≡ pick (hasRoom told values n) (sets told (4 * n) (codedAll (repliesOf (r .came) ks ps vs))) told
-          → others ≡ pick (hasRoom told values n) (sets values n (integersOf (repliesOf (r .came) ks ps vs))) values
+          → more ≡ pick (hasRoom told values n) (sets told (4 * n) (codedAll (repliesOf (r .came) ws))) told
+          → others ≡ pick (hasRoom told values n) (sets values n (integersOf (repliesOf (r .came) ws))) values
           → Going c bytes room e numbers integers more others (r .came .state) (r .at) m
       unfolding linesTold
-      going-on r ks ps vs turn h {m} {more} {others} up a b =
-          let w = made turn h in
-          let t : Stepped = w .answer in
-          let k = subst Kept (w .turned) (kept c bytes s at (g .slotted)) in
-          let l : length (labelsFrom ks ps vs) ≡ 64 = ap length (w .labelled) ∙ k .0 in
-          let f : repliesOf (r .came) ks ps vs ≡ linesTold t =
-          ap (λ (z : List Report). reportOf (r .came .outcome) (r .came .state .state) (r .came .state .clock) ∷ z) (columns-told (r .came .count) ks ps vs l)
+      going-on r ws turn h {m} {more} {others} up a b =
+          let w = made c s turn h in
+          let t : Stepped = heard c s (w .taken-up) in
+          let k = subst (Kept c s) (w .turned) (kept c s bytes at (g .slotted)) in
+          let l : length (labelsFrom ws) ≡ 64 = ap length (w .labelled) ∙ k .0 in
+          let f : repliesOf (r .came) ws ≡ linesTold t =
+          ap (λ (z : List Report). reportOf (r .came .outcome) (r .came .state .state) (r .came .state .clock) ∷ z) (words-told (r .came .count) ws l)
           ∙ (λ i. reportOf (w .came i .outcome) (w .came i .state .state) (w .came i .state .clock) ∷ labelReports (take (w .came i .count) (w .labelled i))) in
           let y : Told told values n (linesTold t) more others =
           subst (λ (z : List Report). Told told values n z more others) f (record { numbers-after = a ∙ pick-true _ _ _ fit; integers-after = b ∙ pick-true _ _ _ fit }) in
-          let len : length (linesTold t) ≡ suc (min (r .came .count) 64) = ap length (sym f) ∙ ap suc (sent-length (min (r .came .count) 64) ks ps vs) in
+          let len : length (linesTold t) ≡ suc (min (r .came .count) 64) = ap length (sym f) ∙ ap suc (sent-length (min (r .came .count) 64) ws) in
           let d : m ≡ n + 1 + min (r .came .count) 64 = up ∙ pick-true _ _ _ fit in
           let i : 0 + length (g .so) ≡ n = omega (arith, g .counted) in
           let j : room - n - length (linesTold t) ≡ room - m = omega arith in
@@ -206,10 +223,10 @@ module _ {c : Contract} {bytes : List ℕ} {room : ℕ} {numbers : List ℕ} {in
             enough = omega (arith, g .enough);
             same =
                 g .same
-                ∙ ap (before (g .so)) (session-step c bytes (room - n) s at (g .turns) (g .turns - 1) t (r .at) o enough (w .turned))
+                ∙ ap (before (g .so)) (session-step (heard c) c bytes (room - n) s at (g .turns) (g .turns - 1) (w .taken-up) (r .at) o enough (w .turned))
                 ∙ before-before (g .so) (linesTold t) _
-                ∙ ap (λ x. before (g .so ++ linesTold t) (sessionFor (g .turns - 1) c bytes x (t .state) (r .at))) j
-                ∙ ap (λ (x : Reply). before (g .so ++ linesTold t) (sessionFor (g .turns - 1) c bytes (room - m) (x .state) (r .at))) (sym (w .came));
+                ∙ ap (λ x. before (g .so ++ linesTold t) (sessionFor (g .turns - 1) (heard c) c bytes x (t .state) (r .at))) j
+                ∙ ap (λ (x : Reply). before (g .so ++ linesTold t) (sessionFor (g .turns - 1) (heard c) c bytes (room - m) (x .state) (r .at))) (sym (w .came));
             written = told-more (g .written) (sym i) y;
             slotted = subst (λ (x : Reply). Slotted (x .state)) (sym (w .came)) (k .1);
           }

@@ -37,8 +37,8 @@ use Rattle.outcomes.specs.declared.Stepped.{Stepped}
 use Rattle.outcomes.specs.Outcomes.{noLabels, answered, refused}
 use Rattle.machine.specs.Steps.{tickByDue, ticked}
 use Rattle.agreements.specs.Agreement.{Part, wordsIn, partsIn, agreedOn}
-use Rattle.machine.specs.Private.{replyOf, calledBy}
-use Rattle.machine.specs.Sessions.{nameIn, verbIn, namesIn, partsSaid, takenBy, endOfLine}
+use Rattle.machine.specs.Private.{replyOf, calledBy, takenBy}
+use Rattle.machine.specs.Sessions.{nameIn, verbIn, namesIn, partsSaid, endOfLine}
 
 -- ---- the lengths of the arrays in structs that are lent by value
 
@@ -100,8 +100,8 @@ module _ (line : List ℕ) where
       ∙ ap (partWith p (verbIn (p .verb)) (namesIn line (p .fields))) (values-same (p .fields) gs)
 
   parts-same : (ps : List lines.Part) → partsIn line (length ps) (headsOf ps) (spansOf (fieldsOf ps)) (valuesOf (fieldsOf ps)) ≡ partsSaid line ps
-  unfolding partsIn partsSaid headsOf fieldsOf
-  parts-same [] = refl
+  unfolding partsIn partsSaid headsOf fieldsOf spansOf valuesOf
+  parts-same [] = pick-true _ _ _ refl
   parts-same (p ∷ ps) =
       ap (λ (x : Part). x ∷ partsIn line (length ps) (headsOf ps) (drop (length (p .fields) * 2) (spansOf (p .fields ++ fieldsOf ps))) (drop (length (p .fields)) (valuesOf (p .fields ++ fieldsOf ps)))) (part-same p (fieldsOf ps))
       ∙ ap (λ (l : List ℕ). partWith p (verbIn (p .verb)) (namesIn line (p .fields)) (valuesOf (p .fields)) ∷ partsIn line (length ps) (headsOf ps) l (drop (length (p .fields)) (valuesOf (p .fields ++ fieldsOf ps)))) (spans-left (p .fields) (fieldsOf ps))

@@ -14,16 +14,16 @@ use Rattle.contract.specs.Tree.{Block, Function, Event, Contract}
 use Rattle.contract.specs.Table.{wordAt}
 use Rattle.contract.specs.Decode.{blockBetween, functionAt, contractOf}
 use Rattle.contract.specs.Check.{passes}
+use Rattle.lines.specs.Lines.{Asked, asked}
 use Rattle.state.specs.declared.State.{State}
-use Rattle.state.specs.States.{stateOk}
+use Rattle.state.specs.States.{freshAt, withState, stateOk}
 use Rattle.statements.specs.declared.Label.{Label}
-use Rattle.statements.specs.Running.{maxLabels}
 use Rattle.statements.specs.declared.Work.{Work}
 use Rattle.statements.specs.Running.{memoryIn, ran}
 use Rattle.outcomes.specs.declared.Rule.the-variants.{EventMatch}
 use Rattle.outcomes.specs.Outcomes.{answered}
 use Rattle.holdings.specs.Holdings.{reached}
-use Rattle.machine.specs.Steps.{accepted, begun, schedule, withScheduled}
+use Rattle.machine.specs.Steps.{accepted, begun, schedule, withScheduled, roomNeeded}
 use Rattle.machine.specs.declared.Found.{Found}
 use Rattle.machine.specs.declared.Found.the-variants.{At, Nothing}
 use Rattle.machine.specs.declared.Handler.{Handler}
@@ -36,11 +36,11 @@ use Rattle.machine.specs.declared.Next.{Next}
 use Rattle.machine.specs.Steps.{Invocation, Chosen, chosen, unknown, choose, called}
 use Rattle.results.specs.Coded.{codedAll, integersOf}
 use Rattle.machine.specs.declared.Played.{Played}
-use Rattle.machine.specs.Sessions.{Turn, makes, wait, Session}
+use Rattle.machine.specs.Sessions.{Said, saidBy, heard, Turn, takes, wait, Session}
 
 -- the first question that every step asks and that is answered by no, and 0 where none is
 unfoldable pub firstNo : List ℕ → ℕ → State → ℕ
-firstNo w room s = pick (passes w) (pick (stateOk (contractOf w) s) (pick (leb maxLabels room) 0 20) 4) 3
+firstNo w room s = pick (passes w) (pick (stateOk (contractOf w) s) (pick (leb (roomNeeded (contractOf w)) room) 0 20) 4) 3
 
 -- a step's answer without its labels
 abbrev pub replyOf : Stepped → Reply
@@ -55,10 +55,17 @@ isAccepted (Accepted r) = true
 isAccepted (Failed n) = false
 isAccepted (outcome.Refused n) = false
 
--- a turn's answer, with its labels beside it
-pub data TurnIs (r : Next) (labels : List Label) : Turn → Type 0 where
-  stepped : {t : Stepped} {at : ℕ} → r .more ≡ true → r .at ≡ at → r .came ≡ replyOf t → labels ≡ t .labels → TurnIs r labels (makes t at)
-  waits : r .more ≡ false → TurnIs r labels wait
+-- what a line does, by what it asks
+unfoldable pub takenBy : Contract → State → List ℕ → Asked → Stepped
+takenBy c s line a = heard c s (saidBy line a)
+
+abbrev pub taken : Contract → State → List ℕ → Stepped
+taken c s line = takenBy c s line (asked line)
+
+-- a turn's answer in state s, with its labels beside it
+pub data TurnIs (c : Contract) (s : State) (r : Next) (labels : List Label) : Turn → Type 0 where
+  stepped : {x : Said} {at : ℕ} → r .more ≡ true → r .at ≡ at → r .came ≡ replyOf (heard c s x) → labels ≡ heard c s x .labels → TurnIs c s r labels (takes x at)
+  waits : r .more ≡ false → TurnIs c s r labels wait
 
 -- a session's answer, and its result lines as numbers
 pub record PlayedIs (e : Session) (r : Played) (numbers : List ℕ) (integers : List ℤ) (told : List ℕ) (values : List ℤ) : Type 0 where
@@ -87,9 +94,13 @@ abbrev pub chosenIn : List ℕ → Found → Chosen
 chosenIn w (At n) = chosen n (functionAt w n)
 chosenIn w Nothing = unknown
 
--- the first function of the table's contract that is called
+-- a state of which only its state counts
+abbrev pub inState : ℕ → State
+inState q = withState (freshAt 0) true q
+
+-- the first function of the table's contract that is called in state q
 pub record FoundIn (w : List ℕ) (q : ℕ) (i : Invocation) (r : Found) : Type 0 where
-  pub same : choose (contractOf w) q i 0 (contractOf w .functions) ≡ chosenIn w r
+  pub same : choose (contractOf w) (inState q) i 0 (contractOf w .functions) ≡ chosenIn w r
   pub within : (n : ℕ) → r ≡ At n → n < wordAt w 6
 
 -- where an event's handler stands, and the state after it

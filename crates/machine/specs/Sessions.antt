@@ -19,13 +19,12 @@ use Rattle.lines.specs.Lines.{Span, Field, Asked, asked}
 use Rattle.lines.specs.Lines as lines
 use Rattle.lines.specs.Answers.{valuesOf}
 use Rattle.results.specs.declared.Report.{Report}
-use Rattle.outcomes.specs.declared.Rule.the-variants.{Call}
 use Rattle.outcomes.specs.declared.Stepped.{Stepped}
 use Rattle.step_reports.specs.Reports.{told, maxTold}
 use Rattle.machine.specs.declared.Played.{Played}
 use Rattle.outcomes.specs.Outcomes.{refused}
-use Rattle.machine.specs.Steps.{Invocation, called, fired, ticked}
-use Rattle.agreements.specs.Agreement.{Part, agreedOn}
+use Rattle.machine.specs.Steps.{Invocation, Request, agreement, call, firing, tick, requested}
+use Rattle.agreements.specs.Agreement.{Part}
 
 -- ---- what a line says, in the machine's terms
 
@@ -63,16 +62,24 @@ invocationIn line k =
       assets = k .lists .assets;
     }
 
--- ---- what a line does; a refused line changes nothing
+-- what a line says: a request, or the question that refuses the line
+pub data Said : Type 0 where
+  asks : Request → Said
+  unread : ℕ → Said
 
-unfoldable pub takenBy : Contract → State → List ℕ → Asked → Stepped
-takenBy c s line (lines.refused q) = refused s q
-takenBy c s line lines.tick = ticked c s
-takenBy c s line (lines.call k) = called c s (invocationIn line k)
-takenBy c s line (lines.agreement ps) = agreedOn c s (partsSaid line ps)
+abbrev pub saidBy : List ℕ → Asked → Said
+saidBy line (lines.refused q) = unread q
+saidBy line lines.tick = asks tick
+saidBy line (lines.call k) = asks (call (invocationIn line k))
+saidBy line (lines.agreement ps) = asks (agreement (partsSaid line ps))
 
-abbrev pub taken : Contract → State → List ℕ → Stepped
-taken c s line = takenBy c s line (asked line)
+abbrev pub said : List ℕ → Said
+said line = saidBy line (asked line)
+
+-- what comes of it; a refused line changes nothing
+abbrev pub heard : Contract → State → Said → Stepped
+heard c s (asks q) = requested s q c
+heard c s (unread n) = refused s n
 
 -- ---- turns
 
@@ -80,21 +87,21 @@ taken c s line = takenBy c s line (asked line)
 unfoldable pub endOfLine : List ℕ → ℕ → ℕ
 endOfLine bytes at = at + run (λ b. not (eqb b 10)) (drop at bytes)
 
--- a step, and where the next line starts; or nothing is due and no line is whole
+-- what is taken up, and where the next line starts; or nothing is due and no line is whole
 pub data Turn : Type 0 where
-  makes : Stepped → ℕ → Turn
+  takes : Said → ℕ → Turn
   wait : Turn
 
-abbrev pub turnByDue : Contract → List ℕ → State → ℕ → Due → Turn
-turnByDue c bytes s at (due.At k) = makes (fired c s) at
-turnByDue c bytes s at due.Nothing =
+abbrev pub turnByDue : List ℕ → ℕ → Due → Turn
+turnByDue bytes at (due.At k) = takes (asks firing) at
+turnByDue bytes at due.Nothing =
     pick (ltb (endOfLine bytes at) (length bytes))
-    (makes (taken c s (between bytes at (endOfLine bytes at))) (suc (endOfLine bytes at)))
+    (takes (said (between bytes at (endOfLine bytes at))) (suc (endOfLine bytes at)))
     wait
 
 -- a due event is fired; else the next line is taken
 unfoldable pub turnAt : Contract → List ℕ → State → ℕ → Turn
-turnAt c bytes s at = turnByDue c bytes s at (dueIn c s)
+turnAt c bytes s at = turnByDue bytes at (dueIn c s)
 
 -- ---- a session
 
@@ -113,21 +120,23 @@ abbrev pub before : List Report → Session → Session
 before rs e = record { state = e .state; at = e .at; reports = rs ++ e .reports }
 
 -- a turn, and what is done after it
-abbrev pub onTurn : Session → (Stepped → ℕ → Session) → Turn → Session
+abbrev pub onTurn : Session → (Said → ℕ → Session) → Turn → Session
 onTurn waiting next wait = waiting
-onTurn waiting next (makes t at) = before (told t) (next t at)
+onTurn waiting next (takes x at) = next x at
 
--- so many turns at most, while there is room for the result lines of any step
-unfoldable pub sessionFor : ℕ → Contract → List ℕ → ℕ → State → ℕ → Session
-sessionFor zero c bytes room s at = here s at
-sessionFor (suc turns) c bytes room s at =
+-- so many turns at most, while there is room for the result lines of any step; `hear` answers what is said in a state
+unfoldable pub sessionFor : ℕ → (State → Said → Stepped) → Contract → List ℕ → ℕ → State → ℕ → Session
+sessionFor zero hear c bytes room s at = here s at
+sessionFor (suc turns) hear c bytes room s at =
     pick (leb maxTold room)
-    (onTurn (here s at) (λ t next. sessionFor turns c bytes (room - length (told t)) (t .state) next) (turnAt c bytes s at))
+    (onTurn (here s at)
+    (λ x next. before (told (hear s x)) (sessionFor turns hear c bytes (room - length (told (hear s x))) (hear s x .state) next))
+    (turnAt c bytes s at))
     (here s at)
 
 -- each turn has a result line, so there are no more turns than result lines
 abbrev pub session : Contract → List ℕ → ℕ → State → Session
-session c bytes room s = sessionFor room c bytes room s 0
+session c bytes room s = sessionFor room (heard c) c bytes room s 0
 
 -- a question refused it: nothing is done
 abbrev pub notPlayed : State → ℕ → Played

@@ -1,4 +1,4 @@
--- The steps of the machine on a contract and a state: call, firing and tick, each with its questions in document 01's order.
+-- The steps of the machine on a contract and a state: call, firing and tick, each with its questions in document 01's order; the requests.
 use Prim.Native.Nat.{ℕ, suc, _+_}
 use mathlib.Core.Bool.{Bool, true, false, _&&_}
 use mathlib.Core.List.{List, [], _∷_, _++_}
@@ -24,7 +24,7 @@ use Rattle.state.specs.declared.State.{State}
 use Rattle.state.specs.declared.Pending.{Pending}
 use Rattle.state.specs.declared.Due.{Due}
 use Rattle.state.specs.declared.Due.the-variants as due
-use Rattle.state.specs.States.{blank, eventOf, live, stateOk, dueIn, withPending, lapsed, removed, maxPending}
+use Rattle.state.specs.States.{blank, eventOf, live, stateOk, dueIn, withPending, removed, timePassed, partyName, maxPending}
 use Rattle.statements.specs.declared.Work.{Work}
 use Rattle.statements.specs.Running.{maxLabels, memoryIn, ran}
 use Rattle.outcomes.specs.declared.Rule.{Rule}
@@ -32,7 +32,8 @@ use Rattle.outcomes.specs.declared.Rule.the-variants.{Call, EventMatch, Tick}
 use Rattle.outcomes.specs.declared.Outcome.the-variants.{Accepted, Failed, Refused}
 use Rattle.outcomes.specs.declared.Stepped.{Stepped}
 use Rattle.outcomes.specs.Outcomes.{noLabels, answered, refused}
-use Rattle.holdings.specs.Holdings.{amounts}
+use Rattle.holdings.specs.Holdings.{amounts, reached}
+use Rattle.agreements.specs.Agreement.{Part, agreedOn}
 
 -- ---- answers
 
@@ -57,20 +58,7 @@ begun s parameters =
 
 -- the state after statements have run, in state q, with these pending events
 abbrev pub ended : State → Work → ℕ → List Pending → State
-ended s w q ps =
-    withPending
-    (record {
-      agreed = s .agreed;
-      state = q;
-      kinds = w .kinds;
-      numbers = w .numbers;
-      texts = w .texts;
-      assets = take maxAssets (w .holdings);
-      clock = s .clock;
-      pending = s .pending;
-      events = s .events;
-    })
-    ps
+ended s w q ps = withPending (reached s w q) ps
 
 -- ---- call
 
@@ -81,11 +69,11 @@ pub record Invocation : Type 0 where
   pub values : List ℤ
   pub assets : List ℤ
 
--- the function is called by this party, by this name, in this state
-unfoldable pub answersTo : Contract → ℕ → Invocation → Function → Bool
-answersTo c q i f =
-    eqb (f .state) q
-    && (sameBytes (i .caller) (getD (c .parties) (f .party) [])
+-- the function is called by this party, by this name, in the state's state
+unfoldable pub answersTo : Contract → State → Invocation → Function → Bool
+answersTo c s i f =
+    eqb (f .state) (s .state)
+    && (sameBytes (i .caller) (partyName c s (f .party))
     && sameBytes (i .function) (f .name))
 
 -- the first of these functions that is called, with its number, counted from n
@@ -93,9 +81,9 @@ pub data Chosen : Type 0 where
   chosen : ℕ → Function → Chosen
   unknown : Chosen
 
-unfoldable pub choose : Contract → ℕ → Invocation → ℕ → List Function → Chosen
-choose c q i n [] = unknown
-choose c q i n (f ∷ fs) = pick (answersTo c q i f) (chosen n f) (choose c q i (suc n) fs)
+unfoldable pub choose : Contract → State → Invocation → ℕ → List Function → Chosen
+choose c s i n [] = unknown
+choose c s i n (f ∷ fs) = pick (answersTo c s i f) (chosen n f) (choose c s i (suc n) fs)
 
 unfoldable pub preconditionHolds : Memory → Precondition → Truth
 preconditionHolds m omitted = truth.Holds true
@@ -157,7 +145,7 @@ byChosen s i (chosen n f) = invoked s i n f
 -- 25
 abbrev pub callByDue : Contract → State → Invocation → Due → Stepped
 callByDue c s i (due.At k) = refused s 25
-callByDue c s i due.Nothing = byChosen s i (choose c (s .state) i 0 (c .functions))
+callByDue c s i due.Nothing = byChosen s i (choose c s i 0 (c .functions))
 
 -- 22
 unfoldable pub called : Contract → State → Invocation → Stepped
@@ -185,35 +173,59 @@ fired c s = pick (s .agreed) (fireByDue c s (dueIn c s)) (refused s 22)
 
 -- ---- tick
 
--- the clock rises by 1
-abbrev pub later : State → State
-later s =
-    record {
-      agreed = s .agreed;
-      state = s .state;
-      kinds = s .kinds;
-      numbers = s .numbers;
-      texts = s .texts;
-      assets = s .assets;
-      clock = suc (s .clock);
-      pending = s .pending;
-      events = s .events;
-    }
-
--- 25, then 40; events whose time equals the old clock are dropped
+-- 25, then 40
 abbrev pub tickByDue : State → Due → Stepped
 tickByDue s (due.At k) = refused s 25
-tickByDue s due.Nothing = pick (ltb (s .clock) top) (answered (Accepted Tick) (later (lapsed s))) (refused s 40)
+tickByDue s due.Nothing = pick (ltb (s .clock) top) (answered (Accepted Tick) (timePassed s)) (refused s 40)
 
 -- 22
 unfoldable pub ticked : Contract → State → Stepped
 ticked c s = pick (s .agreed) (tickByDue s (dueIn c s)) (refused s 22)
+
+-- ---- requests
+
+-- what a step can be asked for
+pub data Request : Type 0 where
+  agreement : List Part → Request
+  call : Invocation → Request
+  firing : Request
+  tick : Request
+
+abbrev pub requested : State → Request → Contract → Stepped
+requested s (agreement ps) c = agreedOn c s ps
+requested s (call i) c = called c s i
+requested s firing c = fired c s
+requested s tick c = ticked c s
+
+-- the clause of the contract that a step runs, if it runs one: function n, or event j of function n
+pub data Runs : Type 0 where
+  function : ℕ → Runs
+  event : ℕ → ℕ → Runs
+  neither : Runs
+
+abbrev pub clauseChosen : Chosen → Runs
+clauseChosen (chosen n f) = function n
+clauseChosen unknown = neither
+
+abbrev pub clauseDue : State → Due → Runs
+clauseDue s (due.At k) = let p = getD (live s) k blank in event (p .function) (p .event)
+clauseDue s due.Nothing = neither
+
+abbrev pub clauseRun : Contract → State → Request → Runs
+clauseRun c s (agreement ps) = neither
+clauseRun c s (call i) = clauseChosen (choose c s i 0 (c .functions))
+clauseRun c s firing = clauseDue s (dueIn c s)
+clauseRun c s tick = neither
+
+-- how many entries a label slice needs
+abbrev pub roomNeeded : Contract → ℕ
+roomNeeded c = maxLabels
 
 -- ---- every step first: 3, 4, 20, on a table and with a label slice of `room` entries
 unfoldable pub step : List ℕ → ℕ → State → (Contract → Stepped) → Stepped
 step w room s f =
     pick (passes w)
     (pick (stateOk (contractOf w) s)
-    (pick (leb maxLabels room) (f (contractOf w)) (refused s 20))
+    (pick (leb (roomNeeded (contractOf w)) room) (f (contractOf w)) (refused s 20))
     (refused s 4))
     (refused s 3)

@@ -23,8 +23,11 @@ ghost use Rattle.results.specs.Coded.{codedAll, integersOf};
 ghost use Rattle.step_reports.specs.Reports.{roomIn};
 ghost use Rattle.machine.specs.Sessions.{played, reportsOf};
 ghost use Rattle.agreements.specs.Agreement.{partsIn, agreedOn};
-ghost use Rattle.machine.specs.Private.{firstNo, replyOf, isAccepted, truthRefusal, naming, arguments, FoundIn, HandlerOf, ranOn, handledBy, concluded};
+ghost use Rattle.machine.specs.Private.{firstNo, replyOf, isAccepted, truthRefusal, naming, inState, arguments, FoundIn, HandlerOf, ranOn, handledBy, concluded};
+use contract::Contract;
 use contract::Event;
+use contract::Function;
+use evaluation::Holdings;
 use numbers::Answer;
 use numbers::Truth;
 use numbers::Value;
@@ -34,14 +37,13 @@ use outcomes::Stepped;
 use state::Due;
 use state::Pending;
 use state::State;
+use statements::Label;
 use statements::Ran;
 
 mod turns;
 
-// How many words a function takes in a table, and at which of them its name stands.
-const FUNCTION: usize = 43;
-
-const FUNCTION_NAME: usize = 10;
+// At which of the words of a function's row its name stands.
+const FUNCTION_NAME: usize = Function::WORDS - contract::NAME_WORDS;
 
 // What came of a session: the question that refused it or 0, the state after it, how many bytes were taken, and how many result lines
 // there are. `many` 0 with question 0 means that nothing is due and no line is whole.
@@ -52,7 +54,7 @@ pub struct Played {
     pub many: usize,
 }
 
-// A step's answer without its labels, which stand in three lent columns: their kinds, their parties and their values.
+// A step's answer without its labels, which stand in a lent array of words.
 struct Reply {
     outcome: Outcome,
     state: State,
@@ -79,25 +81,21 @@ struct Handler {
     last: usize,
 }
 
-// ---- Labels in columns.
+// ---- Labels in words.
 
 // No labels.
-fn clear(sorts: &mut [u8; 64], receivers: &mut [usize; 64], amounts: &mut [i64; 64])
-    ensures { λ _. ⌜ labelsFrom (now (sorts .exit)) (now (receivers .exit)) (now (amounts .exit)) ≡ noLabels ⌝ }
+fn clear(labels: &mut [i64; Label::ROOM])
+    ensures { λ _. ⌜ labelsFrom (now (labels .exit)) ≡ noLabels ⌝ }
 {
-    *sorts = [0u8; 64];
-    *receivers = [0usize; 64];
-    *amounts = [0i64; 64];
+    *labels = [0i64; Label::ROOM];
 }
 
 // An answer with its labels.
-fn with_labels(r: Reply, sorts: &[u8; 64], receivers: &[usize; 64], amounts: &[i64; 64]) -> Stepped
-    ensures { λ t. ⌜ t ≡ record { outcome = r .outcome; state = r .state; labels = labelsFrom (now (sorts .entry)) (now (receivers .entry)) (now (amounts .entry)); count = r .count } ⌝ }
+fn with_labels(r: Reply, labels: &[i64; Label::ROOM]) -> Stepped
+    ensures { λ t. ⌜ t ≡ record { outcome = r .outcome; state = r .state; labels = labelsFrom (now (labels .entry)); count = r .count } ⌝ }
 {
-    let kinds = *sorts;
-    let parties = *receivers;
-    let values = *amounts;
-    let labels = outcomes::labels_of(kinds, parties, values);
+    let words = *labels;
+    let labels = outcomes::labels_of(words);
     let outcome = r.outcome;
     let state = r.state;
     Stepped {
@@ -219,13 +217,11 @@ fn run_handler(
     s: State,
     left: State,
     h: Handler,
-    sorts: &mut [u8; 64],
-    receivers: &mut [usize; 64],
-    amounts: &mut [i64; 64],
+    labels: &mut [i64; Label::ROOM],
 ) -> Reply
-    requires { ⌜ labelsFrom (now sorts) (now receivers) (now amounts) ≡ noLabels ⌝ }
+    requires { ⌜ labelsFrom (now labels) ≡ noLabels ⌝ }
     ensures { λ r. ⌜ r ≡ replyOf (handledBy left (h .last) (ranOn s (blockBetween (now (table .entry)) (h .from) (h .end)))) ⌝ }
-    ensures { λ _. ⌜ labelsFrom (now (sorts .exit)) (now (receivers .exit)) (now (amounts .exit)) ≡ handledBy left (h .last) (ranOn s (blockBetween (now (table .entry)) (h .from) (h .end))) .labels ⌝ }
+    ensures { λ _. ⌜ labelsFrom (now (labels .exit)) ≡ handledBy left (h .last) (ranOn s (blockBetween (now (table .entry)) (h .from) (h .end))) .labels ⌝ }
 {
     let none = [0i64; 0];
     let mut kinds = s.kinds;
@@ -239,9 +235,7 @@ fn run_handler(
         &mut numbers,
         &mut texts,
         &mut holdings,
-        sorts,
-        receivers,
-        amounts,
+        labels,
         0,
         &none,
         s.clock,
@@ -249,7 +243,7 @@ fn run_handler(
         h.end,
     );
     if ran.refusal != 0 {
-        clear(sorts, receivers, amounts);
+        clear(labels);
         return without_labels(Outcome::Failed(ran.refusal), left);
     }
     let next = holdings::reach(left, &kinds, &numbers, &texts, &holdings, h.last);
@@ -261,37 +255,24 @@ fn run_handler(
 }
 
 // The event at place k is fired.
-fn handle(
-    table: &[u64],
-    s: State,
-    k: usize,
-    sorts: &mut [u8; 64],
-    receivers: &mut [usize; 64],
-    amounts: &mut [i64; 64],
-) -> Reply
+fn handle(table: &[u64], s: State, k: usize, labels: &mut [i64; Label::ROOM]) -> Reply
     requires { ⌜ k < length (live s) ⌝ }
-    requires { ⌜ labelsFrom (now sorts) (now receivers) (now amounts) ≡ noLabels ⌝ }
+    requires { ⌜ labelsFrom (now labels) ≡ noLabels ⌝ }
     ensures { λ r. ⌜ r ≡ replyOf (fireByDue (contractOf (now (table .entry))) s (due.At k)) ⌝ }
-    ensures { λ _. ⌜ labelsFrom (now (sorts .exit)) (now (receivers .exit)) (now (amounts .exit)) ≡ fireByDue (contractOf (now (table .entry))) s (due.At k) .labels ⌝ }
+    ensures { λ _. ⌜ labelsFrom (now (labels .exit)) ≡ fireByDue (contractOf (now (table .entry))) s (due.At k) .labels ⌝ }
 {
     let events = s.events;
     let p = events[k];
     let h = handler_of(table, p);
     let left = state::remove(s, k);
-    run_handler(table, s, left, h, sorts, receivers, amounts)
+    run_handler(table, s, left, h, labels)
 }
 
 // A firing on a contract's state.
-fn fire_on(
-    table: &[u64],
-    s: State,
-    sorts: &mut [u8; 64],
-    receivers: &mut [usize; 64],
-    amounts: &mut [i64; 64],
-) -> Reply
-    requires { ⌜ labelsFrom (now sorts) (now receivers) (now amounts) ≡ noLabels ⌝ }
+fn fire_on(table: &[u64], s: State, labels: &mut [i64; Label::ROOM]) -> Reply
+    requires { ⌜ labelsFrom (now labels) ≡ noLabels ⌝ }
     ensures { λ r. ⌜ r ≡ replyOf (fired (contractOf (now (table .entry))) s) ⌝ }
-    ensures { λ _. ⌜ labelsFrom (now (sorts .exit)) (now (receivers .exit)) (now (amounts .exit)) ≡ fired (contractOf (now (table .entry))) s .labels ⌝ }
+    ensures { λ _. ⌜ labelsFrom (now (labels .exit)) ≡ fired (contractOf (now (table .entry))) s .labels ⌝ }
 {
     if !s.agreed {
         return turn_down(s, questions::AGREED);
@@ -300,7 +281,7 @@ fn fire_on(
     let Due::At(k) = due else {
         return turn_down(s, questions::SOMETHING_DUE);
     };
-    handle(table, s, k, sorts, receivers, amounts)
+    handle(table, s, k, labels)
 }
 
 // ---- Call: the function that is called.
@@ -308,7 +289,7 @@ fn fire_on(
 // Whether function i is called by this name, by this party, in this state.
 fn answers_to(table: &[u64], i: usize, state: usize, caller: &[u8], function: &[u8]) -> bool
     requires { ⌜ (passes (now table) ≡ true) × (i < wordAt (now table) 6) ⌝ }
-    ensures { λ r. ⌜ r ≡ answersTo (contractOf (now (table .entry))) state (naming (now (caller .entry)) (now (function .entry))) (functionAt (now (table .entry)) i) ⌝ }
+    ensures { λ r. ⌜ r ≡ answersTo (contractOf (now (table .entry))) (inState state) (naming (now (caller .entry)) (now (function .entry))) (functionAt (now (table .entry)) i) ⌝ }
 {
     let row = contract::function_at(table, i);
     if row.state != state {
@@ -321,7 +302,7 @@ fn answers_to(table: &[u64], i: usize, state: usize, caller: &[u8], function: &[
     ) {
         return table_names::same_name(
             table,
-            contract::FUNCTIONS + i * FUNCTION + FUNCTION_NAME,
+            contract::FUNCTIONS + i * Function::WORDS + FUNCTION_NAME,
             function,
         );
     }
@@ -370,10 +351,10 @@ fn truth_refusal(t: Truth) -> u8
 // The precondition in the n nodes from `first` on; an omitted one is true.
 fn precondition(
     table: &[u64],
-    kinds: &[u8; 32],
-    numbers: &[i64; 32],
-    texts: &[u8; 32],
-    holdings: &[u64; 20],
+    kinds: &[u8; Contract::FIELDS],
+    numbers: &[i64; Contract::FIELDS],
+    texts: &[u8; Contract::FIELDS],
+    holdings: &[u64; Holdings::MOST],
     values: &[i64],
     clock: u64,
     first: usize,
@@ -392,10 +373,10 @@ fn precondition(
 // The time guard of event j of those from `first` on.
 fn guard(
     table: &[u64],
-    kinds: &[u8; 32],
-    numbers: &[i64; 32],
-    texts: &[u8; 32],
-    holdings: &[u64; 20],
+    kinds: &[u8; Contract::FIELDS],
+    numbers: &[i64; Contract::FIELDS],
+    texts: &[u8; Contract::FIELDS],
+    holdings: &[u64; Holdings::MOST],
     values: &[i64],
     clock: u64,
     first: usize,
@@ -425,10 +406,10 @@ fn pending(n: usize, j: usize, z: i64) -> Pending
 fn conclude(
     table: &[u64],
     s: State,
-    kinds: &[u8; 32],
-    numbers: &[i64; 32],
-    texts: &[u8; 32],
-    holdings: &[u64; 20],
+    kinds: &[u8; Contract::FIELDS],
+    numbers: &[i64; Contract::FIELDS],
+    texts: &[u8; Contract::FIELDS],
+    holdings: &[u64; Holdings::MOST],
     count: usize,
     values: &[i64],
     n: usize,
@@ -481,10 +462,10 @@ fn conclude(
 fn finish(
     table: &[u64],
     s: State,
-    kinds: &[u8; 32],
-    numbers: &[i64; 32],
-    texts: &[u8; 32],
-    holdings: &[u64; 20],
+    kinds: &[u8; Contract::FIELDS],
+    numbers: &[i64; Contract::FIELDS],
+    texts: &[u8; Contract::FIELDS],
+    holdings: &[u64; Holdings::MOST],
     ran: Ran,
     values: &[i64],
     n: usize,
@@ -516,17 +497,15 @@ fn finish(
 fn perform(
     table: &[u64],
     s: State,
-    holdings: [u64; 20],
+    holdings: [u64; Holdings::MOST],
     values: &[i64],
     n: usize,
-    sorts: &mut [u8; 64],
-    receivers: &mut [usize; 64],
-    amounts: &mut [i64; 64],
+    labels: &mut [i64; Label::ROOM],
 ) -> Reply
     requires { ⌜ (passes (now table) ≡ true) × (s .pending ≤ 64) × (n < wordAt (now table) 6) ⌝ }
-    requires { ⌜ labelsFrom (now sorts) (now receivers) (now amounts) ≡ noLabels ⌝ }
+    requires { ⌜ labelsFrom (now labels) ≡ noLabels ⌝ }
     ensures { λ r. ⌜ r ≡ replyOf (finished s n (functionAt (now (table .entry)) n) (now (values .entry)) (ran (now (values .entry)) (s .clock) (workFrom (s .kinds) (s .numbers) (s .texts) holdings noLabels 0 0) (functionAt (now (table .entry)) n .body))) ⌝ }
-    ensures { λ _. ⌜ labelsFrom (now (sorts .exit)) (now (receivers .exit)) (now (amounts .exit)) ≡ finished s n (functionAt (now (table .entry)) n) (now (values .entry)) (ran (now (values .entry)) (s .clock) (workFrom (s .kinds) (s .numbers) (s .texts) holdings noLabels 0 0) (functionAt (now (table .entry)) n .body)) .labels ⌝ }
+    ensures { λ _. ⌜ labelsFrom (now (labels .exit)) ≡ finished s n (functionAt (now (table .entry)) n) (now (values .entry)) (ran (now (values .entry)) (s .clock) (workFrom (s .kinds) (s .numbers) (s .texts) holdings noLabels 0 0) (functionAt (now (table .entry)) n .body)) .labels ⌝ }
 {
     let row = contract::function_at(table, n);
     let mut kinds = s.kinds;
@@ -540,9 +519,7 @@ fn perform(
         &mut numbers,
         &mut texts,
         &mut held,
-        sorts,
-        receivers,
-        amounts,
+        labels,
         0,
         values,
         s.clock,
@@ -554,7 +531,7 @@ fn perform(
     if is_accepted(outcome) {
         return r;
     }
-    clear(sorts, receivers, amounts);
+    clear(labels);
     r
 }
 
@@ -565,14 +542,12 @@ fn invoke(
     values: &[i64],
     assets: &[i64],
     n: usize,
-    sorts: &mut [u8; 64],
-    receivers: &mut [usize; 64],
-    amounts: &mut [i64; 64],
+    labels: &mut [i64; Label::ROOM],
 ) -> Reply
     requires { ⌜ (passes (now table) ≡ true) × (s .pending ≤ 64) × (n < wordAt (now table) 6) ⌝ }
-    requires { ⌜ labelsFrom (now sorts) (now receivers) (now amounts) ≡ noLabels ⌝ }
+    requires { ⌜ labelsFrom (now labels) ≡ noLabels ⌝ }
     ensures { λ r. ⌜ r ≡ replyOf (invoked s (arguments (now (values .entry)) (now (assets .entry))) n (functionAt (now (table .entry)) n)) ⌝ }
-    ensures { λ _. ⌜ labelsFrom (now (sorts .exit)) (now (receivers .exit)) (now (amounts .exit)) ≡ invoked s (arguments (now (values .entry)) (now (assets .entry))) n (functionAt (now (table .entry)) n) .labels ⌝ }
+    ensures { λ _. ⌜ labelsFrom (now (labels .exit)) ≡ invoked s (arguments (now (values .entry)) (now (assets .entry))) n (functionAt (now (table .entry)) n) .labels ⌝ }
 {
     let row = contract::function_at(table, n);
     if values.len() != row.values {
@@ -606,7 +581,7 @@ fn invoke(
     if !holds {
         return turn_down(s, questions::PRECONDITION);
     }
-    perform(table, s, holdings, values, n, sorts, receivers, amounts)
+    perform(table, s, holdings, values, n, labels)
 }
 
 // A call on a contract's state.
@@ -617,14 +592,12 @@ fn call_on(
     function: &[u8],
     values: &[i64],
     assets: &[i64],
-    sorts: &mut [u8; 64],
-    receivers: &mut [usize; 64],
-    amounts: &mut [i64; 64],
+    labels: &mut [i64; Label::ROOM],
 ) -> Reply
     requires { ⌜ (passes (now table) ≡ true) × (s .pending ≤ 64) ⌝ }
-    requires { ⌜ labelsFrom (now sorts) (now receivers) (now amounts) ≡ noLabels ⌝ }
+    requires { ⌜ labelsFrom (now labels) ≡ noLabels ⌝ }
     ensures { λ r. ⌜ r ≡ replyOf (called (contractOf (now (table .entry))) s (record { caller = now (caller .entry); function = now (function .entry); values = now (values .entry); assets = now (assets .entry) })) ⌝ }
-    ensures { λ _. ⌜ labelsFrom (now (sorts .exit)) (now (receivers .exit)) (now (amounts .exit)) ≡ called (contractOf (now (table .entry))) s (record { caller = now (caller .entry); function = now (function .entry); values = now (values .entry); assets = now (assets .entry) }) .labels ⌝ }
+    ensures { λ _. ⌜ labelsFrom (now (labels .exit)) ≡ called (contractOf (now (table .entry))) s (record { caller = now (caller .entry); function = now (function .entry); values = now (values .entry); assets = now (assets .entry) }) .labels ⌝ }
 {
     if !s.agreed {
         return turn_down(s, questions::AGREED);
@@ -637,7 +610,7 @@ fn call_on(
     let Found::At(n) = found else {
         return turn_down(s, questions::FUNCTION_KNOWN);
     };
-    invoke(table, s, values, assets, n, sorts, receivers, amounts)
+    invoke(table, s, values, assets, n, labels)
 }
 
 // ---- The steps.
@@ -652,7 +625,7 @@ fn first_no(table: &[u64], s: State, room: usize) -> u8
     if !state::state_ok(table, s) {
         return questions::STATE_RANGES;
     }
-    if room < 64 {
+    if room < Label::MOST {
         return questions::LABEL_ROOM;
     }
     0
@@ -693,21 +666,9 @@ pub fn call(
     if no != 0 {
         return outcomes::refuse(s, no);
     }
-    let mut sorts = [0u8; 64];
-    let mut receivers = [0usize; 64];
-    let mut amounts = [0i64; 64];
-    let r = call_on(
-        table,
-        s,
-        caller,
-        function,
-        values,
-        assets,
-        &mut sorts,
-        &mut receivers,
-        &mut amounts,
-    );
-    with_labels(r, &sorts, &receivers, &amounts)
+    let mut labels = [0i64; Label::ROOM];
+    let r = call_on(table, s, caller, function, values, assets, &mut labels);
+    with_labels(r, &labels)
 }
 
 // The first due event is fired.
@@ -718,11 +679,9 @@ pub fn fire(table: &[u64], s: State, room: usize) -> Stepped
     if no != 0 {
         return outcomes::refuse(s, no);
     }
-    let mut sorts = [0u8; 64];
-    let mut receivers = [0usize; 64];
-    let mut amounts = [0i64; 64];
-    let r = fire_on(table, s, &mut sorts, &mut receivers, &mut amounts);
-    with_labels(r, &sorts, &receivers, &amounts)
+    let mut labels = [0i64; Label::ROOM];
+    let r = fire_on(table, s, &mut labels);
+    with_labels(r, &labels)
 }
 
 // The clock rises by 1.

@@ -10,19 +10,18 @@ ghost use Rattle.lines.specs.Lines.{asked};
 ghost use Rattle.lines.specs.Answers.{lineOf};
 ghost use Rattle.lines.specs.declared.Request.the-variants as request;
 ghost use Rattle.outcomes.specs.Outcomes.{noLabels};
-ghost use Rattle.machine.specs.Private.{replyOf, calledBy, TurnIs, PlayedIs};
+ghost use Rattle.machine.specs.Private.{replyOf, calledBy, taken, TurnIs, PlayedIs};
 ghost use Rattle.step_reports.specs.Reports.{roomIn};
-ghost use Rattle.machine.specs.Sessions.{taken, endOfLine, turnAt, session};
+ghost use Rattle.machine.specs.Sessions.{endOfLine, turnAt, session};
 use crate::Next;
 use crate::Played;
 use crate::Reply;
 use lines::Line;
 use lines::Request;
+use outcomes::Stepped;
 use state::Due;
 use state::State;
-
-// The most result lines of a step.
-const TOLD: usize = 65;
+use statements::Label;
 
 // ---- A line.
 
@@ -35,14 +34,12 @@ fn call_with(
     all: &[i64],
     values: usize,
     assets: usize,
-    sorts: &mut [u8; 64],
-    receivers: &mut [usize; 64],
-    amounts: &mut [i64; 64],
+    labels: &mut [i64; Label::ROOM],
 ) -> Reply
     requires { ⌜ (passes (now table) ≡ true) × (s .pending ≤ 64) × (values + assets ≤ length (now all)) ⌝ }
-    requires { ⌜ labelsFrom (now sorts) (now receivers) (now amounts) ≡ noLabels ⌝ }
+    requires { ⌜ labelsFrom (now labels) ≡ noLabels ⌝ }
     ensures { λ r. ⌜ r ≡ replyOf (calledBy (contractOf (now (table .entry))) s (now (caller .entry)) (now (function .entry)) (take values (now (all .entry))) (take assets (drop values (now (all .entry))))) ⌝ }
-    ensures { λ _. ⌜ labelsFrom (now (sorts .exit)) (now (receivers .exit)) (now (amounts .exit)) ≡ calledBy (contractOf (now (table .entry))) s (now (caller .entry)) (now (function .entry)) (take values (now (all .entry))) (take assets (drop values (now (all .entry)))) .labels ⌝ }
+    ensures { λ _. ⌜ labelsFrom (now (labels .exit)) ≡ calledBy (contractOf (now (table .entry))) s (now (caller .entry)) (now (function .entry)) (take values (now (all .entry))) (take assets (drop values (now (all .entry)))) .labels ⌝ }
 {
     let end = values + assets;
     crate::call_on(
@@ -52,9 +49,7 @@ fn call_with(
         function,
         &all[..values],
         &all[values..end],
-        sorts,
-        receivers,
-        amounts,
+        labels,
     )
 }
 
@@ -64,16 +59,14 @@ fn take_call(
     s: State,
     line: &[u8],
     read: Line,
-    sorts: &mut [u8; 64],
-    receivers: &mut [usize; 64],
-    amounts: &mut [i64; 64],
+    labels: &mut [i64; Label::ROOM],
 ) -> Reply
     requires { ⌜ (passes (now table) ≡ true) × (s .pending ≤ 64) ⌝ }
-    requires { ⌜ labelsFrom (now sorts) (now receivers) (now amounts) ≡ noLabels ⌝ }
+    requires { ⌜ labelsFrom (now labels) ≡ noLabels ⌝ }
     requires { ⌜ read ≡ lineOf (asked (now line)) ⌝ }
     requires { ⌜ read .request ≡ request.Call ⌝ }
     ensures { λ r. ⌜ r ≡ replyOf (taken (contractOf (now (table .entry))) s (now (line .entry))) ⌝ }
-    ensures { λ _. ⌜ labelsFrom (now (sorts .exit)) (now (receivers .exit)) (now (amounts .exit)) ≡ taken (contractOf (now (table .entry))) s (now (line .entry)) .labels ⌝ }
+    ensures { λ _. ⌜ labelsFrom (now (labels .exit)) ≡ taken (contractOf (now (table .entry))) s (now (line .entry)) .labels ⌝ }
 {
     let caller = tokens::between(line, read.party_start, read.party_end);
     let function = tokens::between(line, read.function_start, read.function_end);
@@ -86,9 +79,7 @@ fn take_call(
         &all,
         read.values,
         read.assets,
-        sorts,
-        receivers,
-        amounts,
+        labels,
     )
 }
 
@@ -122,25 +113,18 @@ fn take_agreement(table: &[u64], s: State, line: &[u8]) -> Reply
 }
 
 // What a line, the bytes before its LF, does.
-fn take_line(
-    table: &[u64],
-    s: State,
-    line: &[u8],
-    sorts: &mut [u8; 64],
-    receivers: &mut [usize; 64],
-    amounts: &mut [i64; 64],
-) -> Reply
+fn take_line(table: &[u64], s: State, line: &[u8], labels: &mut [i64; Label::ROOM]) -> Reply
     requires { ⌜ (passes (now table) ≡ true) × (s .pending ≤ 64) ⌝ }
-    requires { ⌜ labelsFrom (now sorts) (now receivers) (now amounts) ≡ noLabels ⌝ }
+    requires { ⌜ labelsFrom (now labels) ≡ noLabels ⌝ }
     ensures { λ r. ⌜ r ≡ replyOf (taken (contractOf (now (table .entry))) s (now (line .entry))) ⌝ }
-    ensures { λ _. ⌜ labelsFrom (now (sorts .exit)) (now (receivers .exit)) (now (amounts .exit)) ≡ taken (contractOf (now (table .entry))) s (now (line .entry)) .labels ⌝ }
+    ensures { λ _. ⌜ labelsFrom (now (labels .exit)) ≡ taken (contractOf (now (table .entry))) s (now (line .entry)) .labels ⌝ }
 {
     let read = lines::read(line);
     let request = read.request;
     match request {
         Request::Refused(n) => crate::turn_down(s, n),
         Request::Tick => crate::tick_on(table, s),
-        Request::Call => take_call(table, s, line, read, sorts, receivers, amounts),
+        Request::Call => take_call(table, s, line, read, labels),
         Request::Agreement => take_agreement(table, s, line),
     }
 }
@@ -162,22 +146,14 @@ fn line_end(input: &[u8], at: usize) -> usize
 }
 
 // A due event is fired; else the next line is taken.
-fn turn(
-    table: &[u64],
-    s: State,
-    input: &[u8],
-    at: usize,
-    sorts: &mut [u8; 64],
-    receivers: &mut [usize; 64],
-    amounts: &mut [i64; 64],
-) -> Next
+fn turn(table: &[u64], s: State, input: &[u8], at: usize, labels: &mut [i64; Label::ROOM]) -> Next
     requires { ⌜ (passes (now table) ≡ true) × (s .pending ≤ 64) ⌝ }
-    ensures { λ r. ⌜ TurnIs r (labelsFrom (now (sorts .exit)) (now (receivers .exit)) (now (amounts .exit))) (turnAt (contractOf (now (table .entry))) (now (input .entry)) s at) ⌝ }
+    requires { ⌜ labelsFrom (now labels) ≡ noLabels ⌝ }
+    ensures { λ r. ⌜ TurnIs (contractOf (now (table .entry))) s r (labelsFrom (now (labels .exit))) (turnAt (contractOf (now (table .entry))) (now (input .entry)) s at) ⌝ }
 {
-    crate::clear(sorts, receivers, amounts);
     let due = state::first_due(table, s);
     if let Due::At(_) = due {
-        let came = crate::fire_on(table, s, sorts, receivers, amounts);
+        let came = crate::fire_on(table, s, labels);
         return Next {
             more: true,
             at,
@@ -187,7 +163,7 @@ fn turn(
     let end = line_end(input, at);
     if end < input.len() {
         let line = tokens::between(input, at, end);
-        let came = take_line(table, s, line, sorts, receivers, amounts);
+        let came = take_line(table, s, line, labels);
         return Next {
             more: true,
             at: end + 1,
@@ -202,6 +178,17 @@ fn turn(
 }
 
 // ---- A session.
+
+// No labels, after a step that sent so many; where it sent none, there are none.
+fn clear_sent(labels: &mut [i64; Label::ROOM], count: usize)
+    requires { ⌜ (count ≡ 0 → labelsFrom (now labels) ≡ noLabels) ⌝ }
+    ensures { λ _. ⌜ labelsFrom (now (labels .exit)) ≡ noLabels ⌝ }
+{
+    if count == 0 {
+        return;
+    }
+    crate::clear(labels);
+}
 
 // How many labels there is room for after what came of a step.
 pub(crate) fn label_room(numbers: &[u64], integers: &[i64]) -> usize
@@ -222,15 +209,13 @@ pub(crate) fn play_on(
     requires { ⌜ (passes (now table) ≡ true) × (s .pending ≤ 64) ⌝ }
     ensures { λ r. ⌜ PlayedIs (session (contractOf (now (table .entry))) (now (input .entry)) (roomIn (length (now (numbers .entry))) (length (now (integers .entry)))) s) r (now (numbers .entry)) (now (integers .entry)) (now (numbers .exit)) (now (integers .exit)) ⌝ }
 {
-    let mut sorts = [0u8; 64];
-    let mut to = [0usize; 64];
-    let mut amounts = [0i64; 64];
+    let mut labels = [0i64; Label::ROOM];
     let room = step_reports::room_in(numbers, integers);
     let mut state = s;
     let mut at: usize = 0;
     let mut n: usize = 0;
-    while TOLD <= room - n {
-        let t = turn(table, state, input, at, &mut sorts, &mut to, &mut amounts);
+    while Stepped::REPORTS <= room - n {
+        let t = turn(table, state, input, at, &mut labels);
         if !t.more {
             break;
         }
@@ -245,11 +230,10 @@ pub(crate) fn play_on(
             outcome,
             state.state,
             state.clock,
-            &sorts,
-            &to,
-            &amounts,
+            &labels,
             r.count,
         );
+        clear_sent(&mut labels, r.count);
     }
     Played {
         question: 0,

@@ -23,12 +23,17 @@ pub enum Outcome {
 pub struct Stepped {
     pub outcome: Outcome,
     pub state: State,
-    pub labels: [Label; 64],
+    pub labels: [Label; Label::MOST],
     pub count: usize,
 }
 
-// 64 blank labels.
-pub fn blank_labels() -> [Label; 64]
+impl Stepped {
+    // The most result lines of a step: what came of it, and its labels.
+    pub const REPORTS: usize = 1 + Label::MOST;
+}
+
+// As many blank labels as a step may have.
+pub fn blank_labels() -> [Label; Label::MOST]
     ensures { λ r. ⌜ r ≡ noLabels ⌝ }
 {
     let blank = Label {
@@ -36,7 +41,7 @@ pub fn blank_labels() -> [Label; 64]
         party: 0,
         value: 0,
     };
-    [blank; 64]
+    [blank; Label::MOST]
 }
 
 // An answer without labels.
@@ -59,17 +64,18 @@ pub fn refuse(s: State, n: u8) -> Stepped
     answer(Outcome::Refused(n), s)
 }
 
-// The labels of three columns.
-pub fn labels_of(sorts: [u8; 64], receivers: [usize; 64], sums: [i64; 64]) -> [Label; 64]
-    ensures { λ r. ⌜ r ≡ labelsFrom sorts receivers sums ⌝ }
+// The labels of these words.
+pub fn labels_of(words: [i64; Label::ROOM]) -> [Label; Label::MOST]
+    ensures { λ r. ⌜ r ≡ labelsFrom words ⌝ }
 {
     let mut out = blank_labels();
     let mut i: usize = 0;
-    while i < 64 {
+    while i < Label::MOST {
+        let at = Label::WORDS * i;
         out[i] = Label {
-            kind: sorts[i],
-            party: receivers[i],
-            value: sums[i],
+            kind: numbers::magnitude(words[at]),
+            party: numbers::magnitude(words[at + 1]) as usize,
+            value: words[at + 2],
         };
         i += 1;
     }

@@ -1,11 +1,13 @@
 -- An agreement is accepted exactly if AGREE applies. Assumes nothing.
 use mathlib.Core.Path.{_≡_, refl, sym, ap, subst, _∙_}
-use mathlib.Core.Bool.{Bool, true, false, _&&_}
+use mathlib.Core.Bool.{Bool, true, false, _&&_, _||_}
+use mathlib.Core.Logic.{_↔_}
 use mathlib.Core.List.{List, [], _∷_}
-use Prim.Native.Nat.{ℕ, suc}
+use Prim.Native.Nat.{ℕ, suc, _^_}
 use native.Mathlib.Omega.{arith}
 use lib.ListN.{length, getD, take}
 use lib.Seq.{getD-take}
+use lib.Bits.{bitOr, and-comm}
 use lib.Dec.{eqb, ltb}
 use lib.IntN.{ℤ, pos, negsuc}
 use borrow.Author.Tests.{eqb-true, eq-eqb, le-ltb}
@@ -19,20 +21,21 @@ use Rattle.numbers.specs.declared.Answer.the-variants.{Is, Refused}
 use Rattle.contract.specs.Tree as tree
 use Rattle.contract.specs.Tree.{Word, Verb, Clause, Contract}
 use Rattle.laws.proofs.Members.{below-at}
-use Rattle.laws.proofs.Truths.{both-left, both-right, both-true}
+use Rattle.laws.proofs.Truths.{both-left, both-right, both-true, first-true, second-true, either-true}
 use Rattle.evaluation.specs.Memory.{Memory}
 use Rattle.evaluation.specs.Meaning.{fieldValue, valueOf}
 use Rattle.state.specs.declared.State.{State}
 use Rattle.state.specs.declared.Pending.{Pending}
-use Rattle.state.specs.States.{live, used, fieldOk, fieldSlotOk, assetSlotOk, stateOk}
+use Rattle.state.specs.States.{live, used, fieldOk, fieldSlotOk, assetSlotOk, stateOk, opened}
 use Rattle.state.proofs.Within.{within, unagreed}
 use Rattle.contract.specs.Limits.{maxFields, maxAssets}
 use Rattle.outcomes.specs.declared.Rule.the-variants.{Agree}
 use Rattle.outcomes.specs.declared.Outcome.the-variants.{Accepted}
 use Rattle.outcomes.specs.declared.Stepped.{Stepped}
 use Rattle.outcomes.specs.Outcomes.{answered, refused}
-use Rattle.agreements.specs.Agreement.{Part, sameVerb, sameFields, sameClause, sameClauses, setFields, setClause, setClauses, agreedFields, agreedClause, agreedClauses, opened, agreedOn}
-use Rattle.published.specs.Published.{Configuration, runtime, noState, inState, nothing, fieldNames, Empty, Says, Parts, nobody, party, withIntegers, withClause, withClauses, Values, no-field, a-field, Agreed, no-clause, set-by, agreed-by, agreement, Table2, agree, phaseOf, memoryAt, idle, Comes}
+use Rattle.agreements.specs.Agreement.{Part, sameVerb, sameFields, sameClause, sameClauses, setFields, setClause, setClauses, agreedFields, agreedClause, agreedClauses, fieldsIn, fieldsOf, sameMap, agreedOn}
+use Rattle.laws.proofs.Bits.{bitAt, bit-or, bit-zero, bit-one, all-in}
+use Rattle.published.specs.Published.{Configuration, runtime, noState, inState, nothing, fieldNames, Empty, Says, Parts, nobody, party, withIntegers, withClause, withClauses, Values, no-field, a-field, Agreed, no-clause, set-by, agreed-by, In, first, later, Names, by-this, by-another, agreement, Table2, agree, phaseOf, memoryAt, idle, Comes}
 use Rattle.published.proofs.Idle.{comes-by}
 
 -- ---- question 23
@@ -208,6 +211,63 @@ agreed-clauses s no-clause = refl
 agreed-clauses s (set-by {k = k} {p = p} q a) = both-true _ _ (ap (agreedClause s k p) q) (agreed-clauses s a)
 agreed-clauses s (agreed-by {k = k} {p = p} q v a) = both-true _ _ (ap (agreedClause s k p) q ∙ values-agreed s v) (agreed-clauses s a)
 
+-- ---- a field's bit
+
+module _ (x : ℕ) where
+  in-bit : {xs : List ℕ} → In x xs → bitAt (fieldsIn xs) x ≡ true
+  unfolding fieldsIn
+  in-bit (first {xs = xs}) = bit-or (fieldsIn xs) (2 ^ x) x ∙ second-true (bitAt (fieldsIn xs) x) (bit-one x x ∙ eq-eqb x x refl)
+  in-bit (later {y = y} {xs = xs} i) = bit-or (fieldsIn xs) (2 ^ y) x ∙ first-true (bitAt (2 ^ y) x) (in-bit i)
+
+  bit-in : (xs : List ℕ) → bitAt (fieldsIn xs) x ≡ true → In x xs
+  unfolding fieldsIn
+  bit-in [] e = true-false (sym e ∙ bit-zero x)
+  bit-in (y ∷ xs) e =
+      either-true (bitAt (fieldsIn xs) x) (bitAt (2 ^ y) x) (sym (bit-or (fieldsIn xs) (2 ^ y) x) ∙ e)
+      (λ h. later (bit-in xs h))
+      (λ h. subst (λ (z : ℕ). In x (z ∷ xs)) (eqb-true x y (sym (bit-one y x) ∙ h)) first)
+
+  module _ (v : Verb) where
+    names-bit : {ks : List Clause} → Names v x ks → bitAt (fieldsOf v ks) x ≡ true
+    unfolding fieldsOf
+    names-bit (by-this {k = k} {ks = ks} q i) =
+        ap (λ (m : ℕ). bitAt m x) (pick-true _ _ _ (verb-same v (k .verb) q))
+        ∙ bit-or (fieldsOf v ks) (fieldsIn (k .fields)) x ∙ second-true (bitAt (fieldsOf v ks) x) (in-bit i)
+    names-bit (by-another {k = k} {ks = ks} n) =
+        by-cases (λ (m : ℕ). bitAt m x ≡ true) (sameVerb v (k .verb)) _ _
+        (λ _. bit-or (fieldsOf v ks) (fieldsIn (k .fields)) x ∙ first-true (bitAt (fieldsIn (k .fields)) x) (names-bit n))
+        (λ _. names-bit n)
+
+    bit-names : (ks : List Clause) → bitAt (fieldsOf v ks) x ≡ true → Names v x ks
+    unfolding fieldsOf
+    bit-names [] e = true-false (sym e ∙ bit-zero x)
+    bit-names (k ∷ ks) e = go (bit-names ks) e
+      where
+        go : (bitAt (fieldsOf v ks) x ≡ true → Names v x ks) → bitAt (fieldsOf v (k ∷ ks)) x ≡ true → Names v x (k ∷ ks)
+        go rest =
+            by-cases (λ (m : ℕ). bitAt m x ≡ true → Names v x (k ∷ ks)) (sameVerb v (k .verb)) _ _
+            (λ q h.
+            either-true (bitAt (fieldsOf v ks) x) (bitAt (fieldsIn (k .fields)) x) (sym (bit-or (fieldsOf v ks) (fieldsIn (k .fields)) x) ∙ h)
+            (λ l. by-another (rest l))
+            (λ l. by-this (same-verb v (k .verb) q) (bit-in (k .fields) l)))
+            (λ _ h. by-another (rest h))
+
+-- the masks are equal exactly if a field is set if and only if it is agreed on
+module _ (ks : List Clause) where
+  masks-names : fieldsOf tree.set ks ≡ fieldsOf tree.ok ks → (x : ℕ) → Names tree.set x ks ↔ Names tree.ok x ks
+  masks-names e x = (
+    λ n. bit-names x tree.ok ks (ap (λ (m : ℕ). bitAt m x) (sym e) ∙ names-bit x tree.set n),
+    λ n. bit-names x tree.set ks (ap (λ (m : ℕ). bitAt m x) e ∙ names-bit x tree.ok n),
+  )
+
+  names-masks : ((x : ℕ) → Names tree.set x ks ↔ Names tree.ok x ks) → fieldsOf tree.set ks ≡ fieldsOf tree.ok ks
+  names-masks f =
+      let m = fieldsOf tree.set ks in
+      let o = fieldsOf tree.ok ks in
+      sym (all-in m o (λ x h. names-bit x tree.ok (f x .0 (bit-names x tree.set ks h))))
+      ∙ and-comm m o
+      ∙ all-in o m (λ x h. names-bit x tree.set (f x .1 (bit-names x tree.ok ks h)))
+
 -- ---- a state that is not agreed is empty
 
 module _ (c : Contract) (s : State) (o : stateOk c s ≡ true) (a : s .agreed ≡ false) where
@@ -237,7 +297,7 @@ module _ (c : Contract) (s : State) (o : stateOk c s ≡ true) (a : s .agreed �
 -- ---- the step
 
 module _ (c : Contract) (s : State) (ps : List Part) (ok : stateOk c s ≡ true) where
-  idle-opened : idle (opened c (setClauses s (c .clauses) ps)) ≡ runtime (inState (c .initial)) (withClauses (memoryAt s) (c .clauses) ps) nothing (live s)
+  idle-opened : idle (opened (setClauses s (c .clauses) ps) (c .initial)) ≡ runtime (inState (c .initial)) (withClauses (memoryAt s) (c .clauses) ps) nothing (live s)
   idle-opened = λ i. runtime (inState (c .initial)) (set-clauses s (c .clauses) ps i) nothing (live-clauses s (c .clauses) ps i)
 
   without-events : {l l' : List Pending} → l ≡ l'
@@ -253,16 +313,21 @@ module _ (c : Contract) (s : State) (ps : List Part) (ok : stateOk c s ≡ true)
   idle-unagreed : s .agreed ≡ false → idle s ≡ runtime noState (memoryAt s) nothing (live s)
   idle-unagreed a = λ i. runtime (phaseOf (a i) (s .state)) (memoryAt s) nothing (live s)
 
-  agrees-derives : s .agreed ≡ false → sameClauses c (c .clauses) ps ≡ true → agreedClauses (setClauses s (c .clauses) ps) (c .clauses) ps ≡ true
-      → Derives (answered (Accepted Agree) (opened c (setClauses s (c .clauses) ps)))
-  agrees-derives a e h C o =
+  agrees-derives : s .agreed ≡ false → sameClauses c (c .clauses) ps ≡ true → sameMap s (c .clauses) ps ≡ true
+      → Derives (answered (Accepted Agree) (opened (setClauses s (c .clauses) ps) (c .initial)))
+  unfolding sameMap
+  agrees-derives a e t C o =
       let p = same-clauses c (c .clauses) ps e in
+      let d = eqb (fieldsOf tree.set (c .clauses)) (fieldsOf tree.ok (c .clauses)) in
+      let v = agreedClauses (setClauses s (c .clauses) ps) (c .clauses) ps in
+      let h : v ≡ true = both-right d v t in
+      let n = masks-names (c .clauses) (eqb-true _ _ (both-left d v t)) in
       let g : Agreed (withClauses (memoryAt s) (c .clauses) ps) (c .clauses) ps =
       subst (λ (m : Memory). Agreed m (c .clauses) ps) (set-clauses s (c .clauses) ps) (clauses-agreed c (setClauses s (c .clauses) ps) p h) in
       subst (λ (x : Configuration). Table2 c x (agreement ps) C) (sym (idle-unagreed a))
       (subst (λ x. Table2 c (runtime noState (memoryAt s) nothing x) (agreement ps) C) (sym (unagreed-nothing c s ok a))
       (subst (Table2 c (runtime noState (memoryAt s) nothing []) (agreement ps)) (sym (idle-opened ∙ without-events (unagreed-nothing c s ok a)) ∙ o .leads-to)
-      (agree (unagreed-empty c s ok a) p g)))
+      (agree (unagreed-empty c s ok a) p n g)))
 
   on-derives : Derives (agreedOn c s ps)
   unfolding agreedOn
@@ -277,12 +342,12 @@ module _ (c : Contract) (s : State) (ps : List Part) (ok : stateOk c s ≡ true)
 
   derived-comes : {C : Configuration} (x : Bool) (l : List Pending) → s .agreed ≡ x → live s ≡ l → Table2 c (runtime (phaseOf x (s .state)) (memoryAt s) nothing l) (agreement ps) C
       → Comes (agreedOn c s ps) (Accepted Agree) [] C
-  unfolding agreedOn
-  derived-comes false l a q (agree o p g) =
+  unfolding agreedOn sameMap
+  derived-comes false l a q (agree o p n g) =
       let h : agreedClauses (setClauses s (c .clauses) ps) (c .clauses) ps ≡ true =
       agreed-clauses (setClauses s (c .clauses) ps) (subst (λ (m : Memory). Agreed m (c .clauses) ps) (sym (set-clauses s (c .clauses) ps)) g) in
-      comes-by (pick-false _ _ _ a ∙ pick-true _ _ _ (clauses-same c p) ∙ pick-true _ _ _ h)
-      (record { outcome-is = refl; labels-are = refl; leads-to = idle-opened ∙ without-events q })
+      comes-by (pick-false _ _ _ a ∙ pick-true _ _ _ (clauses-same c p) ∙ pick-true _ _ _ (both-true _ _ (eq-eqb _ _ (names-masks (c .clauses) n)) h))
+      (record { outcome-is = refl; count-is = refl; labels-are = refl; leads-to = idle-opened ∙ without-events q })
 
   pub agreement-comes : {C : Configuration} → Table2 c (idle s) (agreement ps) C → Comes (agreedOn c s ps) (Accepted Agree) [] C
   agreement-comes t = derived-comes (s .agreed) (live s) refl refl t

@@ -35,7 +35,8 @@ use Rattle.holdings.specs.Holdings.{amounts}
 use Rattle.machine.specs.Steps.{accepted, begun, ended, Invocation, Chosen, chosen, unknown, choose, preconditionHolds, Scheduled, times, no, schedule, withScheduled, finished, byPrecondition, invoked, byChosen, callByDue, called}
 use Rattle.history.proofs.Cases.{bodyRan}
 use Rattle.published.specs.Published.{here, there, Configuration, runtime, inState, nothing, inOrder, bound, unbound, Statements, First, Called, Times, integers, call, function, stateChange, Whole, whole, phaseOf, memoryAt, idle, Comes}
-use Rattle.published.proofs.Bodies.{Fit, body-runs, run-is}
+use Rattle.published.proofs.Actions.{labelsOf}
+use Rattle.published.proofs.Bodies.{Fit, body-runs, body-counts, run-is}
 use Rattle.published.proofs.Finding.{none-ready, ready-none, first-called, called-first}
 use Rattle.published.proofs.Guards.{schedule-times, times-schedule}
 use Rattle.published.proofs.Idle.{idle-standing, idle-ended, comes-by, whole-same, starts}
@@ -80,11 +81,13 @@ module _ (c : Contract) (fit : FitsContract c) (s : State) (i : Invocation) wher
       let g = fits-function c f (first-every (functionIn c) h (fit .functions)) in
       record {
         scope = scopeOf c (f .values) (f .parameters);
-        assets = fit .assets-few;
-        parameters = g .parameters;
+        limited = record { parties = fit .parties-few; assets = fit .assets-few; parameters = g .parameters };
         inside = g .body;
         few = omega (arith, g .body-few);
       }
+
+  pub call-counts : (n : ℕ) (f : Function) → choose c s i 0 (c .functions) ≡ chosen n f → bodyRan s i f .refusal ≡ 0 → bodyRan s i f .count ≡ length (labelsOf (bodyRan s i f))
+  call-counts n f e z = body-counts s (i .values) (amounts (i .assets)) (f .body) (body-fit (first-called c s i 0 n f (c .functions) e .2)) z
 
   -- ---- from the machine to the rules
 
@@ -137,16 +140,16 @@ module _ (c : Contract) (fit : FitsContract c) (s : State) (i : Invocation) wher
         (λ _. refused-derives 28))
         (λ _. refused-derives 27)
 
-  chosen-derives : s .agreed ≡ true → dueIn c s ≡ due.Nothing → (z : Chosen) → choose c (s .state) i 0 (c .functions) ≡ z → Derives (byChosen s i z)
+  chosen-derives : s .agreed ≡ true → dueIn c s ≡ due.Nothing → (z : Chosen) → choose c s i 0 (c .functions) ≡ z → Derives (byChosen s i z)
   chosen-derives a d unknown e = refused-derives 26
   chosen-derives a d (chosen n f) e =
-      let h = first-called c (s .state) i 0 n f (c .functions) e in
+      let h = first-called c s i 0 n f (c .functions) e in
       let k : h .0 ≡ n = omega (arith, h .1) in
       invoked-derives a d (subst (λ (j : ℕ). First (Called c (s .state) i) j f (c .functions)) k (h .2))
 
   due-derives : s .agreed ≡ true → (d : Due) → dueIn c s ≡ d → Derives (callByDue c s i d)
   due-derives a (due.At k) d = refused-derives 25
-  due-derives a due.Nothing d = chosen-derives a d (choose c (s .state) i 0 (c .functions)) refl
+  due-derives a due.Nothing d = chosen-derives a d (choose c s i 0 (c .functions)) refl
 
   called-derives : Derives (called c s i)
   unfolding called
@@ -189,7 +192,7 @@ module _ (c : Contract) (fit : FitsContract c) (s : State) (i : Invocation) wher
       comes-by
       (pick-true _ _ _ a
       ∙ ap (callByDue c s i) (ready-none c s 0 d)
-      ∙ ap (byChosen s i) (called-first c (s .state) i 0 h ∙ ap (λ (j : ℕ). chosen j f) (omega arith))
+      ∙ ap (byChosen s i) (called-first c s i 0 h ∙ ap (λ (j : ℕ). chosen j f) (omega arith))
       ∙ invoked-is f v (ap length e ∙ length-integers vs ∙ l) (ap (every (leZ (pos 0))) e ∙ integers-positive vs)
       (subst (λ (y : List ℕ). preconditionHolds (bound (memoryAt s) (i .values) y) (f .precondition) ≡ truth.Holds true) (sym same) q)
       (run .0)
@@ -198,6 +201,7 @@ module _ (c : Contract) (fit : FitsContract c) (s : State) (i : Invocation) wher
       k)
       (record {
         outcome-is = refl;
+        count-is = body-counts s (i .values) (amounts (i .assets)) (f .body) (body-fit h) (run .0) ∙ ap length (run .1);
         labels-are = run .1;
         leads-to = idle-ended s (bodyRan s i f) (f .last) (live s ++ ps) (i .values) a ∙ (λ j. runtime (inState (f .last)) (unbound (run .2 j)) nothing (live s ++ ps));
       })

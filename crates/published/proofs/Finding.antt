@@ -16,7 +16,7 @@ use Rattle.laws.proofs.Truths.{both-left, both-right, both-true}
 use Rattle.state.specs.declared.State.{State}
 use Rattle.state.specs.declared.Pending.{Pending}
 use Rattle.state.specs.declared.Due.the-variants.{At, Nothing}
-use Rattle.state.specs.States.{blank, eventOf, isDue, firstDue}
+use Rattle.state.specs.States.{blank, eventOf, isDue, firstDue, partyName}
 use Rattle.machine.specs.Steps.{Invocation, answersTo, chosen, choose}
 use Rattle.published.specs.Published.{First, here, there, None, end, and, Ready, Called}
 
@@ -82,12 +82,12 @@ first-at d (there ne r) = first-at d r
 
 -- ---- called
 
-module _ (c : Contract) (q : ℕ) (i : Invocation) where
-  is-called : (f : Function) → answersTo c q i f ≡ true → Called c q i f
+module _ (c : Contract) (s : State) (i : Invocation) where
+  is-called : (f : Function) → answersTo c s i f ≡ true → Called c (s .state) i f
   unfolding answersTo
   is-called f e =
-      let a = eqb (f .state) q in
-      let b = sameBytes (i .caller) (getD (c .parties) (f .party) []) in
+      let a = eqb (f .state) (s .state) in
+      let b = sameBytes (i .caller) (partyName c s (f .party)) in
       let d = sameBytes (i .function) (f .name) in
       record {
         in-state = eqb-true _ _ (both-left a (b && d) e);
@@ -95,29 +95,29 @@ module _ (c : Contract) (q : ℕ) (i : Invocation) where
         by-name = same-equal _ _ (both-right b d (both-right a (b && d) e));
       }
 
-  called-is : (f : Function) → Called c q i f → answersTo c q i f ≡ true
+  called-is : (f : Function) → Called c (s .state) i f → answersTo c s i f ≡ true
   unfolding answersTo
   called-is f r =
       both-true _ _ (eq-eqb _ _ (r .in-state))
       (both-true _ _ (subst (λ (w : List ℕ). sameBytes (i .caller) w ≡ true) (r .by-party) (same-refl (i .caller)))
       (subst (λ (w : List ℕ). sameBytes (i .function) w ≡ true) (r .by-name) (same-refl (i .function))))
 
-  pub first-called : (n k : ℕ) (f : Function) (fs : List Function) → choose c q i n fs ≡ chosen k f → (j : ℕ) × (k ≡ n + j) × First (Called c q i) j f fs
+  pub first-called : (n k : ℕ) (f : Function) (fs : List Function) → choose c s i n fs ≡ chosen k f → (j : ℕ) × (k ≡ n + j) × First (Called c (s .state) i) j f fs
   unfolding choose
   first-called n k f [] e = let z : _≡_ {A = ℕ} 0 1 = cc in absurd (omega arith)
-  first-called n k f (g ∷ fs) e = go (answersTo c q i g) refl e (first-called (suc n) k f fs)
+  first-called n k f (g ∷ fs) e = go (answersTo c s i g) refl e (first-called (suc n) k f fs)
     where
-      go : (b : Bool) → answersTo c q i g ≡ b → pick b (chosen n g) (choose c q i (suc n) fs) ≡ chosen k f
-          → (choose c q i (suc n) fs ≡ chosen k f → (j : ℕ) × (k ≡ suc n + j) × First (Called c q i) j f fs) → (j : ℕ) × (k ≡ n + j) × First (Called c q i) j f (g ∷ fs)
+      go : (b : Bool) → answersTo c s i g ≡ b → pick b (chosen n g) (choose c s i (suc n) fs) ≡ chosen k f
+          → (choose c s i (suc n) fs ≡ chosen k f → (j : ℕ) × (k ≡ suc n + j) × First (Called c (s .state) i) j f fs) → (j : ℕ) × (k ≡ n + j) × First (Called c (s .state) i) j f (g ∷ fs)
       go true h e' t =
-          let z : n ≡ k = cc (pick-true true (chosen n g) (choose c q i (suc n) fs) refl) in
-          let y : g ≡ f = cc (pick-true true (chosen n g) (choose c q i (suc n) fs) refl) in
-          (0, omega arith, subst (λ (x : Function). First (Called c q i) 0 x (g ∷ fs)) y (here (is-called g h)))
+          let z : n ≡ k = cc (pick-true true (chosen n g) (choose c s i (suc n) fs) refl) in
+          let y : g ≡ f = cc (pick-true true (chosen n g) (choose c s i (suc n) fs) refl) in
+          (0, omega arith, subst (λ (x : Function). First (Called c (s .state) i) 0 x (g ∷ fs)) y (here (is-called g h)))
       go false h e' t =
-          let r = t (sym (pick-false false (chosen n g) (choose c q i (suc n) fs) refl) ∙ e') in
+          let r = t (sym (pick-false false (chosen n g) (choose c s i (suc n) fs) refl) ∙ e') in
           (suc (r .0), omega (arith, r .1), there (λ y. true-false (sym (called-is g y) ∙ h)) (r .2))
 
-  pub called-first : (n : ℕ) {j : ℕ} {f : Function} {fs : List Function} → First (Called c q i) j f fs → choose c q i n fs ≡ chosen (n + j) f
+  pub called-first : (n : ℕ) {j : ℕ} {f : Function} {fs : List Function} → First (Called c (s .state) i) j f fs → choose c s i n fs ≡ chosen (n + j) f
   unfolding choose
   called-first n (here {x = f} r) = pick-true _ _ _ (called-is f r) ∙ ap (λ (k : ℕ). chosen k f) (omega arith)
   called-first n {f = f} (there {y = g} ne r) = pick-false _ _ _ (not-true _ ne (is-called g)) ∙ called-first (suc n) r ∙ ap (λ (k : ℕ). chosen k f) (omega arith)

@@ -1,5 +1,5 @@
--- A firing is accepted exactly if EVENT MATCH, the handler's statements and STATE CHANGE lead to an idle state, and fails exactly if
--- the handler's statements stick. Assumes nothing.
+-- A firing is accepted exactly if EVENT MATCH, the handler's statements and STATE CHANGE lead to an idle state, and fails with number n
+-- exactly if the handler's statements stick at no n. Assumes nothing.
 use mathlib.Core.Path.{_≡_, refl, sym, ap, subst, _∙_}
 use mathlib.Core.Bool.{Bool, true, false}
 use mathlib.Core.List.{List, [], _++_, append-nil}
@@ -25,13 +25,16 @@ use Rattle.outcomes.specs.declared.Rule.the-variants.{EventMatch}
 use Rattle.outcomes.specs.declared.Outcome.the-variants.{Accepted, Failed}
 use Rattle.outcomes.specs.declared.Stepped.{Stepped}
 use Rattle.machine.specs.Steps.{begun, ended, handled, fireByDue, fired}
-use Rattle.history.specs.Histories as history
+use Rattle.machine.specs.Steps as steps
 use Rattle.history.proofs.Parameters.{Parameters, ran-same}
 use Rattle.history.proofs.ContractBounds.{Bounded, BoundedEvent}
 use Rattle.history.proofs.Cases.{eventAt, handlerRan, ComesOut, refusal, fires, fails, firing-came}
+use Rattle.history.proofs.RefusalNumbers.{Stops}
 use Rattle.published.specs.Published.{Configuration, runtime, inState, nothing, inOrder, bound, unbound, without, Statements, First, Ready, no-event, match, failure, Table2, stateChange, eventMatch, eventFailed, Whole, whole, phaseOf, memoryAt, idle, Comes}
+use Rattle.published.proofs.Meeting.{meets-stuck}
+use Rattle.published.proofs.Actions.{labelsOf}
 use Rattle.published.proofs.Blocks.{Sticks, at}
-use Rattle.published.proofs.Bodies.{Fit, body-runs, body-sticks, run-is, stick-is}
+use Rattle.published.proofs.Bodies.{Fit, body-runs, body-counts, body-sticks, body-stops, run-is, stick-refused, stick-is}
 use Rattle.published.proofs.Finding.{first-ready, ready-first, first-at}
 use Rattle.published.proofs.Idle.{standing, idle-standing, idle-ended, comes-by, whole-same, starts, nothing-bound}
 
@@ -45,11 +48,13 @@ module _ (c : Contract) (b : Bounded c) (s : State) where
   handler-fit k =
       record {
         scope = scopeOf c 0 0;
-        assets = b .assets-few;
-        parameters = omega arith;
+        limited = record { parties = b .parties-few; assets = b .assets-few; parameters = omega arith };
         inside = handler-bounded k .handler-in;
         few = omega (arith, handler-bounded k .handler-few);
       }
+
+  pub handler-counts : (k : ℕ) → handlerRan c s k .refusal ≡ 0 → handlerRan c s k .count ≡ length (labelsOf (handlerRan c s k))
+  handler-counts k z = body-counts s [] [] (eventAt c s k .handler) (handler-fit k) z
 
   -- a handler names no parameter
   handler-spends : (k : ℕ) → every (λ a. eqb a 0) (drop maxAssets (handlerRan c s k .holdings)) ≡ true
@@ -85,7 +90,7 @@ module _ (c : Contract) (b : Bounded c) (s : State) where
   -- ---- from the machine to the rules
 
   module _ (few : length (live s) ≤ maxPending) where
-    fired-derives : {r : Stepped} {ls : List Label} {C : Configuration} → ComesOut c s history.firing r → Comes r (Accepted EventMatch) ls C → Whole c (idle s) match ls C
+    fired-derives : {r : Stepped} {ls : List Label} {C : Configuration} → ComesOut c s steps.firing r → Comes r (Accepted EventMatch) ls C → Whole c (idle s) match ls C
     fired-derives (refusal n) o = let z : _≡_ {A = ℕ} 0 1 = cc (o .outcome-is) in absurd (omega arith)
     fired-derives (fails k a d h) o = let z : _≡_ {A = ℕ} 0 1 = cc (o .outcome-is) in absurd (omega arith)
     fired-derives {ls = ls} {C = C} (fires k a d h) o =
@@ -96,17 +101,21 @@ module _ (c : Contract) (b : Bounded c) (s : State) where
     pub firing-derives : {ls : List Label} {C : Configuration} → Comes (fired c s) (Accepted EventMatch) ls C → Whole c (idle s) match ls C
     firing-derives o = fired-derives (firing-came c s) o
 
-  failed-derives : {r : Stepped} {n : ℕ} {ls : List Label} {C : Configuration} → ComesOut c s history.firing r → Comes r (Failed n) ls C → Table2 c (idle s) failure C
+  failed-derives : {r : Stepped} {n : ℕ} {ls : List Label} {C : Configuration} → ComesOut c s steps.firing r → Comes r (Failed n) ls C → Table2 c (idle s) (failure n) C
   failed-derives (refusal n) o = let z : _≡_ {A = ℕ} 0 1 = cc (o .outcome-is) in absurd (omega arith)
   failed-derives (fires k a d h) o = let z : _≡_ {A = ℕ} 0 1 = cc (o .outcome-is) in absurd (omega arith)
-  failed-derives {C = C} (fails k a d h) o =
-      subst (λ (x : Configuration). Table2 c x failure C) (sym (idle-standing s a))
-      (subst (Table2 c (standing s) failure) (sym (idle-removed k a) ∙ o .leads-to) (go (body-sticks s [] [] (eventAt c s k .handler) (handler-fit k) h)))
+  failed-derives {n = n} {C = C} (fails k a d h) o =
+      let e : handlerRan c s k .refusal ≡ n = cc (o .outcome-is) in
+      subst (λ (x : Configuration). Table2 c x (failure n) C) (sym (idle-standing s a))
+      (subst (Table2 c (standing s) (failure n)) (sym (idle-removed k a) ∙ o .leads-to)
+      (subst (λ (x : ℕ). Table2 c (standing s) (failure x) (runtime (inState (s .state)) (memoryAt s) nothing (without k (live s)))) e
+      (go (body-sticks s [] [] (eventAt c s k .handler) (handler-fit k) h))))
     where
-      go : Sticks (bound (memoryAt s) [] []) (inOrder (eventAt c s k .handler)) → Table2 c (standing s) failure (runtime (inState (s .state)) (memoryAt s) nothing (without k (live s)))
-      go (at r x) = eventFailed (first-due k d) r x
+      go : {x : ℕ} → Sticks (bound (memoryAt s) [] []) (inOrder (eventAt c s k .handler)) x
+          → Table2 c (standing s) (failure x) (runtime (inState (s .state)) (memoryAt s) nothing (without k (live s)))
+      go (at r x) = eventFailed (first-due k d) r (meets-stuck x _) x
 
-  pub failure-derives : {n : ℕ} {ls : List Label} {C : Configuration} → Comes (fired c s) (Failed n) ls C → Table2 c (idle s) failure C
+  pub failure-derives : {n : ℕ} {ls : List Label} {C : Configuration} → Comes (fired c s) (Failed n) ls C → Table2 c (idle s) (failure n) C
   failure-derives o = failed-derives (firing-came c s) o
 
   -- ---- from the rules to the machine
@@ -121,6 +130,7 @@ module _ (c : Contract) (b : Bounded c) (s : State) where
       comes-by (pick-true _ _ _ a ∙ ap (fireByDue c s) (due-first f) ∙ pick-true _ _ _ (eq-eqb (handlerRan c s k .refusal) 0 (t .0)))
       (record {
         outcome-is = refl;
+        count-is = handler-counts k (t .0) ∙ ap length (t .1);
         labels-are = t .1;
         leads-to = idle-fired k a ∙ (λ i. runtime (inState (eventOf c (e i) .last)) (unbound (t .2 i)) nothing (without k (live s) ++ []));
       })
@@ -129,18 +139,29 @@ module _ (c : Contract) (b : Bounded c) (s : State) where
   pub firing-comes : {ls : List Label} {C : Configuration} → Whole c (idle s) match ls C → Comes (fired c s) (Accepted EventMatch) ls C
   firing-comes t = match-comes (s .agreed) refl t
 
-  fail-comes : {C : Configuration} (x : Bool) → s .agreed ≡ x → Table2 c (runtime (phaseOf x (s .state)) (memoryAt s) nothing (live s)) failure C
-      → (n : ℕ) × Comes (fired c s) (Failed n) [] C
+  fail-comes : {n : ℕ} {C : Configuration} (x : Bool) → s .agreed ≡ x → Table2 c (runtime (phaseOf x (s .state)) (memoryAt s) nothing (live s)) (failure n) C
+      → Comes (fired c s) (Failed n) [] C
   unfolding fired handled
   fail-comes false a t = absurd (starts t)
-  fail-comes true a (eventFailed {k = k} {p = p} f r x) =
+  fail-comes {n} true a (eventFailed {k = k} {p = p} f r x y) =
       let e : getD (live s) k blank ≡ p = first-at blank f in
-      let g : Sticks (bound (memoryAt s) [] []) (inOrder (eventAt c s k .handler)) =
-      subst (λ (y : Pending). Sticks (bound (memoryAt s) [] []) (inOrder (eventOf c y .handler))) (sym e) (at r x) in (
-        handlerRan c s k .refusal,
-        comes-by (pick-true _ _ _ a ∙ ap (fireByDue c s) (due-first f) ∙ pick-false _ _ _ (ne-eqb (handlerRan c s k .refusal) 0 (stick-is s [] [] (eventAt c s k .handler) (handler-fit k) g)))
-            (record { outcome-is = refl; labels-are = refl; leads-to = idle-removed k a }),
-      )
+      let g : Sticks (bound (memoryAt s) [] []) (inOrder (eventAt c s k .handler)) n =
+      subst (λ (z : Pending). Sticks (bound (memoryAt s) [] []) (inOrder (eventOf c z .handler)) n) (sym e) (at r y) in
+      let j : handlerRan c s k .refusal ≡ n = stick-is s [] [] (eventAt c s k .handler) (handler-fit k) g in
+      comes-by (pick-true _ _ _ a ∙ ap (fireByDue c s) (due-first f) ∙ pick-false _ _ _ (ne-eqb (handlerRan c s k .refusal) 0 (stick-refused s [] [] (eventAt c s k .handler) (handler-fit k) g)))
+      (record { outcome-is = ap Failed j; count-is = refl; labels-are = refl; leads-to = idle-removed k a })
 
-  pub failure-comes : {C : Configuration} → Table2 c (idle s) failure C → (n : ℕ) × Comes (fired c s) (Failed n) [] C
+  pub failure-comes : {n : ℕ} {C : Configuration} → Table2 c (idle s) (failure n) C → Comes (fired c s) (Failed n) [] C
   failure-comes t = fail-comes (s .agreed) refl t
+
+  -- ---- the number of a failed firing is one of questions 30 to 36
+
+  failed-stops : {r : Stepped} {n : ℕ} {ls : List Label} {C : Configuration} → ComesOut c s steps.firing r → Comes r (Failed n) ls C → Stops n
+  failed-stops (refusal n) o = let z : _≡_ {A = ℕ} 0 1 = cc (o .outcome-is) in absurd (omega arith)
+  failed-stops (fires k a d h) o = let z : _≡_ {A = ℕ} 0 1 = cc (o .outcome-is) in absurd (omega arith)
+  failed-stops {n = n} (fails k a d h) o =
+      let e : handlerRan c s k .refusal ≡ n = cc (o .outcome-is) in
+      subst Stops e (body-stops s [] [] (eventAt c s k .handler) (handler-fit k) h)
+
+  pub failure-stops : {n : ℕ} {C : Configuration} → Table2 c (idle s) (failure n) C → Stops n
+  failure-stops t = failed-stops (firing-came c s) (failure-comes t)

@@ -58,15 +58,15 @@ Starts (runtime noState m r Ψ) (agreement ps) = Unit {0}
 Starts (runtime noState m r Ψ) (call i) = ⊥
 Starts (runtime noState m r Ψ) change = ⊥
 Starts (runtime noState m r Ψ) match = ⊥
-Starts (runtime noState m r Ψ) failure = ⊥
+Starts (runtime noState m r Ψ) (failure n) = ⊥
 Starts (runtime noState m r Ψ) time = ⊥
 
 pub starts : {c : Contract} {μ : Mark} {C D : Configuration} → Table2 c C μ D → Starts C μ
-starts (agree o p a) = tt
+starts (agree o p n a) = tt
 starts (function vs f n u v i p) = tt
 starts (stateChange h t l) = tt
 starts (eventMatch f) = tt
-starts (eventFailed f r x) = tt
+starts (eventFailed f r x k) = tt
 starts (tick l n) = tt
 
 -- ---- nothing but zeros after some first places

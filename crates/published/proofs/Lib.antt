@@ -1,5 +1,5 @@
-pub mod Refusals
-pub mod Inversions
+pub mod Answers
+pub mod Meeting
 pub mod Runs
 pub mod Actions
 pub mod Blocks
@@ -11,5 +11,6 @@ pub mod Ticks
 pub mod Firings
 pub mod Calls
 pub mod Agreements
+pub mod RefusedSteps
 pub mod Theorem
 pub mod IdleDetermines

@@ -1,20 +1,13 @@
--- Table 3 leads to one end only. Assumes nothing.
+-- Table 3 leads to one end only, or to one no. Assumes nothing.
 use mathlib.Core.Path.{_≡_, refl, sym, ap, subst}
-use mathlib.Core.Bool.{true, false}
 use mathlib.Core.List.{List, [], _∷_, _++_, append-assoc}
 use Prim.Native.Nat.{ℕ, _+_, _-_}
-use native.Mathlib.Omega.{arith}
-use lib.IntN.{pos}
 use Rattle.numbers.specs.declared.Value.{Value}
-use Rattle.numbers.specs.declared.Value.the-variants.{Integer}
-use Rattle.numbers.specs.declared.Answer.{Answer}
-use Rattle.numbers.specs.declared.Answer.the-variants.{Is}
-use Rattle.numbers.specs.declared.Truth.{Truth}
-use Rattle.numbers.specs.declared.Truth.the-variants.{Holds}
 use Rattle.evaluation.specs.Memory.{Memory}
 use Rattle.statements.specs.declared.Label.{Label}
-use Rattle.published.specs.Published.{Statement, amountOf, withAmount, withValue, sends, pays, Table3, valueSend, assetSend, fieldUpdate, assetUpdate, assetUpdateSelf, condTrue, condFalse, Statements, stop, next, Stuck}
-use Rattle.published.proofs.Inversions.{Carried, carried}
+use Rattle.published.specs.Published.{Statement, act, when, amountOf, withAmount, withValue, sends, pays, Table3, valueSend, assetSend, fieldUpdate, assetUpdate, assetUpdateSelf, condTrue, condFalse, Statements, stop, next, Meets}
+use Rattle.published.proofs.Answers.{same-value, same-amount, true-not-false}
+use Rattle.published.proofs.Meeting.{meets-stuck, one-no}
 
 -- one run after another
 pub then : {m m' m'' : Memory} {ss ss' ss'' : List Statement} {ls ls' : List Label}
@@ -24,15 +17,6 @@ then {m = m} {m'' = m''} {ss = ss} {ss'' = ss''} {ls' = ls'} (next {ls = a} {ls'
     subst (λ (l : List Label). Statements m ss l m'' ss'') (sym (append-assoc a b ls')) (next x (then r r'))
 
 -- ---- the rules are a function of what is left
-
-same-value : {x : Answer} {v v' : Value} → x ≡ Is v → x ≡ Is v' → v ≡ v'
-same-value p q = cc
-
-same-amount : {x : Answer} {n n' : ℕ} → x ≡ Is (Integer (pos n)) → x ≡ Is (Integer (pos n')) → n ≡ n'
-same-amount p q = cc
-
-true-not-false : {x : Truth} → x ≡ Holds true → x ≡ Holds false → ⊥
-true-not-false p q = let z : _≡_ {A = ℕ} 0 1 = cc in omega arith
 
 -- what a rule gives
 pub record Same (ls ls' : List Label) (m m' : Memory) (ss ss' : List Statement) : Type 0 where
@@ -59,6 +43,21 @@ one-end (condTrue h) (condFalse h') = absurd (true-not-false h h')
 one-end (condFalse h) (condTrue h') = absurd (true-not-false h' h)
 one-end (condFalse h) (condFalse h') = record { labels = refl; memory = refl; statements = refl }
 
+-- no rule is for no statement
+abbrev Carried : List Statement → Type 0
+Carried [] = ⊥
+Carried (act a ∷ rest) = Unit {0}
+Carried (when t s ∷ rest) = Unit {0}
+
+carried : {m m' : Memory} {ss ss' : List Statement} {ls : List Label} → Table3 m ss ls m' ss' → Carried ss
+carried (valueSend h) = tt
+carried (assetSend h l) = tt
+carried (fieldUpdate h) = tt
+carried (assetUpdate h l d f) = tt
+carried (assetUpdateSelf h l d) = tt
+carried (condTrue h) = tt
+carried (condFalse h) = tt
+
 -- where nothing is left, the run is at its end
 at-end : {m m' : Memory} {ss ss' : List Statement} {ls : List Label} → ss ≡ [] → Statements m ss ls m' ss' → Same [] ls m m' ss ss'
 at-end e stop = record { labels = refl; memory = refl; statements = refl }
@@ -78,9 +77,17 @@ one-run (next x r) (next x' r') =
     let d = one-run r (moved-over e r') in
     (λ i. e .labels i ++ d .0 i, d .1)
 
--- a run to the end leaves none that is stuck
-pub not-stuck : {m m1 m2 : Memory} {ss xs : List Statement} {x : Statement} {l1 l2 : List Label}
-    → Statements m ss l1 m1 [] → Statements m ss l2 m2 (x ∷ xs) → Stuck m2 (x ∷ xs) → ⊥
-not-stuck stop (next x r) s = carried x
-not-stuck (next x r) stop s = s .no-rule x
-not-stuck (next x r) (next x' r') s = not-stuck r (moved-over (one-end x x') r') s
+-- a run to the end comes to no statement that meets a no
+pub not-stuck : {m m1 m2 : Memory} {ss xs : List Statement} {x : Statement} {l1 l2 : List Label} {n : ℕ}
+    → Statements m ss l1 m1 [] → Statements m ss l2 m2 (x ∷ xs) → Meets m2 x n → ⊥
+not-stuck stop (next x r) k = carried x
+not-stuck (next x r) stop k = meets-stuck k _ .no-rule x
+not-stuck (next x r) (next x' r') k = not-stuck r (moved-over (one-end x x') r') k
+
+-- two runs that come to a no meet the same
+pub one-stop : {m m1 m2 : Memory} {ss xs ys : List Statement} {x y : Statement} {l1 l2 : List Label} {n k : ℕ}
+    → Statements m ss l1 m1 (x ∷ xs) → Meets m1 x n → Statements m ss l2 m2 (y ∷ ys) → Meets m2 y k → n ≡ k
+one-stop stop q stop q' = one-no q q'
+one-stop stop q (next x r) q' = absurd (meets-stuck q _ .no-rule x)
+one-stop (next x r) q stop q' = absurd (meets-stuck q' _ .no-rule x)
+one-stop (next x r) q (next x' r') q' = one-stop r q (moved-over (one-end x x') r') q'

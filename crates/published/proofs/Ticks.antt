@@ -11,15 +11,15 @@ use Rattle.contract.specs.Limits.{top}
 use Rattle.contract.specs.Tree.{Contract}
 use Rattle.state.specs.declared.State.{State}
 use Rattle.state.specs.declared.Due.the-variants as due
-use Rattle.state.specs.States.{live, dueIn, withPending, lapsed}
+use Rattle.state.specs.States.{live, dueIn, withPending, lapsed, timePassed}
 use Rattle.laws.specs.Lists.{keep}
 use Rattle.state.proofs.Within.{live-lapsed}
 use Rattle.outcomes.specs.declared.Rule.the-variants.{Tick}
 use Rattle.outcomes.specs.declared.Outcome.the-variants.{Accepted}
 use Rattle.outcomes.specs.declared.Stepped.{Stepped}
 use Rattle.outcomes.specs.Outcomes.{answered}
-use Rattle.machine.specs.Steps.{later, tickByDue, ticked}
-use Rattle.history.specs.Histories as history
+use Rattle.machine.specs.Steps.{tickByDue, ticked}
+use Rattle.machine.specs.Steps as steps
 use Rattle.history.proofs.Cases.{ComesOut, refusal, ticks, tick-came}
 use Rattle.published.specs.Published.{Configuration, runtime, inState, nothing, afterTick, phaseOf, memoryAt, idle, time, Table2, tick, Comes}
 use Rattle.published.proofs.Finding.{none-ready, ready-none}
@@ -28,11 +28,11 @@ use Rattle.published.proofs.Idle.{standing, idle-standing, comes-by, st
 module _ (c : Contract) (s : State) where
   -- the state after a tick
   idle-later : s .agreed ≡ true
-      → idle (later (lapsed s)) ≡ runtime (inState (s .state)) (afterTick (memoryAt s)) nothing (keep (λ p. not (eqb (p .time) (s .clock))) (live s))
+      → idle (timePassed s) ≡ runtime (inState (s .state)) (afterTick (memoryAt s)) nothing (keep (λ p. not (eqb (p .time) (s .clock))) (live s))
   unfolding withPending lapsed
   idle-later a = λ i. runtime (phaseOf (a i) (s .state)) (afterTick (memoryAt s)) nothing (live-lapsed s i)
 
-  came-derives : {r : Stepped} {C : Configuration} → ComesOut c s history.tick r → Comes r (Accepted Tick) [] C → Table2 c (idle s) time C
+  came-derives : {r : Stepped} {C : Configuration} → ComesOut c s steps.tick r → Comes r (Accepted Tick) [] C → Table2 c (idle s) time C
   unfolding dueIn
   came-derives (refusal n) o = let z : _≡_ {A = ℕ} 0 1 = cc (o .outcome-is) in absurd (omega arith)
   came-derives {C = C} (ticks a d l) o =
@@ -48,8 +48,8 @@ module _ (c : Contract) (s : State) where
   derived-comes false a t = absurd (starts t)
   derived-comes true a (tick l n) =
       let d : dueIn c s ≡ due.Nothing = ready-none c s 0 n in
-      let e : ticked c s ≡ answered (Accepted Tick) (later (lapsed s)) = pick-true _ _ _ a ∙ ap (tickByDue s) d ∙ pick-true _ _ _ (lt-ltb (s .clock) top l) in
-      comes-by e (record { outcome-is = refl; labels-are = refl; leads-to = idle-later a })
+      let e : ticked c s ≡ answered (Accepted Tick) (timePassed s) = pick-true _ _ _ a ∙ ap (tickByDue s) d ∙ pick-true _ _ _ (lt-ltb (s .clock) top l) in
+      comes-by e (record { outcome-is = refl; count-is = refl; labels-are = refl; leads-to = idle-later a })
 
   pub tick-comes : {C : Configuration} → Table2 c (idle s) time C → Comes (ticked c s) (Accepted Tick) [] C
   tick-comes t = derived-comes (s .agreed) refl t

@@ -1,17 +1,19 @@
--- The published rules (source 000, section 4): Table 2 and Table 3 as relations, one constructor a rule. Where document 01 changes
--- a rule or completes it, its words stand at that place.
+-- The published rules (source 000, section 4): Table 2 and Table 3 as relations, one constructor a rule; [ASSET UPDATE] has two
+-- constructors, and `eventFailed` is document 01's. Where document 01 changes a rule or completes it, its words stand at that place.
 use Prim.Native.Nat.{ℕ, suc, _+_, _-_, _<_, _≤_}
 use mathlib.Core.Path.{_≡_}
+use mathlib.Core.Logic.{_↔_}
 use mathlib.Core.Bool.{Bool, true, false, not}
 use mathlib.Core.List.{List, [], _∷_, _++_}
 use lib.ListN.{length, getD, take, drop, set}
 use lib.Dec.{eqb}
-use lib.IntN.{ℤ, pos}
+use lib.IntN.{ℤ, pos, negsuc}
 use lib.Signed.{leZ}
 use Rattle.numbers.specs.declared.Value.{Value}
 use Rattle.numbers.specs.declared.Value.the-variants.{Integer, Text}
 use Rattle.numbers.specs.declared.Answer.the-variants.{Is, Refused}
 use Rattle.numbers.specs.declared.Truth.the-variants.{Holds}
+use Rattle.numbers.specs.declared.Truth.the-variants as truth
 use Rattle.contract.specs.Limits.{top, maxFields, maxAssets, maxParameters}
 use Rattle.laws.specs.Lists.{every, repeated, keep}
 use Rattle.contract.specs.Tree as tree
@@ -25,6 +27,7 @@ use Rattle.statements.specs.declared.Label.{Label}
 use Rattle.statements.specs.Running.{integerLabel, stringLabel, assetLabel}
 use Rattle.outcomes.specs.declared.Outcome.{Outcome}
 use Rattle.outcomes.specs.declared.Stepped.{Stepped}
+use Rattle.outcomes.specs.Outcomes.{refused}
 use Rattle.machine.specs.Steps.{Invocation, preconditionHolds}
 use Rattle.agreements.specs.Agreement.{Part}
 
@@ -143,6 +146,24 @@ pub data Statements : Memory → List Statement → List Label → Memory → Li
       → Statements m' ss' ls' m'' ss''
       → Statements m ss (ls ++ ls') m'' ss''
 
+-- which no, by its number, the amount e of h meets: e has no value, a string's is none, one below 0, or more than h holds
+pub data NoAmount (m : Memory) (e : Expression) (h : Holder) : ℕ → Type 0 where
+  refuses : {n : ℕ} → valueOf m e ≡ Refused n → NoAmount m e h n
+  string : {n : ℕ} → valueOf m e ≡ Is (Text n) → NoAmount m e h 31
+  negative : {n : ℕ} → valueOf m e ≡ Is (Integer (negsuc n)) → NoAmount m e h 34
+  uncovered : {n : ℕ} → valueOf m e ≡ Is (Integer (pos n)) → amountOf m h < n → NoAmount m e h 35
+
+-- which no a statement meets (of a table that passes, one of questions 30 to 36: `failure-numbered`)
+pub data Meets (m : Memory) : Statement → ℕ → Type 0 where
+  send-meets : {e : Expression} {a n : ℕ} → valueOf m e ≡ Refused n → Meets m (act (send e a)) n
+  assign-meets : {e : Expression} {x n : ℕ} → valueOf m e ≡ Refused n → Meets m (act (assign e x)) n
+  pay-meets : {e : Expression} {h : Holder} {a n : ℕ} → NoAmount m e h n → Meets m (act (pay e h a)) n
+  move-meets : {e : Expression} {h k : Holder} {n : ℕ} → NoAmount m e h n → Meets m (act (move e h k)) n
+  move-full : {e : Expression} {h k : Holder} {n : ℕ} → valueOf m e ≡ Is (Integer (pos n)) → n ≤ amountOf m h → (placeOf h ≡ placeOf k → ⊥)
+      → top < amountOf m k + n
+      → Meets m (act (move e h k)) 36
+  condition-meets : {t : Condition} {b : Block} {n : ℕ} → truthOf m t ≡ truth.Refused n → Meets m (when t b) n
+
 -- no rule applies to what is left
 pub record Stuck (m : Memory) (ss : List Statement) : Type 0 where
   pub no-rule : {ls : List Label} {m' : Memory} {ss' : List Statement} → Table3 m ss ls m' ss' → ⊥
@@ -252,6 +273,16 @@ pub data Agreed (m : Memory) : List Clause → List Part → Type 0 where
   agreed-by : {k : Clause} {p : Part} {ks : List Clause} {ps : List Part}
       → k .verb ≡ tree.ok → Values m (k .fields) (p .values) → Agreed m ks ps → Agreed m (k ∷ ks) (p ∷ ps)
 
+-- a field is one of a list
+pub data In (x : ℕ) : List ℕ → Type 0 where
+  first : {xs : List ℕ} → In x (x ∷ xs)
+  later : {y : ℕ} {xs : List ℕ} → In x xs → In x (y ∷ xs)
+
+-- clauses of this verb name field x
+pub data Names (v : Verb) (x : ℕ) : List Clause → Type 0 where
+  by-this : {k : Clause} {ks : List Clause} → k .verb ≡ v → In x (k .fields) → Names v x (k ∷ ks)
+  by-another : {k : Clause} {ks : List Clause} → Names v x ks → Names v x (k ∷ ks)
+
 -- ---- Table 2
 
 -- the published label, or the rule's name where that label is empty
@@ -260,14 +291,16 @@ pub data Mark : Type 0 where
   call : Invocation → Mark
   change : Mark
   match : Mark
-  failure : Mark
+  failure : ℕ → Mark
   time : Mark
 
 pub data Table2 (c : Contract) : Configuration → Mark → Configuration → Type 0 where
-  -- the parts are the contract's clauses, and the values that parties agree on are those set
+  -- The parts are the contract's clauses. The assignments set and those agreed on are the same map: a field is set if and only if it is
+  -- agreed on, and each value agreed on is the one set. A text that was read sets a field once; of a table that passes the last SET counts.
   agree : {m : Memory} {ps : List Part}
       → Empty m
       → Parts c (c .clauses) ps
+      → ((x : ℕ) → Names tree.set x (c .clauses) ↔ Names tree.ok x (c .clauses))
       → Agreed (withClauses m (c .clauses) ps) (c .clauses) ps
       → Table2 c (runtime noState m nothing []) (agreement ps) (runtime (inState (c .initial)) (withClauses m (c .clauses) ps) nothing [])
   -- As many arguments as parameters, asset arguments 0 or more. The first function that is called so: a text that was read has one only.
@@ -292,12 +325,14 @@ pub data Table2 (c : Contract) : Configuration → Mark → Configuration → Ty
       → First (Ready c q (m .clock)) k p Ψ
       → Table2 c (runtime (inState q) m nothing Ψ) match
       (runtime (inState q) (bound m [] []) (left (inOrder (eventOf c p .handler)) 0 [] (eventOf c p .last)) (without k Ψ))
-  -- A failed handler consumes its event instead of sticking.
-  eventFailed : {q k : ℕ} {p : Pending} {m m' : Memory} {Ψ : List Pending} {ls : List Label} {s : Statement} {ss : List Statement}
+  -- A failed handler consumes its event instead of sticking; the answer has the number that it meets. `Stuck` follows from `Meets`, and
+  -- stands here as the published reason.
+  eventFailed : {q k n : ℕ} {p : Pending} {m m' : Memory} {Ψ : List Pending} {ls : List Label} {s : Statement} {ss : List Statement}
       → First (Ready c q (m .clock)) k p Ψ
       → Statements (bound m [] []) (inOrder (eventOf c p .handler)) ls m' (s ∷ ss)
       → Stuck m' (s ∷ ss)
-      → Table2 c (runtime (inState q) m nothing Ψ) failure (runtime (inState q) m nothing (without k Ψ))
+      → Meets m' s n
+      → Table2 c (runtime (inState q) m nothing Ψ) (failure n) (runtime (inState q) m nothing (without k Ψ))
   -- Events whose time equals the old clock are dropped. The last clock value is top.
   tick : {q : ℕ} {m : Memory} {Ψ : List Pending}
       → m .clock < top → NothingReady c q m Ψ
@@ -324,8 +359,13 @@ memoryAt s = memoryOf (s .kinds) (s .numbers) (s .texts) (take maxAssets (s .ass
 abbrev pub idle : State → Configuration
 idle s = runtime (phaseOf (s .agreed) (s .state)) (memoryAt s) nothing (live s)
 
--- a step of the machine comes out so, with these labels, and leads to the idle configuration C
+-- a step of the machine is refused: it hands back the state that it was given, and sends nothing
+abbrev pub IsRefused : State → Stepped → Type 0
+IsRefused s r = (n : ℕ) × (r ≡ refused s n)
+
+-- a step of the machine comes out so, with these labels and no more, and leads to the idle configuration C
 pub record Comes (r : Stepped) (o : Outcome) (ls : List Label) (C : Configuration) : Type 0 where
   pub outcome-is : r .outcome ≡ o
+  pub count-is : r .count ≡ length ls
   pub labels-are : take (r .count) (r .labels) ≡ ls
   pub leads-to : idle (r .state) ≡ C

@@ -201,7 +201,7 @@ fn pass_over(text: &[u8], table: &mut [u64]) -> Answer
     requires { ⌜ length (now text) ≤ 16384 ⌝ }
     ensures { λ r. ⌜ walk.Ends (walk.walk (now (text .entry)) (draft (now (table .entry)) (zeros 606))) r (now (table .exit)) ⌝ }
 {
-    let mut notes: [u64; 606] = [0; 606];
+    let mut notes: [u64; entries::NOTES] = [0; entries::NOTES];
     let r = contract_text(text, table, &mut notes);
     if cursors::stops(r) {
         return Answer::Refused(cursors::kind_of(r), cursors::start_of(r));

@@ -72,15 +72,23 @@ agreesWell ks k =
     isSet (k .verb)
     || (distinct (k .fields) && every (isOneOf (fieldsSet (λ a. not (eqb a (k .party))) ks)) (k .fields))
 
--- A field is set at most once; a party agrees only on fields set by another, each once; each of the n parties has a clause, at most one
--- SET and one OK. So there are at most 16 clauses, and 32 fields in each: said first, since that is what a table has room for.
-unfoldable pub keepsRules : ℕ → List Clause → Bool
-keepsRules n ks =
-    (leb (length ks) maxClauses && every (λ k. leb (length (k .fields)) maxFields) ks)
-    && (distinct (fieldsSet (λ a. true) ks)
+-- a field is set at most once; a party agrees only on fields set by another, each once; each of the n parties has a clause, at most one
+-- SET and one OK
+abbrev pub threeRules : ℕ → List Clause → Bool
+threeRules n ks =
+    distinct (fieldsSet (λ a. true) ks)
     && (every (agreesWell ks) ks
     && (allBelow n (λ a. isOneOf (partiesOf true ks) a || isOneOf (partiesOf false ks) a)
-    && (distinct (partiesOf true ks) && distinct (partiesOf false ks)))))
+    && (distinct (partiesOf true ks) && distinct (partiesOf false ks))))
+
+-- the clauses that a table has room for
+abbrev pub hasRoom : List Clause → Bool
+hasRoom ks = leb (length ks) maxClauses && every (λ k. leb (length (k .fields)) maxFields) ks
+
+-- The room decides nothing: where the clauses' names are known the rules imply it (`rules-alone`, accepted/proofs/ClauseRoom.antt), and
+-- an unknown name has its 13 at an earlier place.
+unfoldable pub keepsRules : ℕ → List Clause → Bool
+keepsRules n ks = hasRoom ks && threeRules n ks
 
 -- ---- refusals
 

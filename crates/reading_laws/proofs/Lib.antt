@@ -1,5 +1,4 @@
 pub mod Masked
-pub mod MaskBits
 pub mod Masks
 pub mod Run
 pub mod NotesKept

@@ -2,10 +2,10 @@
 use mathlib.Core.Path.{_≡_, refl, sym, ap, _∙_, subst}
 use mathlib.Core.Bool.{Bool, true, false, _&&_, _||_, not}
 use mathlib.Core.List.{List, [], _∷_, _++_, append-nil}
-use Prim.Native.Nat.{ℕ, zero, suc, _+_, _-_, _*_, _^_, _≤_, _<_, min}
+use Prim.Native.Nat.{ℕ, zero, suc, _+_, _-_, _*_, _/_, _^_, _≤_, _<_, min}
 use native.Mathlib.Omega.{arith}
 use lib.ListN.{length, getD}
-use lib.Bits.{bitAnd, bitOr}
+use lib.Bits.{bitAnd, bitOr, and-mask}
 use lib.Dec.{eqb, leb}
 use borrow.Author.Tests.{eqb-true, eqb-false, eq-eqb, ne-eqb, leb-true, le-leb}
 use Rattle.laws.specs.Choice.{pick}
@@ -25,7 +25,13 @@ use Rattle.contract_laws.proofs.Sections.{joined-row, each-is}
 use Rattle.reading.specs.Grammar.{isOneOf}
 use Rattle.reading.specs.Rules.{distinct, isSet, partiesOf, fieldsSet, agreesWell, keepsRules}
 use Rattle.reading_laws.specs.Masks.{rowOf, rowsOf, holds, with, withAll, fieldMask, partyMask, partOf, agreesByMask, keptByMasks}
-use Rattle.reading_laws.proofs.MaskBits.{bitAt, holds-at, bit-or, bit-and, bit-zero, bit-one, all-in}
+use Rattle.laws.proofs.Bits.{bitAt, bit-or, bit-and, bit-zero, bit-one, all-in}
+
+holds-at : (m n : ℕ) → n ≤ 63 → holds m n ≡ bitAt m n
+unfolding holds bitAt
+holds-at m n h =
+    let place : min n 63 ≡ n = omega arith in
+    ap (λ (k : ℕ). eqb (bitAnd (m / 2 ^ k) 1) 1) place ∙ ap (λ (b : ℕ). eqb b 1) (and-mask (m / 2 ^ n) 1)
 
 -- ---- truth values
 

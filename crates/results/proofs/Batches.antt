@@ -1,22 +1,27 @@
--- Reports that were handed on as numbers are the same reports again. Assumes nothing.
+-- Reports that were handed on as numbers are the same reports again, and their lines are all written where there is room. Assumes nothing.
 use mathlib.Core.Path.{_≡_, refl, sym, ap, _∙_}
 use mathlib.Core.Bool.{true, false}
 use mathlib.Core.List.{List, [], _∷_, _++_, append-assoc}
-use Prim.Native.Nat.{ℕ, zero, suc, _+_, _*_, _<_, _≤_}
+use Prim.Native.Nat.{ℕ, zero, suc, _+_, _*_, _/_, _<_, _≤_}
 use native.Mathlib.Omega.{arith}
-use lib.ListN.{length, getD}
+use lib.ListN.{length, getD, drop}
+use lib.Seq.{take-all, take-length}
 use lib.IntN.{ℤ, pos}
-use lib.Dec.{eqb, leb}
-use borrow.Author.Tests.{eqb-true, leb-true}
+use lib.Dec.{eqb, leb, ltb}
+use borrow.Author.Tests.{eqb-true, leb-true, ltb-true, ltb-false, lt-ltb, le-ltb}
 use Rattle.contract.specs.Tree.{Contract}
 use Rattle.contract.specs.Decode.{contractOf}
 use Rattle.laws.proofs.Truths.{both-left, both-right}
+use Rattle.laws.specs.Choice.{pick}
 use Rattle.laws.specs.Lists.{every}
+use Rattle.laws.proofs.Choice.{pick-true, pick-false}
 use Rattle.contract.specs.Check.{ranges, passes}
-use Rattle.contract_laws.proofs.Inversions.{of-either, ranges-of}
+use Rattle.contract_laws.proofs.Inversions.{by-test, of-either, ranges-of}
 use Rattle.contract_laws.proofs.Sound.{passed, counts}
-use Rattle.results.specs.Coded.{coded, integerOf, codedAll, integersOf, reportFrom, reportAt, reportsFrom}
+use Rattle.results.specs.Coded.{coded, integerOf, codedAll, integersOf, noReport, reportFrom, wholeOf, reportAt, reportsFrom}
 use Rattle.results.specs.Lines.{refusal, reportOk}
+use Rattle.results.specs.Results.{firstOf, linesOf, batchOf, batch, batchAfter}
+use Rattle.results.specs.declared.Batch.{Batch}
 use Rattle.results.specs.declared.Report.{Report}
 use Rattle.results.specs.declared.Report.the-variants.{Ruled, Sent, Held, Refused, Failed}
 use Rattle.results.proofs.Ranges.{asset-below}
@@ -65,6 +70,14 @@ wide-refused c which a b d z h = sym (ap (reportOk c) (none-from which a b d z h
 -- ---- reports in a row
 
 module _ (p q r s : ℕ) (ns : List ℕ) (z : ℤ) (zs : List ℤ) where
+  one-whole : wholeOf (p ∷ q ∷ r ∷ s ∷ ns) (z ∷ zs) ≡ suc (wholeOf ns zs)
+  one-whole = omega arith
+
+  same-whole : (i : ℕ) → ltb (suc i) (wholeOf (p ∷ q ∷ r ∷ s ∷ ns) (z ∷ zs)) ≡ ltb i (wholeOf ns zs)
+  same-whole i =
+      by-test (ltb i (wholeOf ns zs)) (λ t. lt-ltb (suc i) _ (omega (arith, one-whole, ltb-true i (wholeOf ns zs) t)) ∙ sym t) λ t.
+      le-ltb (suc i) _ (omega (arith, one-whole, ltb-false i (wholeOf ns zs) t)) ∙ sym t
+
   next-report : (i : ℕ) → reportAt (p ∷ q ∷ r ∷ s ∷ ns) (z ∷ zs) (suc i) ≡ reportAt ns zs i
   unfolding reportAt
   next-report i =
@@ -73,7 +86,7 @@ module _ (p q r s : ℕ) (ns : List ℕ) (z : ℤ) (zs : List ℤ) where
       let d : 4 * suc i + 2 ≡ suc (suc (suc (suc (4 * i + 2)))) = omega arith in
       let e : 4 * suc i + 3 ≡ suc (suc (suc (suc (4 * i + 3)))) = omega arith in
       let l = p ∷ q ∷ r ∷ s ∷ ns in
-      λ k. reportFrom (getD l (a k) 0) (getD l (b k) 0) (getD l (d k) 0) (getD l (e k) 0) (getD zs i (pos 0))
+      λ k. pick (same-whole i k) (reportFrom (getD l (a k) 0) (getD l (b k) 0) (getD l (d k) 0) (getD l (e k) 0) (getD zs i (pos 0))) noReport
 
   next-reports : (n i : ℕ) → reportsFrom (p ∷ q ∷ r ∷ s ∷ ns) (z ∷ zs) (suc i) n ≡ reportsFrom ns zs i n
   unfolding reportsFrom
@@ -82,7 +95,9 @@ module _ (p q r s : ℕ) (ns : List ℕ) (z : ℤ) (zs : List ℤ) where
 
   four-first : (n : ℕ) → reportsFrom (p ∷ q ∷ r ∷ s ∷ ns) (z ∷ zs) 0 (suc n) ≡ reportFrom p q r s z ∷ reportsFrom ns zs 0 n
   unfolding reportsFrom reportAt
-  four-first n = ap (λ (rs : List Report). reportFrom p q r s z ∷ rs) (next-reports n 0)
+  four-first n =
+      let h : reportAt (p ∷ q ∷ r ∷ s ∷ ns) (z ∷ zs) 0 ≡ reportFrom p q r s z = pick-true _ _ _ (lt-ltb 0 (wholeOf (p ∷ q ∷ r ∷ s ∷ ns) (z ∷ zs)) (omega (arith, one-whole))) in
+      λ k. h k ∷ next-reports n 0 k
 
 coded-first : (r : Report) (ns : List ℕ) (zs : List ℤ) (n : ℕ) → reportsFrom (coded r ++ ns) (integerOf r ∷ zs) 0 (suc n) ≡ decoded r ∷ reportsFrom ns zs 0 n
 coded-first (Ruled rule state clock) ns zs n = four-first _ _ _ _ ns _ zs n
@@ -105,3 +120,24 @@ reports-read c h (r ∷ rs) ns zs k =
 
 pub few-assets : (w : List ℕ) → passes w ≡ true → length (contractOf w .assets) ≤ 256
 few-assets w t = omega (arith, counts w .assets, passed w t .head .assets)
+
+-- ---- reports in range with 128 bytes for each are all written
+
+module _ (w : List ℕ) (rs : List Report) (old : List ℕ) (room : 128 ≤ length old) (each : 128 * length rs ≤ length old) (t : passes w ≡ true)
+    (ok : every (reportOk (contractOf w)) rs ≡ true) where
+  all-first : firstOf (length old) rs ≡ rs
+  all-first = take-all (length old / 128) rs (omega (arith, each))
+
+  pub batch-whole : batch w rs (length old) ≡ record { question = 0; many = length rs; used = length (linesOf (contractOf w) rs) }
+  unfolding batch batchOf
+  batch-whole =
+      pick-false _ _ _ (le-ltb (length old) 128 room)
+      ∙ pick-true _ _ _ t
+      ∙ pick-true _ _ _ (ap (every (reportOk (contractOf w))) all-first ∙ ok)
+      ∙ λ j. record { question = 0; many = length (all-first j); used = length (linesOf (contractOf w) (all-first j)) }
+
+  pub lines-whole : batchAfter (contractOf w) rs (batch w rs (length old)) old ≡ linesOf (contractOf w) rs ++ drop (length (linesOf (contractOf w) rs)) old
+  unfolding batchAfter
+  lines-whole =
+      ap (λ (b : Batch). batchAfter (contractOf w) rs b old) batch-whole
+      ∙ ap (λ (l : List Report). linesOf (contractOf w) l ++ drop (length (linesOf (contractOf w) rs)) old) (take-length rs)

@@ -10,3 +10,4 @@ pub mod Turns
 pub mod Worked
 pub mod DecimalRead
 pub mod Batches
+pub mod Refusals

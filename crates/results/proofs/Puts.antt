@@ -1,11 +1,12 @@
 -- Runs of stores, one after the other. Assumes nothing.
 use mathlib.Core.Path.{_≡_, refl, sym, ap, subst, _∙_}
 use mathlib.Core.List.{List, [], _∷_, _++_, append-assoc}
-use Prim.Native.Nat.{ℕ, suc, _+_, _<_, _≤_}
+use Prim.Native.Nat.{ℕ, suc, _+_, _-_, _<_, _≤_}
 use native.Mathlib.Omega.{arith}
 use native.Mathlib.Nat.{add-zero, zero-add}
-use lib.ListN.{length, set, drop, getD, length-append, drop-of-length-le}
-use lib.Seq.{sets, sets-eq, set-comm, length-sets}
+use lib.ListN.{length, set, take, drop, getD, length-append, take-append-drop, drop-of-length-le}
+use lib.Seq.{sets, sets-eq, set-comm, length-sets, drop-append-le, drop-drop}
+use borrow.Rule.Slice.PartMut.{midOf, putMid, mid-len}
 use Rattle.laws.proofs.Lists.{cons-at}
 use Rattle.results.specs.Private.{Put}
 
@@ -77,3 +78,24 @@ over {old} {line} {new} {n} p =
 
 pub line-end : {old line new : List ℕ} {n : ℕ} → Put old 0 line n new → n ≡ length line
 line-end {old} {line} {new} {n} p = omega (arith, p .place)
+
+-- into a part of a list, from its first place on
+pub part-put : {new line ys : List ℕ} {a e n : ℕ} → a ≤ e → e ≤ length new → Put (midOf a (e - a) new) 0 line n ys → Put new a line (a + n) (putMid a (e - a) new ys)
+part-put {new} {line} {ys} {a} {e} {n} h l p =
+    let k = e - a in
+    let wide : length (midOf a k new) ≡ k = mid-len a e new l in
+    let room : a + length line ≤ length new = omega (arith, p .room, wide, h) in
+    let within : n ≤ length (take k (drop a new)) = omega (arith, p .room, line-end p) in
+    let rest : drop n (take k (drop a new)) ++ drop k (drop a new) ≡ drop (a + length line) new =
+    sym (drop-append-le n (take k (drop a new)) (drop k (drop a new)) within)
+    ∙ ap (drop n) (take-append-drop k (drop a new))
+    ∙ drop-drop n a new
+    ∙ ap (λ (m : ℕ). drop (a + m) new) (line-end p) in
+    record {
+      place = ap (λ (m : ℕ). a + m) (line-end p);
+      list =
+          ap (λ (z : List ℕ). take a new ++ (z ++ drop k (drop a new))) (over p)
+          ∙ ap (λ (z : List ℕ). take a new ++ z) (append-assoc line (drop n (take k (drop a new))) (drop k (drop a new)) ∙ ap (λ (z : List ℕ). line ++ z) rest)
+          ∙ sym (sets-eq line new a room ∙ append-assoc (take a new) line (drop (a + length line) new));
+      room = room;
+    }

@@ -1,29 +1,31 @@
 -- Many reports and their lines, one a turn. Assumes nothing.
 use mathlib.Core.Path.{_≡_, refl, sym, ap, _∙_}
-use mathlib.Core.Bool.{true, false}
+use mathlib.Core.Bool.{Bool, true, false, _&&_}
 use mathlib.Core.List.{List, [], _∷_, _++_, append-assoc, append-nil}
-use Prim.Native.Nat.{ℕ, zero, suc, _+_, _-_, _*_, _<_, _≤_}
+use Prim.Native.Nat.{ℕ, zero, suc, _+_, _-_, _*_, _/_, _<_, _≤_, min}
 use native.Mathlib.Nat.{add-zero}
 use native.Mathlib.Omega.{arith}
-use lib.ListN.{length, getD, take, drop, length-append, length-drop, drop-of-length-le, List·getD-eq-default}
-use lib.Seq.{take-all, take-at, drop-at, drop-drop}
+use lib.ListN.{length, getD, take, drop}
 use lib.IntN.{ℤ, pos}
-use lib.Dec.{eqb}
-use borrow.Author.Tests.{eq-eqb, ne-eqb, lt-ltb, le-ltb}
+use lib.Dec.{eqb, leb, ltb}
+use borrow.Author.Tests.{eq-eqb, ne-eqb, lt-ltb, le-ltb, le-leb, eqb-true, eqb-false, ltb-true, leb-true, leb-false}
 use borrow.Rule.Slice.PartMut.{midOf, putMid, mid-len}
 use Rattle.laws.specs.Choice.{pick}
-use Rattle.laws.proofs.Choice.{pick-true, pick-false}
+use Rattle.laws.specs.Lists.{every}
+use Rattle.laws.proofs.Choice.{pick-true, pick-false, true-false}
+use Rattle.laws.proofs.Truths.{both-left, both-right, both-true, first-true, second-true}
 use Rattle.contract.specs.Tree.{Contract}
 use Rattle.contract.specs.Decode.{contractOf}
-use Rattle.contract.specs.Check.{passes}
-use Rattle.results.specs.Coded.{noReport, reportFrom, reportAt, reportsFrom}
-use Rattle.results.specs.Lines.{reportOk, lineOf}
-use Rattle.results.specs.Results.{nothing, oneMore, batchOf, batch, linesOf, batchAfter}
-use Rattle.results.specs.Private.{Put}
+use Rattle.contract.specs.Check.{ranges, passes}
+use Rattle.contract_laws.proofs.Inversions.{by-test, of-either}
+use Rattle.results.specs.Coded.{noReport, reportFrom, wholeOf, reportAt, reportsFrom}
+use Rattle.results.specs.Lines.{refusal, reportOk, lineOf}
+use Rattle.results.specs.Results.{nothing, firstOf, batchOf, batch, linesOf, batchAfter}
+use Rattle.results.specs.Private.{Put, AllReady, allWhole}
 use Rattle.results.specs.declared.Batch.{Batch}
 use Rattle.results.specs.declared.Report.{Report}
 use Rattle.results.specs.declared.Report.the-variants.{Ruled, Sent, Held, Refused, Failed}
-use Rattle.results.proofs.Puts.{over, line-end}
+use Rattle.results.proofs.Puts.{kept, then, same, part-put, over, line-end}
 
 -- ---- a report from its numbers
 
@@ -63,194 +65,230 @@ module _ (which a b c : ℕ) (z : ℤ) where
   unfolding reportFrom
   none-from h = sym (pick-false _ _ _ (le-ltb a 256 h))
 
-module _ (ns : List ℕ) (zs : List ℤ) (i : ℕ) where
-  past-end : (j : ℕ) → length ns ≤ j → 0 ≡ getD ns j 0
-  past-end j h = sym (List·getD-eq-default ns 0 h)
-
-  pub at-none : {x : ℤ} → length ns < i → x ≡ getD zs i (pos 0) → reportFrom 0 0 0 0 x ≡ reportAt ns zs i
-  unfolding reportAt
-  at-none {x} h e =
-      λ k. reportFrom (past-end (4 * i) (omega arith) k) (past-end (4 * i + 1) (omega arith) k) (past-end (4 * i + 2) (omega arith) k) (past-end (4 * i + 3) (omega arith) k) (e k)
-
-  pub at-some : {p q r s : ℕ} {x : ℤ} → p ≡ getD ns (4 * i) 0 → q ≡ getD ns (4 * i + 1) 0 → r ≡ getD ns (4 * i + 2) 0 → s ≡ getD ns (4 * i + 3) 0
-      → x ≡ getD zs i (pos 0) → reportFrom p q r s x ≡ reportAt ns zs i
-  unfolding reportAt
-  at-some a b c d e = λ k. reportFrom (a k) (b k) (c k) (d k) (e k)
-
 -- ---- reports in a row
 
-module _ (ns : List ℕ) (zs : List ℤ) where
-  pub take-reports : (i k n : ℕ) → k ≤ n → take k (reportsFrom ns zs i n) ≡ reportsFrom ns zs i k
-  unfolding reportsFrom
-  take-reports i zero n h = refl
-  take-reports i (suc k) zero h = absurd (omega arith)
-  take-reports i (suc k) (suc n) h = ap (λ (rs : List Report). reportAt ns zs i ∷ rs) (take-reports (suc i) k n (omega arith))
+none-refused : (c : Contract) → reportOk c noReport ≡ false
+unfolding reportOk refusal ranges
+none-refused c = refl
 
-  pub last-report : (i k : ℕ) → reportsFrom ns zs i (suc k) ≡ reportsFrom ns zs i k ++ (reportAt ns zs (i + k) ∷ [])
+module _ (ns : List ℕ) (zs : List ℤ) where
+  -- a report that stands there whole
+  pub at-whole : (i : ℕ) → i < wholeOf ns zs → {x : ℤ} → x ≡ getD zs i (pos 0)
+      → reportFrom (getD ns (4 * i) 0) (getD ns (4 * i + 1) 0) (getD ns (4 * i + 2) 0) (getD ns (4 * i + 3) 0) x ≡ reportAt ns zs i
+  unfolding reportAt
+  at-whole i h e =
+      ap (reportFrom (getD ns (4 * i) 0) (getD ns (4 * i + 1) 0) (getD ns (4 * i + 2) 0) (getD ns (4 * i + 3) 0)) e
+      ∙ sym (pick-true _ _ _ (lt-ltb i (wholeOf ns zs) h))
+
+  -- one that question 53 passes does
+  ok-whole : (c : Contract) (i : ℕ) → reportOk c (reportAt ns zs i) ≡ true → i < wholeOf ns zs
+  unfolding reportAt
+  ok-whole c i k =
+      by-test (ltb i (wholeOf ns zs)) (ltb-true i (wholeOf ns zs)) λ t.
+      true-false (sym k ∙ ap (reportOk c) (pick-false _ _ _ t) ∙ none-refused c)
+
+  first-reports : (i k n m : ℕ) → m ≡ min k n → take k (reportsFrom ns zs i n) ≡ reportsFrom ns zs i m
+  unfolding reportsFrom
+  first-reports i zero n m e =
+      let z : 0 ≡ m = omega (arith, e) in
+      ap (reportsFrom ns zs i) z
+  first-reports i (suc k) zero m e =
+      let z : 0 ≡ m = omega (arith, e) in
+      ap (reportsFrom ns zs i) z
+  first-reports i (suc k) (suc n) m e =
+      let z : suc (min k n) ≡ m = omega (arith, e) in
+      ap (λ (rs : List Report). reportAt ns zs i ∷ rs) (first-reports (suc i) k n (min k n) refl) ∙ ap (reportsFrom ns zs i) z
+
+  reports-long : (i n : ℕ) → length (reportsFrom ns zs i n) ≡ n
+  unfolding reportsFrom
+  reports-long i zero = refl
+  reports-long i (suc n) = ap suc (reports-long (suc i) n)
+
+  last-report : (i k : ℕ) → reportsFrom ns zs i (suc k) ≡ reportsFrom ns zs i k ++ (reportAt ns zs (i + k) ∷ [])
   unfolding reportsFrom
   last-report i zero = ap (λ (j : ℕ). reportAt ns zs j ∷ []) (sym (add-zero i))
   last-report i (suc k) =
       let e : suc i + k ≡ i + suc k = omega arith in
       ap (λ (rs : List Report). reportAt ns zs i ∷ rs) (last-report (suc i) k ∙ ap (λ (j : ℕ). reportsFrom ns zs (suc i) k ++ (reportAt ns zs j ∷ [])) e)
 
-  pub first-report : (i to : ℕ) → i < to → reportsFrom ns zs i (to - i) ≡ reportAt ns zs i ∷ reportsFrom ns zs (i + 1) (to - (i + 1))
+  first-report : (i to : ℕ) → i < to → reportsFrom ns zs i (to - i) ≡ reportAt ns zs i ∷ reportsFrom ns zs (i + 1) (to - (i + 1))
   unfolding reportsFrom
   first-report i to h =
       let e : to - i ≡ suc (to - (i + 1)) = omega arith in
       let s : suc i ≡ i + 1 = omega arith in
       ap (reportsFrom ns zs i) e ∙ ap (λ (j : ℕ). reportAt ns zs i ∷ reportsFrom ns zs j (to - (i + 1))) s
 
-  pub no-report : (i to : ℕ) → to ≤ i → reportsFrom ns zs i (to - i) ≡ []
+  no-report : (i to : ℕ) → to ≤ i → reportsFrom ns zs i (to - i) ≡ []
   unfolding reportsFrom
   no-report i to h =
       let e : to - i ≡ 0 = omega arith in
       ap (reportsFrom ns zs i) e
 
-pub lines-append : (c : Contract) (xs ys : List Report) → linesOf c (xs ++ ys) ≡ linesOf c xs ++ linesOf c ys
+  -- a test that all pass is passed by each
+  each-report : (p : Report → Bool) (n i : ℕ) → every p (reportsFrom ns zs i n) ≡ true → (j : ℕ) → i ≤ j → j < i + n → p (reportAt ns zs j) ≡ true
+  unfolding reportsFrom every
+  each-report p zero i e j h k = absurd (omega arith)
+  each-report p (suc n) i e j h k =
+      by-test (eqb j i) (λ t. ap (λ (m : ℕ). p (reportAt ns zs m)) (eqb-true j i t) ∙ both-left (p (reportAt ns zs i)) _ e) λ t.
+      let d : j ≡ i → ⊥ = eqb-false j i t in
+      each-report p n (suc i) (both-right (p (reportAt ns zs i)) _ e) j (omega (arith, d)) (omega arith)
+
+-- a report of those that are ready
+module _ {w ns : List ℕ} {zs : List ℤ} {from to size : ℕ} (a : AllReady w ns zs from to size) {j : ℕ} where
+  pub ready-at : {r : Report} → r ≡ reportAt ns zs j → from ≤ j → j < to → reportOk (contractOf w) r ≡ true
+  ready-at e h k =
+      let l : j < from + (to - from) = omega (arith, h, k) in
+      ap (reportOk (contractOf w)) e ∙ each-report ns zs (reportOk (contractOf w)) (to - from) from (a .range) j h l
+
+  pub ready-whole : from ≤ j → j < to → j < wholeOf ns zs
+  ready-whole h k = ok-whole ns zs (contractOf w) j (ready-at refl h k)
+
+-- ---- question 53 of all reports
+
+-- the reports before report i pass it, so that those from there on decide
+pub record Asked (c : Contract) (ns : List ℕ) (zs : List ℤ) (from to i : ℕ) : Type 0 where
+  pub first : from ≤ i
+  pub answer : every (reportOk c) (reportsFrom ns zs i (to - i)) ≡ every (reportOk c) (reportsFrom ns zs from (to - from))
+
+-- the last report is none
+pub not-whole : (c : Contract) (ns : List ℕ) (zs : List ℤ) (from to : ℕ) → allWhole ns zs from to ≡ false → false ≡ every (reportOk c) (reportsFrom ns zs from (to - from))
+not-whole c ns zs from to h =
+    by-test (every (reportOk c) (reportsFrom ns zs from (to - from)))
+    (λ t.
+    by-test (leb to from) (λ l. true-false (sym (first-true _ l) ∙ h)) λ l.
+    let f : from < to = leb-false to from l in
+    let w : to - 1 < wholeOf ns zs = ok-whole ns zs c (to - 1) (each-report ns zs (reportOk c) (to - from) from t (to - 1) (omega arith) (omega arith)) in
+    true-false
+    (sym (second-true (leb to from) (both-true _ _ (le-leb to (length ns / 4) (omega (arith, w))) (le-leb to (length zs) (omega (arith, w))))) ∙ h))
+    λ t. sym t
+
+module _ {c : Contract} {ns : List ℕ} {zs : List ℤ} {from to : ℕ} where
+  pub asked-none : Asked c ns zs from to from
+  asked-none = record { first = omega arith; answer = refl }
+
+  module _ {i : ℕ} (a : Asked c ns zs from to i) where
+    pub asked-whole : allWhole ns zs from to ≡ true → i < to → i < wholeOf ns zs
+    asked-whole h l =
+        of-either (leb to from) _ h (λ t. absurd (omega (arith, leb-true to from t, a .first))) λ t.
+        let p = leb-true to (length ns / 4) (both-left (leb to (length ns / 4)) _ t) in
+        let q = leb-true to (length zs) (both-right (leb to (length ns / 4)) _ t) in
+        omega (arith, p, q)
+
+    module _ (l : i < to) {r : Report} (e : r ≡ reportAt ns zs i) where
+      split : every (reportOk c) (reportsFrom ns zs i (to - i)) ≡ (reportOk c r && every (reportOk c) (reportsFrom ns zs (i + 1) (to - (i + 1))))
+      unfolding every
+      split =
+          ap (every (reportOk c)) (first-report ns zs i to l)
+          ∙ ap (λ (x : Report). reportOk c x && every (reportOk c) (reportsFrom ns zs (i + 1) (to - (i + 1)))) (sym e)
+
+      pub asked-one : reportOk c r ≡ true → Asked c ns zs from to (i + 1)
+      asked-one k =
+          record {
+            first = omega (arith, a .first);
+            answer = sym (split ∙ ap (λ (b : Bool). b && every (reportOk c) (reportsFrom ns zs (i + 1) (to - (i + 1)))) k) ∙ a .answer;
+          }
+
+      pub asked-bad : reportOk c r ≡ false → false ≡ every (reportOk c) (reportsFrom ns zs from (to - from))
+      asked-bad k = sym (split ∙ ap (λ (b : Bool). b && every (reportOk c) (reportsFrom ns zs (i + 1) (to - (i + 1)))) k) ∙ a .answer
+
+    pub asked-all : to ≤ i → true ≡ every (reportOk c) (reportsFrom ns zs from (to - from))
+    unfolding every
+    asked-all l = sym (ap (every (reportOk c)) (no-report ns zs i to l)) ∙ a .answer
+
+-- ---- the lines of all reports
+
+lines-append : (c : Contract) (xs ys : List Report) → linesOf c (xs ++ ys) ≡ linesOf c xs ++ linesOf c ys
 unfolding linesOf
 lines-append c [] ys = refl
 lines-append c (x ∷ xs) ys = ap (λ (l : List ℕ). lineOf c x ++ l) (lines-append c xs ys) ∙ sym (append-assoc (lineOf c x) (linesOf c xs) (linesOf c ys))
 
--- ---- what one report brings
-
-module _ (c : Contract) (r : Report) (rs : List Report) (room : ℕ) where
-  pub batch-full : room < 128 → batchOf c (r ∷ rs) room ≡ nothing 0
-  unfolding batchOf
-  batch-full h = pick-true _ _ _ (lt-ltb room 128 h)
-
-  pub batch-bad : 128 ≤ room → reportOk c r ≡ false → batchOf c (r ∷ rs) room ≡ nothing 53
-  unfolding batchOf
-  batch-bad h k = pick-false _ _ _ (le-ltb room 128 h) ∙ pick-false _ _ _ k
-
-  pub batch-on : 128 ≤ room → reportOk c r ≡ true → batchOf c (r ∷ rs) room ≡ oneMore (length (lineOf c r)) (batchOf c rs (room - length (lineOf c r)))
-  unfolding batchOf
-  batch-on h k = pick-false _ _ _ (le-ltb room 128 h) ∙ pick-true _ _ _ k
-
-pub batch-end : (c : Contract) (room : ℕ) → batchOf c [] room ≡ nothing 0
-unfolding batchOf
-batch-end c room = refl
-
--- ---- the loop
-
--- k lines of u bytes before the others
-abbrev more : ℕ → ℕ → Batch → Batch
-more k u b = record { question = b .question; many = k + b .many; used = u + b .used }
-
-more-none : (k : ℕ) (b : Batch) → k ≡ 0 → b ≡ more k 0 b
-more-none k b h =
-    let m : b .many ≡ k + b .many = omega (arith, h) in
-    let u : b .used ≡ 0 + b .used = omega arith in
-    λ j. record { question = b .question; many = m j; used = u j }
-
--- a line of n bytes is one of those before
-more-one : (k u l m n : ℕ) (b : Batch) → m ≡ suc k → n ≡ u + l → more k u (oneMore l b) ≡ more m n b
-more-one k u l m n b h e =
-    let p : k + suc (b .many) ≡ m + b .many = omega (arith, h) in
-    let q : u + (l + b .used) ≡ n + b .used = omega (arith, e) in
-    λ j. record { question = b .question; many = p j; used = q j }
-
--- the lines before report i stand first in the buffer, and the batch goes on from there
+-- the lines before report i stand first in the buffer, none of them longer than 128 bytes
 pub record Going (c : Contract) (ns : List ℕ) (zs : List ℤ) (from to : ℕ) (old : List ℕ) (i used : ℕ) (new : List ℕ) : Type 0 where
   pub first : from ≤ i
   pub few : i - from ≤ to - from
-  pub place : used ≡ length (linesOf c (reportsFrom ns zs from (i - from)))
-  pub room : used ≤ length old
-  pub list : new ≡ linesOf c (reportsFrom ns zs from (i - from)) ++ drop used old
-  pub answer : batchOf c (reportsFrom ns zs from (to - from)) (length old) ≡ more (i - from) used (batchOf c (reportsFrom ns zs i (to - i)) (length old - used))
-
--- the answer and the buffer after many lines
-abbrev pub BatchAnswers : Contract → List Report → List ℕ → Batch → List ℕ → Type 0
-BatchAnswers c rs old r new = (r ≡ batchOf c rs (length old)) × (new ≡ batchAfter c rs r old)
+  pub short : used ≤ 128 * (i - from)
+  pub lines : Put old 0 (linesOf c (reportsFrom ns zs from (i - from))) used new
 
 module _ {c : Contract} {ns : List ℕ} {zs : List ℤ} {from to : ℕ} {old : List ℕ} where
   pub start : Going c ns zs from to old from 0 old
   unfolding reportsFrom linesOf
   start =
-      let e : from - from ≡ 0 = omega arith in
-      let z : length old ≡ length old - 0 = omega arith in
-      let l : linesOf c (reportsFrom ns zs from (from - from)) ≡ [] = ap (λ (k : ℕ). linesOf c (reportsFrom ns zs from k)) e in
+      let e : 0 ≡ from - from = omega arith in
+      let l : [] ≡ linesOf c (reportsFrom ns zs from (from - from)) = ap (λ (k : ℕ). linesOf c (reportsFrom ns zs from k)) e in
       record {
         first = omega arith;
         few = omega arith;
-        place = sym (ap length l);
-        room = omega arith;
-        list = sym (ap (λ (u : List ℕ). u ++ old) l);
-        answer = ap (batchOf c (reportsFrom ns zs from (to - from))) z ∙ more-none (from - from) _ e;
+        short = omega arith;
+        lines = same l (record { place = refl; list = refl; room = omega arith });
       }
 
   module _ {i used : ℕ} {new : List ℕ} (g : Going c ns zs from to old i used new) where
-    pub long : length new ≡ length old
-    long = omega (arith, ap length (g .list), length-append (linesOf c (reportsFrom ns zs from (i - from))) (drop used old), length-drop used old, g .place, g .room)
+    -- the next 128 bytes are the buffer's
+    pub next-room : 128 * (to - from) ≤ length old → i < to → used + 128 ≤ length new
+    next-room h l = omega (arith, kept (g .lines), g .short, g .first)
 
-    -- nothing more is written
-    stop : (q : ℕ) {rs : List Report} → reportsFrom ns zs i (to - i) ≡ rs → batchOf c rs (length old - used) ≡ nothing q
-        → BatchAnswers c (reportsFrom ns zs from (to - from)) old (record { question = q; many = i - from; used = used }) new
-    unfolding batchAfter
-    stop q l e =
-        let z : more (i - from) used (nothing q) ≡ record { question = q; many = i - from; used = used } =
-        λ k. record { question = q; many = add-zero (i - from) k; used = add-zero used k } in (
-          sym (g .answer ∙ ap (more (i - from) used) (ap (λ (rs : List Report). batchOf c rs (length old - used)) l ∙ e) ∙ z),
-          g .list ∙ ap (λ (rs : List Report). linesOf c rs ++ drop used old) (sym (take-reports ns zs from (i - from) (to - from) (g .few))),
-        )
-
-    pub full : i < to → length new - used < 128
-        → BatchAnswers c (reportsFrom ns zs from (to - from)) old (record { question = 0; many = i - from; used = used }) new
-    full h s = stop 0 (first-report ns zs i to h) (batch-full c _ _ _ (omega (arith, s, long)))
-
-    pub bad : {r : Report} → i < to → 128 ≤ length new - used → r ≡ reportAt ns zs i → reportOk c r ≡ false
-        → BatchAnswers c (reportsFrom ns zs from (to - from)) old (record { question = 53; many = i - from; used = used }) new
-    bad h s e k = stop 53 (first-report ns zs i to h) (batch-bad c _ _ _ (omega (arith, s, long)) (sym (ap (reportOk c) e) ∙ k))
-
-    pub over-all : to ≤ i → BatchAnswers c (reportsFrom ns zs from (to - from)) old (record { question = 0; many = i - from; used = used }) new
-    over-all h = stop 0 (no-report ns zs i to h) (batch-end c _)
-
-    -- the part from the place on has room for a line
-    pub part-room : 128 ≤ length new - used → 128 ≤ length (midOf used (length new - used) new)
-    part-room s = omega (arith, mid-len used (length new) new (omega arith), s)
+    pub part-room : 128 * (to - from) ≤ length old → i < to → 128 ≤ length (midOf used (used + 128 - used) new)
+    part-room h l = omega (arith, mid-len used (used + 128) new (next-room h l))
 
     -- one line more
-    pub turn : {r : Report} {n : ℕ} {ys : List ℕ} → i < to → 128 ≤ length new - used → r ≡ reportAt ns zs i → reportOk c r ≡ true
-        → Put (midOf used (length new - used) new) 0 (lineOf c r) n ys
-        → Going c ns zs from to old (i + 1) (used + n) (putMid used (length new - used) new ys)
+    pub turn : {r : Report} {n : ℕ} {ys : List ℕ} → 128 * (to - from) ≤ length old → i < to → r ≡ reportAt ns zs i
+        → Put (midOf used (used + 128 - used) new) 0 (lineOf c r) n ys
+        → Going c ns zs from to old (i + 1) (used + n) (putMid used (used + 128 - used) new ys)
     unfolding linesOf
-    turn {r} {n} {ys} h s q k p =
-        let line = lineOf c r in
+    turn {r} {n} {ys} h l q p =
         let done = linesOf c (reportsFrom ns zs from (i - from)) in
         let e : i + 1 - from ≡ suc (i - from) = omega (arith, g .first) in
         let f : from + (i - from) ≡ i = omega (arith, g .first) in
-        let lines : linesOf c (reportsFrom ns zs from (i + 1 - from)) ≡ done ++ line =
-        ap (λ (m : ℕ). linesOf c (reportsFrom ns zs from m)) e
+        let lines : done ++ lineOf c r ≡ linesOf c (reportsFrom ns zs from (i + 1 - from)) =
+        sym
+        (ap (λ (m : ℕ). linesOf c (reportsFrom ns zs from m)) e
         ∙ ap (linesOf c) (last-report ns zs from (i - from))
         ∙ lines-append c (reportsFrom ns zs from (i - from)) (reportAt ns zs (from + (i - from)) ∷ [])
         ∙ ap (λ (x : Report). done ++ (lineOf c x ++ [])) (ap (reportAt ns zs) f ∙ sym q)
-        ∙ ap (λ (l : List ℕ). done ++ l) (append-nil line) in
-        let rest : drop used new ≡ drop used old = ap (drop used) (g .list) ∙ drop-at done (drop used old) used (sym (g .place)) in
-        let last : length (drop used new) ≤ length new - used = omega (arith, length-drop used new) in
-        let part : midOf used (length new - used) new ≡ drop used old = take-all (length new - used) (drop used new) last ∙ rest in
-        let wide : length (midOf used (length new - used) new) ≡ length old - used = ap length part ∙ length-drop used old in
-        let behind : drop (length new - used) (drop used new) ≡ [] = drop-of-length-le (drop used new) last in
-        let before : take used new ≡ done = ap (take used) (g .list) ∙ take-at done (drop used old) used (sym (g .place)) in
-        let written : ys ≡ line ++ drop (used + n) old = over p ∙ ap (λ (l : List ℕ). line ++ drop n l) part ∙ ap (λ (l : List ℕ). line ++ l) (drop-drop n used old) in
-        let room : length old - used - length line ≡ length old - (used + n) = omega (arith, line-end p) in
-        let now-used : used + n ≡ used + length line = ap (λ (m : ℕ). used + m) (line-end p) in
+        ∙ ap (λ (l : List ℕ). done ++ l) (append-nil (lineOf c r))) in
+        let room : used + 128 ≤ length new = next-room h l in
+        let wide : length (midOf used (used + 128 - used) new) ≡ used + 128 - used = mid-len used (used + 128) new room in
         record {
           first = omega (arith, g .first);
-          few = omega (arith, g .first, h);
-          place = now-used ∙ ap (λ (m : ℕ). m + length line) (g .place) ∙ sym (length-append done line) ∙ sym (ap length lines);
-          room = omega (arith, p .room, wide, line-end p, g .room);
-          list =
-              (λ j. before j ++ (ys ++ behind j))
-              ∙ ap (λ (l : List ℕ). done ++ l) (append-nil ys ∙ written)
-              ∙ sym (append-assoc done line (drop (used + n) old))
-              ∙ sym (ap (λ (l : List ℕ). l ++ drop (used + n) old) lines);
-          answer =
-              g .answer
-              ∙ ap (more (i - from) used)
-              (ap (λ (rs : List Report). batchOf c rs (length old - used)) (first-report ns zs i to h ∙ ap (λ (x : Report). x ∷ reportsFrom ns zs (i + 1) (to - (i + 1))) (sym q))
-              ∙ batch-on c r _ _ (omega (arith, s, long)) k
-              ∙ ap (λ (m : ℕ). oneMore (length line) (batchOf c (reportsFrom ns zs (i + 1) (to - (i + 1))) m)) room)
-              ∙ more-one (i - from) used (length line) (i + 1 - from) (used + n) _ e now-used;
+          few = omega (arith, g .first, l);
+          short = omega (arith, g .short, g .first, line-end p, p .room, wide);
+          lines = same lines (then (g .lines) (part-put (omega arith) room p));
         }
+
+    pub all-put : to ≤ i → Put old 0 (linesOf c (reportsFrom ns zs from (to - from))) used new
+    all-put l =
+        let e : i - from ≡ to - from = omega (arith, g .few) in
+        same (ap (λ (k : ℕ). linesOf c (reportsFrom ns zs from k)) e) (g .lines)
+
+-- ---- the answer and the buffer after many lines
+
+abbrev pub BatchAnswers : Contract → List Report → List ℕ → Batch → List ℕ → Type 0
+BatchAnswers c rs old r new = (r ≡ batchOf c rs (length old)) × (new ≡ batchAfter c rs r old)
+
+module _ (ns : List ℕ) (zs : List ℤ) (from to : ℕ) (old : List ℕ) {end : ℕ} (e : end ≡ from + min (length old / 128) (to - from)) where
+  -- the reports that are written
+  firsts : firstOf (length old) (reportsFrom ns zs from (to - from)) ≡ reportsFrom ns zs from (end - from)
+  firsts = first-reports ns zs from (length old / 128) (to - from) (end - from) (omega (arith, e))
+
+  pub all-ready : {w : List ℕ} → passes w ≡ true → every (reportOk (contractOf w)) (reportsFrom ns zs from (end - from)) ≡ true → AllReady w ns zs from end (length old)
+  all-ready t k = record { room = omega (arith, e); table = t; range = k }
+
+  module _ (c : Contract) where
+    pub all-written : {used : ℕ} {new : List ℕ} → every (reportOk c) (reportsFrom ns zs from (end - from)) ≡ true
+        → Put old 0 (linesOf c (reportsFrom ns zs from (end - from))) used new
+        → BatchAnswers c (reportsFrom ns zs from (to - from)) old (record { question = 0; many = end - from; used = used }) new
+    unfolding batchOf batchAfter
+    all-written {used} k p =
+        let m : end - from ≡ min (end - from) (to - from) = omega (arith, e) in
+        let many : end - from ≡ length (firstOf (length old) (reportsFrom ns zs from (to - from))) = sym (ap length firsts ∙ reports-long ns zs from (end - from)) in
+        let bytes : used ≡ length (linesOf c (firstOf (length old) (reportsFrom ns zs from (to - from)))) = line-end p ∙ sym (ap (λ (rs : List Report). length (linesOf c rs)) firsts) in (
+          (λ j. record { question = 0; many = many j; used = bytes j }) ∙ sym (pick-true _ _ _ (ap (every (reportOk c)) firsts ∙ k)),
+          over p ∙ ap (λ (rs : List Report). linesOf c rs ++ drop used old) (sym (first-reports ns zs from (end - from) (to - from) (end - from) m)),
+        )
+
+    pub none-written : every (reportOk c) (reportsFrom ns zs from (end - from)) ≡ false → BatchAnswers c (reportsFrom ns zs from (to - from)) old (nothing 53) old
+    unfolding batchOf batchAfter linesOf
+    none-written k = (sym (pick-false _ _ _ (ap (every (reportOk c)) firsts ∙ k)), refl)
 
 -- ---- questions 52 and 3
 

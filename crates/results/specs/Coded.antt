@@ -1,7 +1,7 @@
 -- Result lines as numbers, four and an integer each, so that many can be handed on at once.
-use Prim.Native.Nat.{ℕ, zero, suc, _+_, _*_}
+use Prim.Native.Nat.{ℕ, zero, suc, _+_, _*_, _/_, min}
 use mathlib.Core.List.{List, [], _∷_, _++_}
-use lib.ListN.{getD}
+use lib.ListN.{length, getD}
 use lib.Dec.{eqb, ltb}
 use lib.IntN.{ℤ, pos}
 use Rattle.laws.specs.Choice.{pick}
@@ -49,10 +49,16 @@ reportFrom which a b c value =
     (pick (eqb which 5) (Failed a) noReport)))))
     noReport
 
--- report i of those in a row; numbers past the end are 0, so that there is no report past it
+-- how many stand there whole, with four numbers and an integer each
+abbrev pub wholeOf : List ℕ → List ℤ → ℕ
+wholeOf numbers integers = min (length numbers / 4) (length integers)
+
+-- report i of those in a row; past those that stand there whole there is none
 unfoldable pub reportAt : List ℕ → List ℤ → ℕ → Report
 reportAt numbers integers i =
-    reportFrom (getD numbers (4 * i) 0) (getD numbers (4 * i + 1) 0) (getD numbers (4 * i + 2) 0) (getD numbers (4 * i + 3) 0) (getD integers i (pos 0))
+    pick (ltb i (wholeOf numbers integers))
+    (reportFrom (getD numbers (4 * i) 0) (getD numbers (4 * i + 1) 0) (getD numbers (4 * i + 2) 0) (getD numbers (4 * i + 3) 0) (getD integers i (pos 0)))
+    noReport
 
 -- n of them from report i on
 unfoldable pub reportsFrom : List ℕ → List ℤ → ℕ → ℕ → List Report

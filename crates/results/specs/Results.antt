@@ -1,9 +1,12 @@
 -- What writing a line answers, and what it leaves in the lent buffer.
-use Prim.Native.Nat.{ℕ, suc, _+_, _-_}
+use mathlib.Core.Path.{_≡_}
+use mathlib.Core.Bool.{Bool, true, false, not}
+use Prim.Native.Nat.{ℕ, _/_}
 use mathlib.Core.List.{List, [], _∷_, _++_}
 use lib.ListN.{length, take, drop}
-use lib.Dec.{ltb}
+use lib.Dec.{eqb, ltb}
 use Rattle.laws.specs.Choice.{pick}
+use Rattle.laws.specs.Lists.{every}
 use Rattle.contract.specs.Tree.{Contract}
 use Rattle.contract.specs.Decode.{contractOf}
 use Rattle.contract.specs.Check.{passes}
@@ -38,31 +41,57 @@ textBufferAfter n place old = after (textWritten n place (length old)) (textLine
 
 -- ---- many lines at once
 
--- nothing more is written, for question q or for want of room or reports (0)
-abbrev pub nothing : ℕ → Batch
-nothing q = record { question = q; many = 0; used = 0 }
-
--- one more line, of n bytes, before the others
-abbrev pub oneMore : ℕ → Batch → Batch
-oneMore n b = record { question = b .question; many = suc (b .many); used = n + b .used }
-
--- one line after the other while the buffer has room for any; question 53 stops at the report that it refuses
-unfoldable pub batchOf : Contract → List Report → ℕ → Batch
-batchOf c [] room = nothing 0
-batchOf c (r ∷ rs) room =
-    pick (ltb room 128) (nothing 0)
-    (pick (reportOk c r) (oneMore (length (lineOf c r)) (batchOf c rs (room - length (lineOf c r)))) (nothing 53))
-
--- questions 52 and 3 come first, once; question 53 comes with the lines written before it, and the report that it refuses is number `many` of
--- rs, which is number from + many where rs are those from `from` on
-unfoldable pub batch : List ℕ → List Report → ℕ → Batch
-batch w rs size = pick (ltb size 128) (nothing 52) (pick (passes w) (batchOf (contractOf w) rs size) (nothing 3))
-
 -- the lines of reports
 unfoldable pub linesOf : Contract → List Report → List ℕ
 linesOf c [] = []
 linesOf c (r ∷ rs) = lineOf c r ++ linesOf c rs
 
--- the lines that were written stand first, and the bytes after them are as they were
+-- nothing is written, for question q
+abbrev pub nothing : ℕ → Batch
+nothing q = record { question = q; many = 0; used = 0 }
+
+-- the reports whose lines one call writes: as many as surely fit into a buffer of so many bytes, 128 to each, since no line is longer
+abbrev pub firstOf : ℕ → List Report → List Report
+firstOf size rs = take (size / 128) rs
+
+-- question 53 is asked of all of these before the first is written; which one it refuses is not told (`written` of each tells it)
+unfoldable pub batchOf : Contract → List Report → ℕ → Batch
+batchOf c rs size =
+    pick (every (reportOk c) (firstOf size rs))
+    (record { question = 0; many = length (firstOf size rs); used = length (linesOf c (firstOf size rs)) })
+    (nothing 53)
+
+-- questions 52 and 3 come first, once
+unfoldable pub batch : List ℕ → List Report → ℕ → Batch
+batch w rs size = pick (ltb size 128) (nothing 52) (pick (passes w) (batchOf (contractOf w) rs size) (nothing 3))
+
+-- the lines that were written stand first, and the bytes after them are as they were; a refused batch has none
 unfoldable pub batchAfter : Contract → List Report → Batch → List ℕ → List ℕ
 batchAfter c rs b old = linesOf c (take (b .many) rs) ++ drop (b .used) old
+
+-- ---- a refused writing leaves the lent buffer as it was
+
+-- a call that writes: the line of a report on the contract in a table, the line of a refused text (number and place), the lines of many reports
+pub data Writing : Type 0 where
+  write : List ℕ → Report → Writing
+  writeTextRefusal : ℕ → ℕ → Writing
+  writeBatch : List ℕ → List Report → Writing
+
+abbrev pub isRefused : Written → Bool
+isRefused (Wrote n) = false
+isRefused (Refused q) = true
+
+-- whether it is refused, for the buffer's length
+abbrev pub refuses : Writing → ℕ → Bool
+refuses (write w report) size = isRefused (written w report size)
+refuses (writeTextRefusal n place) size = isRefused (textWritten n place size)
+refuses (writeBatch w rs) size = not (eqb (batch w rs size .question) 0)
+
+-- the buffer after it
+abbrev pub leaves : Writing → List ℕ → List ℕ
+leaves (write w report) old = bufferAfter w report old
+leaves (writeTextRefusal n place) old = textBufferAfter n place old
+leaves (writeBatch w rs) old = batchAfter (contractOf w) rs (batch w rs (length old)) old
+
+abbrev pub RefusedWritesNothing : Type 0
+RefusedWritesNothing = (w : Writing) (buffer : List ℕ) → refuses w (length buffer) ≡ true → leaves w buffer ≡ buffer

@@ -24,29 +24,30 @@ pub enum Report {
     Failed(u8),
 }
 
+impl Report {
+    // The bytes that a buffer must have for a line.
+    pub const ROOM: usize = 128;
+}
+
 // How many bytes were written, or the number of the question that refused; then nothing was.
 pub enum Written {
     Wrote(usize),
     Refused(u8),
 }
 
-// What came of many lines: the question that stopped them or 0, how many were written, and how many bytes they have.
-// Question 53 comes with the lines written before it: the refused report is number from + many.
+// What came of many lines: the question that refused them or 0, how many were written, and how many bytes they have; none where refused.
 pub struct Batch {
     pub question: u8,
     pub many: usize,
     pub used: usize,
 }
 
-// The bytes that a buffer must have.
-const ROOM: usize = 128;
-
 // The line of a report on the contract in a table.
 pub fn write(table: &[u64], report: Report, buffer: &mut [u8]) -> Written
     ensures { λ r. ⌜ r ≡ written (now (table .entry)) report (length (now (buffer .entry))) ⌝ }
     ensures { λ r. ⌜ now (buffer .exit) ≡ bufferAfter (now (table .entry)) report (now (buffer .entry)) ⌝ }
 {
-    if buffer.len() < ROOM {
+    if buffer.len() < Report::ROOM {
         return Written::Refused(questions::RESULT_ROOM);
     }
     if tables::table_passes(table) {
@@ -63,7 +64,7 @@ pub fn write_text_refusal(number: u8, place: usize, buffer: &mut [u8]) -> Writte
     ensures { λ r. ⌜ r ≡ textWritten number place (length (now (buffer .entry))) ⌝ }
     ensures { λ r. ⌜ now (buffer .exit) ≡ textBufferAfter number place (now (buffer .entry)) ⌝ }
 {
-    if buffer.len() < ROOM {
+    if buffer.len() < Report::ROOM {
         return Written::Refused(questions::RESULT_ROOM);
     }
     if reports::is_text_refusal(number) {
@@ -75,8 +76,8 @@ pub fn write_text_refusal(number: u8, place: usize, buffer: &mut [u8]) -> Writte
     Written::Refused(questions::RESULT_KINDS)
 }
 
-// The lines of the reports numbered from `from` up to, not including, `to`, while the buffer has room for any line (128 bytes).
-// It stops at the first report that question 53 refuses.
+// The lines of the reports numbered from `from` up to, not including, `to`: of as many as surely fit, 128 bytes to each. Question 53 is
+// asked of all of these before the first is written; which one it refuses is not told (`write` of each tells it).
 pub fn write_batch(
     table: &[u64],
     numbers: &[u64],
@@ -88,7 +89,7 @@ pub fn write_batch(
     ensures { λ r. ⌜ r ≡ batch (now (table .entry)) (reportsFrom (now (numbers .entry)) (now (integers .entry)) from (to - from)) (length (now (buffer .entry))) ⌝ }
     ensures { λ r. ⌜ now (buffer .exit) ≡ batchAfter (contractOf (now (table .entry))) (reportsFrom (now (numbers .entry)) (now (integers .entry)) from (to - from)) r (now (buffer .entry)) ⌝ }
 {
-    if buffer.len() < ROOM {
+    if buffer.len() < Report::ROOM {
         return Batch {
             question: questions::RESULT_ROOM,
             many: 0,

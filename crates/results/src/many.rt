@@ -1,15 +1,16 @@
 // Many reports in a row, as numbers, and their lines one after the other.
 ghost use mathlib.Core.Path.{_≡_};
 ghost use mathlib.Core.Bool.{true};
-ghost use Prim.Native.Nat.{_-_};
-ghost use lib.ListN.{length, getD};
-ghost use lib.IntN.{pos};
+ghost use Prim.Native.Nat.{_+_, _-_, _/_, _<_, min};
+ghost use lib.ListN.{length};
+ghost use Rattle.laws.specs.Lists.{every};
 ghost use Rattle.contract.specs.Decode.{contractOf};
 ghost use Rattle.contract.specs.Check.{passes};
-ghost use Rattle.results.specs.Coded.{reportFrom, reportAt, reportsFrom};
-ghost use Rattle.results.specs.Results.{batchOf, batchAfter};
+ghost use Rattle.results.specs.Coded.{reportFrom, wholeOf, reportAt, reportsFrom};
+ghost use Rattle.results.specs.Lines.{reportOk};
+ghost use Rattle.results.specs.Results.{batchOf, linesOf, batchAfter};
+ghost use Rattle.results.specs.Private.{Put, AllReady, allWhole};
 use crate::Batch;
-use crate::ROOM;
 use crate::Report;
 use crate::reports::report_ok;
 use crate::reports::write_line;
@@ -38,30 +39,81 @@ fn report_of(which: u64, a: u64, b: u64, c: u64, value: i64) -> Report
     Report::Refused(0)
 }
 
-// An integer, 0 past the end.
-fn integer(integers: &[i64], i: usize) -> i64
-    ensures { λ r. ⌜ r ≡ getD (now (integers .entry)) i (pos 0) ⌝ }
-{
-    if i < integers.len() { integers[i] } else { 0 }
-}
-
-// Report i of those in a row.
+// Report i of those in a row, which stands there whole.
 fn report_at(numbers: &[u64], integers: &[i64], i: usize) -> Report
+    requires { ⌜ i < wholeOf (now numbers) (now integers) ⌝ }
     ensures { λ r. ⌜ r ≡ reportAt (now (numbers .entry)) (now (integers .entry)) i ⌝ }
 {
-    let value = integer(integers, i);
-    if numbers.len() < i {
-        return report_of(0, 0, 0, 0, value);
-    }
     let at = 4 * i;
-    let which = contract::word(numbers, at);
-    let a = contract::word(numbers, at + 1);
-    let b = contract::word(numbers, at + 2);
-    let c = contract::word(numbers, at + 3);
-    report_of(which, a, b, c, value)
+    report_of(
+        numbers[at],
+        numbers[at + 1],
+        numbers[at + 2],
+        numbers[at + 3],
+        integers[i],
+    )
 }
 
-// The lines of the reports numbered from `from` up to, not including, `to`, while the buffer has room for any line.
+// Whether the reports numbered from `from` up to, not including, `to` stand there whole.
+fn all_whole(numbers: &[u64], integers: &[i64], from: usize, to: usize) -> bool
+    ensures { λ r. ⌜ r ≡ allWhole (now (numbers .entry)) (now (integers .entry)) from to ⌝ }
+{
+    (to <= from) | ((to <= numbers.len() / 4) & (to <= integers.len()))
+}
+
+// The number after the last of the reports from `from` up to, not including, `to` whose lines surely fit into so many bytes.
+fn last_of(from: usize, to: usize, size: usize) -> usize
+    ensures { λ r. ⌜ r ≡ from + min (size / 128) (to - from) ⌝ }
+{
+    if to <= from {
+        return from;
+    }
+    if to - from <= size / Report::ROOM {
+        return to;
+    }
+    from + size / Report::ROOM
+}
+
+// Question 53 of each of the reports numbered from `from` up to, not including, `to`.
+fn all_ok(table: &[u64], numbers: &[u64], integers: &[i64], from: usize, to: usize) -> bool
+    ensures { λ r. ⌜ r ≡ every (reportOk (contractOf (now (table .entry)))) (reportsFrom (now (numbers .entry)) (now (integers .entry)) from (to - from)) ⌝ }
+{
+    if !all_whole(numbers, integers, from, to) {
+        return false;
+    }
+    let mut i = from;
+    while i < to {
+        if !report_ok(table, report_at(numbers, integers, i)) {
+            return false;
+        }
+        i += 1;
+    }
+    true
+}
+
+// Their lines, one after the other; the place after them.
+fn put_lines(
+    table: &[u64],
+    numbers: &[u64],
+    integers: &[i64],
+    from: usize,
+    to: usize,
+    buffer: &mut [u8],
+) -> usize
+    requires { ⌜ AllReady (now table) (now numbers) (now integers) from to (length (now buffer)) ⌝ }
+    ensures { λ r. ⌜ Put (now (buffer .entry)) 0 (linesOf (contractOf (now (table .entry))) (reportsFrom (now (numbers .entry)) (now (integers .entry)) from (to - from))) r (now (buffer .exit)) ⌝ }
+{
+    let mut i = from;
+    let mut used: usize = 0;
+    while i < to {
+        let report = report_at(numbers, integers, i);
+        used = used + write_line(table, report, &mut buffer[used..used + Report::ROOM]);
+        i += 1;
+    }
+    used
+}
+
+// The lines of as many of the reports as surely fit, or none if question 53 refuses one of these.
 pub(crate) fn write_lines(
     table: &[u64],
     numbers: &[u64],
@@ -74,27 +126,17 @@ pub(crate) fn write_lines(
     ensures { λ r. ⌜ r ≡ batchOf (contractOf (now (table .entry))) (reportsFrom (now (numbers .entry)) (now (integers .entry)) from (to - from)) (length (now (buffer .entry))) ⌝ }
     ensures { λ r. ⌜ now (buffer .exit) ≡ batchAfter (contractOf (now (table .entry))) (reportsFrom (now (numbers .entry)) (now (integers .entry)) from (to - from)) r (now (buffer .entry)) ⌝ }
 {
-    let mut i = from;
-    let mut used: usize = 0;
-    while i < to {
-        if buffer.len() - used < ROOM {
-            break;
-        }
-        let report = report_at(numbers, integers, i);
-        if report_ok(table, report) {
-            used = used + write_line(table, report, &mut buffer[used..]);
-            i += 1;
-        } else {
-            return Batch {
-                question: questions::RESULT_KINDS,
-                many: i - from,
-                used: used,
-            };
-        }
+    let end = last_of(from, to, buffer.len());
+    if all_ok(table, numbers, integers, from, end) {
+        return Batch {
+            question: 0,
+            many: end - from,
+            used: put_lines(table, numbers, integers, from, end, buffer),
+        };
     }
     Batch {
-        question: 0,
-        many: i - from,
-        used: used,
+        question: questions::RESULT_KINDS,
+        many: 0,
+        used: 0,
     }
 }

@@ -9,7 +9,7 @@ use Rattle.laws.specs.Choice.{pick}
 use Rattle.numbers.specs.Numbers.{eqZ}
 use Rattle.contract.specs.Limits.{top, maxAssets, maxFields}
 use Rattle.laws.specs.Lists.{allBelow}
-use Rattle.contract.specs.Tree.{Contract, Function, Event, none, omitted, brokenExpression}
+use Rattle.contract.specs.Tree.{Word, Contract, Function, Event, none, omitted, brokenExpression}
 use Rattle.state.specs.declared.State.{State}
 use Rattle.state.specs.declared.Pending.{Pending}
 use Rattle.state.specs.declared.Due.{Due}
@@ -117,11 +117,49 @@ firstDue c s i (p ∷ ps) = pick (isDue c s p) (At i) (firstDue c s (suc i) ps)
 unfoldable pub dueIn : Contract → State → Due
 dueIn c s = firstDue c s 0 (live s)
 
--- ---- the pending events change
+-- ---- a state with a part changed; nowhere else is the record written out again
 
--- the state with these pending events
-unfoldable pub withPending : State → List Pending → State
-withPending s ps =
+-- with these values of fields and amounts of assets
+abbrev pub withMemory : State → List ℕ → List ℤ → List ℕ → List ℕ → State
+withMemory s kinds numbers texts assets =
+    record {
+      agreed = s .agreed;
+      state = s .state;
+      kinds = kinds;
+      numbers = numbers;
+      texts = texts;
+      assets = assets;
+      clock = s .clock;
+      pending = s .pending;
+      events = s .events;
+    }
+
+-- with an integer in field x
+abbrev pub withInteger : State → ℕ → ℤ → State
+withInteger s x z = withMemory s (set (s .kinds) x 1) (set (s .numbers) x z) (s .texts) (s .assets)
+
+-- agreed on, or not, and in state q
+abbrev pub withState : State → Bool → ℕ → State
+withState s agreed q =
+    record {
+      agreed = agreed;
+      state = q;
+      kinds = s .kinds;
+      numbers = s .numbers;
+      texts = s .texts;
+      assets = s .assets;
+      clock = s .clock;
+      pending = s .pending;
+      events = s .events;
+    }
+
+-- an agreement opens state q
+abbrev pub opened : State → ℕ → State
+opened s q = withState s true q
+
+-- with n pending events in these slots, at a clock
+abbrev pub withTimes : State → ℕ → ℕ → List Pending → State
+withTimes s clock n slots =
     record {
       agreed = s .agreed;
       state = s .state;
@@ -129,10 +167,20 @@ withPending s ps =
       numbers = s .numbers;
       texts = s .texts;
       assets = s .assets;
-      clock = s .clock;
-      pending = length ps;
-      events = ps ++ repeated (maxPending - length ps) blank;
+      clock = clock;
+      pending = n;
+      events = slots;
     }
+
+-- with these pending events
+unfoldable pub withPending : State → List Pending → State
+withPending s ps = withTimes s (s .clock) (length ps) (ps ++ repeated (maxPending - length ps) blank)
+
+-- the clock rises by 1
+abbrev pub later : State → State
+later s = withTimes s (suc (s .clock)) (s .pending) (s .events)
+
+-- ---- the pending events change
 
 -- without the events whose time equals the clock
 unfoldable pub lapsed : State → State
@@ -144,17 +192,14 @@ removed s i = withPending s (take i (live s) ++ drop (suc i) (live s))
 
 -- with one more after the last, if there is room
 unfoldable pub joinedBy : State → Pending → State
-joinedBy s p =
-    pick (ltb (s .pending) maxPending)
-    (record {
-      agreed = s .agreed;
-      state = s .state;
-      kinds = s .kinds;
-      numbers = s .numbers;
-      texts = s .texts;
-      assets = s .assets;
-      clock = s .clock;
-      pending = suc (s .pending);
-      events = set (s .events) (s .pending) p;
-    })
-    s
+joinedBy s p = pick (ltb (s .pending) maxPending) (withTimes s (s .clock) (suc (s .pending)) (set (s .events) (s .pending) p)) s
+
+-- time passes: the events of the old clock are dropped, and the clock rises by 1
+abbrev pub timePassed : State → State
+timePassed s = later (lapsed s)
+
+-- ---- names
+
+-- the name that party p of the contract goes by
+abbrev pub partyName : Contract → State → ℕ → Word
+partyName c s p = getD (c .parties) p []

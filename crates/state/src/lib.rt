@@ -27,14 +27,14 @@ pub struct State {
     pub agreed: bool,
     pub state: usize,
     // Of each field: 0 nothing, 1 an integer, 2 a string; its integer; its string's number.
-    pub kinds: [u8; 32],
-    pub numbers: [i64; 32],
-    pub texts: [u8; 32],
-    pub assets: [u64; 16],
+    pub kinds: [u8; Contract::FIELDS],
+    pub numbers: [i64; Contract::FIELDS],
+    pub texts: [u8; Contract::FIELDS],
+    pub assets: [u64; Contract::ASSETS],
     pub clock: u64,
     // How many events are pending, and the events, oldest first.
     pub pending: usize,
-    pub events: [Pending; 64],
+    pub events: [Pending; State::PENDING],
 }
 
 // Where the first due event stands among the pending ones.
@@ -46,7 +46,7 @@ pub enum Due {
 // The pending events that are kept: how many, and the slots with those in front.
 struct Slots {
     pending: usize,
-    events: [Pending; 64],
+    events: [Pending; State::PENDING],
 }
 
 impl State {
@@ -319,7 +319,7 @@ pub fn first_due(table: &[u64], s: State) -> Due
 // ---- The pending events change.
 
 // The pending events without those whose time equals the clock.
-fn without_time(events: [Pending; 64], pending: usize, clock: u64) -> Slots
+fn without_time(events: [Pending; State::PENDING], pending: usize, clock: u64) -> Slots
     ensures { λ r. ⌜ r ≡ slotsOf (keep (λ p. not (eqb (p .time) clock)) (take pending events)) ⌝ }
 {
     let blank = Pending {
@@ -348,7 +348,7 @@ fn without_time(events: [Pending; 64], pending: usize, clock: u64) -> Slots
 }
 
 // The pending events without the one at a place.
-fn without_place(events: [Pending; 64], pending: usize, place: usize) -> Slots
+fn without_place(events: [Pending; State::PENDING], pending: usize, place: usize) -> Slots
     ensures { λ r. ⌜ r ≡ slotsOf (take place (take pending events) ++ drop (suc place) (take pending events)) ⌝ }
 {
     let blank = Pending {

@@ -25,7 +25,7 @@ use Rattle.contract.specs.Decode.{holderOf, holderAt, expressionAt, valueMoveAt
 use Rattle.evaluation.specs.Memory.{Memory, placeOf}
 use Rattle.evaluation.specs.Meaning.{valueOf, refusalOf}
 use Rattle.statements.specs.declared.Work.{Work}
-use Rattle.statements.specs.Running.{memoryIn, stopped, stored, sent, place, moved, paid, withAmount, performed}
+use Rattle.statements.specs.Running.{memoryIn, stopped, stored, sent, receiver, place, moved, paid, withAmount, performed}
 use Rattle.statements.specs.Private.{endBefore, actionAt, valueGiven, amountGiven, answerAt}
 
 -- ---- the amount
@@ -73,11 +73,11 @@ module _ (w : Work) (t : List ℕ) (k : ℕ) (a : Answer) where
       go false = refl
 
   module _ (r : Work) (x : Value) (e : a ≡ Is x) (target : Node) (et : target ≡ nodeOf t (k - 1)) where
-    pub value-sent : target .kind ≡ 23 → r ≡ sent w (target .argument) x → r ≡ valueGiven w t k a
+    pub value-sent : (p : ℕ) → p ≡ receiver (target .argument) → target .kind ≡ 23 → r ≡ sent w p x → r ≡ valueGiven w t k a
     unfolding valueGiven
-    value-sent q h =
+    value-sent p ep q h =
         h
-        ∙ (λ i. sent w (et i .argument) x)
+        ∙ ap (λ (y : ℕ). sent w y x) (ep ∙ (λ i. receiver (et i .argument)))
         ∙ sym (pick-true _ _ _ (eq-eqb (kindAt t (k - 1)) 23 (sym (λ i. et i .kind) ∙ q)))
         ∙ sym (ap (valueGiven w t k) e)
 
@@ -93,11 +93,12 @@ module _ (w : Work) (t : List ℕ) (k : ℕ) (a : Answer) where
       from : i ≡ place (holderAt t (k - 2))
       from = ei ∙ (λ y. place (holderOf (es y .kind) (es y .argument)))
 
-      pub amount-paid : target .kind ≡ 23 → r ≡ withAmount w (Is x) (paid w i (target .argument)) → r ≡ amountGiven w t k a
+      pub amount-paid : (p : ℕ) → p ≡ receiver (target .argument) → target .kind ≡ 23 → r ≡ withAmount w (Is x) (paid w i p)
+          → r ≡ amountGiven w t k a
       unfolding amountGiven
-      amount-paid q h =
+      amount-paid p ep q h =
           h
-          ∙ (λ y. withAmount w (Is x) (paid w (from y) (et y .argument)))
+          ∙ (λ y. withAmount w (Is x) (paid w (from y) ((ep ∙ (λ z. receiver (et z .argument))) y)))
           ∙ sym (pick-true _ _ _ (eq-eqb (kindAt t (k - 1)) 23 (sym (λ y. et y .kind) ∙ q)))
           ∙ sym (ap (amountGiven w t k) e)
 
@@ -225,11 +226,11 @@ module _ (t : List ℕ) (k : ℕ) (node : Node) (en : node ≡ nodeOf t k) where
         ∙ sym (pick-true _ _ _ (eq-eqb (kindAt t k) 25 (same-kind 25 e)))
         ∙ sym (pick-false _ _ _ (ne-eqb (kindAt t k) 24 (other-kind 24 a)))
 
-    pub before-conditional : (node .kind ≡ 24 → ⊥) → (node .kind ≡ 25 → ⊥) → (node .kind ≡ 26 → ⊥) → m ≡ k - node .argument → n ≡ m - 1
+    pub before-conditional : (node .kind ≡ 24 → ⊥) → (node .kind ≡ 25 → ⊥) → (node .kind ≡ 26 → ⊥) → (x : ℕ) → x ≡ argumentAt t k → m ≡ k - x → n ≡ m - 1
         → r ≡ endBefore t k
     unfolding endBefore
-    before-conditional a b d em en′ =
-        let f : m ≡ k - argumentAt t k = em ∙ (λ i. k - en i .argument) in
+    before-conditional a b d x ex em en′ =
+        let f : m ≡ k - argumentAt t k = em ∙ (λ i. k - ex i) in
         er
         ∙ (λ i. f i - (es ∙ (λ j. sizeAt t ((en′ ∙ ap (λ (x : ℕ). x - 1) f) j))) i)
         ∙ sym (pick-false _ _ _ (ne-eqb (kindAt t k) 26 (other-kind 26 d)))

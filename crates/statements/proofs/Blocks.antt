@@ -89,9 +89,16 @@ module _ (w : List ℕ) (from end : ℕ) (h : from < end) where
 
 -- ---- running it
 
-pub ran-none : (v : List ℤ) (c : ℕ) (x : Work) (w : List ℕ) (from end : ℕ) → end ≤ from → x ≡ ran v c x (blockBetween w from end)
+-- before the first statement, which must start where the block does
+pub ran-none : (v : List ℤ) (c : ℕ) (x : Work) (w : List ℕ) (from end : ℕ) → end ≤ from → x .refusal ≡ 0 → (n m : ℕ) → n ≡ x .count → m ≡ pick (eqb end from) 0 3
+    → workFrom (x .kinds) (x .numbers) (x .texts) (x .holdings) (x .labels) n m ≡ ran v c x (blockBetween w from end)
 unfolding ran
-ran-none v c x w from end h = sym (ap (ran v c x) (block-step w from end ∙ pick-true _ _ _ (le-leb end from h)))
+ran-none v c x w from end h z n m en em =
+    (λ i. workFrom (x .kinds) (x .numbers) (x .texts) (x .holdings) (x .labels) (en i) (em i)) ∙ go (eqb end from) refl
+  where
+    go : (b : Bool) → eqb end from ≡ b → stopped x (pick (eqb end from) 0 3) ≡ ran v c x (blockBetween w from end)
+    go true e = ap (stopped x) (pick-true _ _ _ e ∙ sym z) ∙ sym (ap (ran v c x) (block-step w from end ∙ pick-true _ _ _ (le-leb end from h) ∙ pick-true _ _ _ e))
+    go false e = ap (stopped x) (pick-false _ _ _ e) ∙ sym (ap (ran v c x) (block-step w from end ∙ pick-true _ _ _ (le-leb end from h) ∙ pick-false _ _ _ e))
 
 -- ---- where a statement ends
 
@@ -196,12 +203,12 @@ module _ (v : List ℤ) (c : ℕ) (y : Work) (w : List ℕ) (k : ℕ) (node : No
   unfolding performedAt
   one-action n r q = q ∙ sym (pick-false _ _ _ (ne-eqb (kindAt w k) 27 (λ q. n (same-kind ∙ q))))
 
-  pub one-branch : node .kind ≡ 27 → (first : ℕ) → first ≡ k - node .argument → (r : Work) → r ≡ branched v c y w first k
+  pub one-branch : node .kind ≡ 27 → (x first : ℕ) → x ≡ argumentAt w k → first ≡ k - x → (r : Work) → r ≡ branched v c y w first k
       → r ≡ performedAt v c y w k
   unfolding performedAt
-  one-branch q first ef r e =
+  one-branch q x first ex ef r e =
       e
-      ∙ ap (λ (i : ℕ). branched v c y w i k) (ef ∙ (λ i. k - en i .argument))
+      ∙ ap (λ (i : ℕ). branched v c y w i k) (ef ∙ (λ i. k - ex i))
       ∙ sym (pick-true _ _ _ (eq-eqb (kindAt w k) 27 (sym same-kind ∙ q)))
 
 -- ---- the conditional at node k whose block starts at node first

@@ -3,3 +3,4 @@ pub mod Moves
 pub mod Parted
 pub mod Actions
 pub mod Blocks
+pub mod Silent

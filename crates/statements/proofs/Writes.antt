@@ -1,10 +1,11 @@
--- What is written to a list of labels whose kinds, parties and values stand apart. Assumes nothing.
+-- What is written to a list of words that hold labels. Assumes nothing.
 use mathlib.Core.Path.{_≡_, refl, sym, ap, _∙_}
 use mathlib.Core.List.{List, [], _∷_}
-use Prim.Native.Nat.{ℕ, zero, suc, _+_, _<_, _≤_}
+use Prim.Native.Nat.{ℕ, zero, suc, _+_, _*_, _<_, _≤_}
 use native.Mathlib.Numerals.{add-one}
+use native.Mathlib.Omega.{arith}
 use lib.ListN.{set}
-use lib.IntN.{ℤ}
+use lib.IntN.{ℤ, pos, natAbs}
 use borrow.Author.Tests.{lt-ltb, le-ltb}
 use Rattle.laws.proofs.Choice.{pick-true, pick-false}
 use Rattle.numbers.specs.declared.Value.{Value}
@@ -12,18 +13,23 @@ use Rattle.statements.specs.declared.Label.{Label}
 use Rattle.statements.specs.Running.{labelsFrom}
 use Rattle.statements.specs.Private.{sortOf, amountOf, labelsWith, countWith}
 
--- a store to each of the three lists is a store of a label
-pub labels-set : (ks ps : List ℕ) (vs : List ℤ) (i k p : ℕ) (v : ℤ)
-    → labelsFrom (set ks i k) (set ps i p) (set vs i v) ≡ set (labelsFrom ks ps vs) i (record { kind = k; party = p; value = v })
+-- words k, p and v in the place of label i are a store of that label
+pub words-set : (ws : List ℤ) (i k p : ℕ) (v : ℤ)
+    → labelsFrom (set (set (set ws (3 * i) (pos k)) (suc (3 * i)) (pos p)) (suc (suc (3 * i))) v) ≡ set (labelsFrom ws) i (record { kind = k; party = p; value = v })
 unfolding labelsFrom
-labels-set [] ps vs i k p v = refl
-labels-set (x ∷ ks) [] vs zero k p v = refl
-labels-set (x ∷ ks) [] vs (suc i) k p v = refl
-labels-set (x ∷ ks) (y ∷ ps) [] zero k p v = refl
-labels-set (x ∷ ks) (y ∷ ps) [] (suc i) k p v = refl
-labels-set (x ∷ ks) (y ∷ ps) (z ∷ vs) zero k p v = refl
-labels-set (x ∷ ks) (y ∷ ps) (z ∷ vs) (suc i) k p v =
-    ap (λ (l : List Label). record { kind = x; party = y; value = z } ∷ l) (labels-set ks ps vs i k p v)
+words-set [] i k p v = refl
+words-set (x ∷ []) zero k p v = refl
+words-set (x ∷ []) (suc i) k p v =
+    let e : 3 * suc i ≡ suc (suc (suc (3 * i))) = omega arith in
+    rw e refl
+words-set (x ∷ y ∷ []) zero k p v = refl
+words-set (x ∷ y ∷ []) (suc i) k p v =
+    let e : 3 * suc i ≡ suc (suc (suc (3 * i))) = omega arith in
+    rw e refl
+words-set (x ∷ y ∷ z ∷ ws) zero k p v = refl
+words-set (x ∷ y ∷ z ∷ ws) (suc i) k p v =
+    let e : 3 * suc i ≡ suc (suc (suc (3 * i))) = omega arith in
+    rw e (ap (λ (l : List Label). record { kind = natAbs x; party = natAbs y; value = z } ∷ l) (words-set ws i k p v))
 
 module _ (n : ℕ) where
   pub label-full : (l : List Label) (kind party : ℕ) (value : ℤ) → 64 ≤ n → l ≡ labelsWith l n kind party value
@@ -34,13 +40,14 @@ module _ (n : ℕ) where
   unfolding countWith
   count-full h = sym (pick-false _ _ _ (le-ltb n 64 h))
 
-  -- the code reads the value back from its bits
-  pub label-added : (ks ps : List ℕ) (vs : List ℤ) (kind party : ℕ) (value y : ℤ) → y ≡ value → n < 64
-      → labelsFrom (set ks n kind) (set ps n party) (set vs n y) ≡ labelsWith (labelsFrom ks ps vs) n kind party value
+  -- the code reads words back from their bits
+  pub label-added : (ws : List ℤ) (kind party : ℕ) (value x y z : ℤ) (a b c : ℕ) → x ≡ pos kind → y ≡ pos party → z ≡ value
+      → a ≡ 3 * n → b ≡ suc (3 * n) → c ≡ suc (suc (3 * n)) → n < 64
+      → labelsFrom (set (set (set ws a x) b y) c z) ≡ labelsWith (labelsFrom ws) n kind party value
   unfolding labelsWith
-  label-added ks ps vs kind party value y e h =
-      ap (λ (z : ℤ). labelsFrom (set ks n kind) (set ps n party) (set vs n z)) e
-      ∙ labels-set ks ps vs n kind party value
+  label-added ws kind party value x y z a b c ex ey ez ea eb ec h =
+      (λ i. labelsFrom (set (set (set ws (ea i) (ex i)) (eb i) (ey i)) (ec i) (ez i)))
+      ∙ words-set ws n kind party value
       ∙ sym (pick-true _ _ _ (lt-ltb n 64 h))
 
   pub count-added : n < 64 → n + 1 ≡ countWith n

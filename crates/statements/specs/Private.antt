@@ -18,7 +18,7 @@ use Rattle.evaluation.specs.Memory.{Memory}
 use Rattle.evaluation.specs.Meaning.{valueOf, truthOf}
 use Rattle.statements.specs.declared.Label.{Label}
 use Rattle.statements.specs.declared.Work.{Work}
-use Rattle.statements.specs.Running.{maxLabels, memoryIn, stored, sent, moved, paid, place, withValue, withAmount, performed, byTruth, ran, workFrom}
+use Rattle.statements.specs.Running.{maxLabels, memoryIn, stored, sent, moved, paid, receiver, place, withValue, withAmount, performed, byTruth, ran, workFrom}
 
 -- the number of the question that refused, and 0 of a truth
 abbrev pub truthRefusal : Truth → ℕ
@@ -76,13 +76,13 @@ onlyHoldings l n = workFrom [] [] [] l [] 0 n
 -- E -> t at node k, with the answer of E
 unfoldable pub valueGiven : Work → List ℕ → ℕ → Answer → Work
 valueGiven w t k a =
-    pick (eqb (kindAt t (k - 1)) partyKind) (withValue w a (sent w (argumentAt t (k - 1)))) (withValue w a (stored w (argumentAt t (k - 1))))
+    pick (eqb (kindAt t (k - 1)) partyKind) (withValue w a (sent w (receiver (argumentAt t (k - 1))))) (withValue w a (stored w (argumentAt t (k - 1))))
 
 -- a move at node k, with the answer of its amount
 unfoldable pub amountGiven : Work → List ℕ → ℕ → Answer → Work
 amountGiven w t k a =
     pick (eqb (kindAt t (k - 1)) partyKind)
-    (withAmount w a (paid w (place (holderAt t (k - 2))) (argumentAt t (k - 1))))
+    (withAmount w a (paid w (place (holderAt t (k - 2))) (receiver (argumentAt t (k - 1)))))
     (withAmount w a (moved w (place (holderAt t (k - 2))) (place (holderAt t (k - 1)))))
 
 -- what the statement at node k of a kind hands on: what its expression gives, or all that its source holds

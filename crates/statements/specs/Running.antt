@@ -4,7 +4,7 @@ use mathlib.Core.Bool.{true, false}
 use mathlib.Core.List.{List, [], _∷_}
 use lib.ListN.{getD, set}
 use lib.Dec.{eqb, leb, ltb}
-use lib.IntN.{ℤ, pos, negsuc}
+use lib.IntN.{ℤ, pos, negsuc, natAbs}
 use Rattle.laws.specs.Choice.{pick}
 use Rattle.numbers.specs.declared.Value.{Value}
 use Rattle.numbers.specs.declared.Value.the-variants.{Integer, Text}
@@ -12,7 +12,7 @@ use Rattle.numbers.specs.declared.Answer.{Answer}
 use Rattle.numbers.specs.declared.Answer.the-variants as answer
 use Rattle.numbers.specs.declared.Truth.{Truth}
 use Rattle.numbers.specs.declared.Truth.the-variants as truth
-use Rattle.contract.specs.Limits.{top}
+use Rattle.contract.specs.Limits.{top, maxParties}
 use Rattle.contract.specs.Tree.{Holder, held, Action, assign, send, move, pay, moveAll, payAll, Block, none, perform, conditional, brokenBlock}
 use Rattle.evaluation.specs.Memory.{Memory, memoryOf, placeOf}
 use Rattle.evaluation.specs.Meaning.{valueOf, truthOf}
@@ -91,6 +91,10 @@ abbrev pub sent : Work → ℕ → Value → Work
 sent w a (Integer z) = labelled w integerLabel a z
 sent w a (Text n) = labelled w stringLabel a (pos n)
 
+-- a party's number; past the last one, of no contract that was read
+abbrev pub receiver : ℕ → ℕ
+receiver a = min a maxParties
+
 -- a holder's place, and the amount there
 abbrev pub place : Holder → ℕ
 place h = min (placeOf h) maxHoldings
@@ -129,11 +133,11 @@ withAmount w (answer.Is (Integer (negsuc n))) f = stopped w 34
 -- `h -o t` means all of h
 unfoldable pub performed : List ℤ → ℕ → Work → Action → Work
 performed v t w (assign e x) = withValue w (valueOf (memoryIn v t w) e) (stored w x)
-performed v t w (send e a) = withValue w (valueOf (memoryIn v t w) e) (sent w a)
+performed v t w (send e a) = withValue w (valueOf (memoryIn v t w) e) (sent w (receiver a))
 performed v t w (move e h k) = withAmount w (valueOf (memoryIn v t w) e) (moved w (place h) (place k))
-performed v t w (pay e h a) = withAmount w (valueOf (memoryIn v t w) e) (paid w (place h) a)
+performed v t w (pay e h a) = withAmount w (valueOf (memoryIn v t w) e) (paid w (place h) (receiver a))
 performed v t w (moveAll h k) = withAmount w (valueOf (memoryIn v t w) (held h)) (moved w (place h) (place k))
-performed v t w (payAll h a) = withAmount w (valueOf (memoryIn v t w) (held h)) (paid w (place h) a)
+performed v t w (payAll h a) = withAmount w (valueOf (memoryIn v t w) (held h)) (paid w (place h) (receiver a))
 
 -- the block of a conditional is run if its condition holds
 abbrev pub byTruth : Work → Truth → Work → Work
@@ -151,18 +155,21 @@ ran v t w brokenBlock = stopped w 3
 
 -- ---- a work whose parts stand apart
 
--- labels by their kinds, parties and values
-unfoldable pub labelsFrom : List ℕ → List ℕ → List ℤ → List Label
-labelsFrom [] ps vs = []
-labelsFrom (k ∷ ks) [] vs = []
-labelsFrom (k ∷ ks) (p ∷ ps) [] = []
-labelsFrom (k ∷ ks) (p ∷ ps) (v ∷ vs) = record { kind = k; party = p; value = v } ∷ labelsFrom ks ps vs
+-- a label is so many words: kind, party, value
+abbrev pub labelWords : ℕ
+labelWords = 3
+
+-- labels by their words
+unfoldable pub labelsFrom : List ℤ → List Label
+labelsFrom [] = []
+labelsFrom (k ∷ []) = []
+labelsFrom (k ∷ p ∷ []) = []
+labelsFrom (k ∷ p ∷ v ∷ ws) = record { kind = natAbs k; party = natAbs p; value = v } ∷ labelsFrom ws
 
 abbrev pub workFrom : List ℕ → List ℤ → List ℕ → List ℕ → List Label → ℕ → ℕ → Work
 workFrom kinds numbers texts holdings labels count refusal =
     record { kinds = kinds; numbers = numbers; texts = texts; holdings = holdings; labels = labels; count = count; refusal = refusal }
 
--- the same, the labels standing in three lists
-abbrev pub workIn : List ℕ → List ℤ → List ℕ → List ℕ → List ℕ → List ℕ → List ℤ → ℕ → ℕ → Work
-workIn kinds numbers texts holdings sorts receivers amounts count refusal =
-    workFrom kinds numbers texts holdings (labelsFrom sorts receivers amounts) count refusal
+-- the same, the labels standing in a list of words
+abbrev pub workIn : List ℕ → List ℤ → List ℕ → List ℕ → List ℤ → ℕ → ℕ → Work
+workIn kinds numbers texts holdings words count refusal = workFrom kinds numbers texts holdings (labelsFrom words) count refusal

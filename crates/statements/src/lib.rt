@@ -1,43 +1,55 @@
 // Runs the statements of a block, which stand in a table with their parts before them.
 ghost use mathlib.Core.Path.{_≡_};
 ghost use mathlib.Core.List.{List, []};
-ghost use Prim.Native.Nat.{ℕ, _-_};
+ghost use Prim.Native.Nat.{ℕ, _-_, _<_};
 ghost use lib.ListN.{getD, set};
 ghost use lib.IntN.{ℤ};
-ghost use Rattle.contract.specs.Table.{sizeAt};
+ghost use lib.Dec.{eqb};
+ghost use Rattle.laws.specs.Choice.{pick};
+ghost use Rattle.contract.specs.Table.{argumentAt, sizeAt};
 ghost use Rattle.contract.specs.Decode.{holderOf, blockBetween};
 ghost use Rattle.evaluation.specs.Memory.{memoryOf, placeOf};
-ghost use Rattle.statements.specs.Running.{place, moved, paid, withAmount, performed, ran, labelsFrom, workIn};
+ghost use Rattle.statements.specs.Running.{receiver, place, moved, paid, withAmount, performed, ran, labelsFrom, workIn};
 ghost use Rattle.statements.specs.Private.{truthRefusal, endBefore, actionAt, sortOf, numberOf, textOf, amountOf, labelsWith, countWith, takenFrom, takenRefusal, onlyHoldings, valueGiven, amountGiven, answerAt, statementAt, branched, performedAt};
+use contract::Contract;
+use contract::Function;
 use contract::Node;
+use evaluation::Holdings;
 use numbers::Answer;
 use numbers::Truth;
 use numbers::Value;
 
 // What a send leaves: kind (1 integer, 2 string, 3 asset), party, and value, a string's being its number.
 pub struct Label {
-    pub kind: u8,
+    pub kind: u64,
     pub party: usize,
     pub value: i64,
 }
 
 impl Label {
-    pub const INTEGER: u8 = 1;
+    pub const INTEGER: u64 = 1;
 
-    pub const STRING: u8 = 2;
+    pub const STRING: u64 = 2;
 
-    pub const ASSET: u8 = 3;
+    pub const ASSET: u64 = 3;
+
+    // The most labels of a step, the words of one, and the words of all.
+    pub const MOST: usize = 64;
+
+    pub const WORDS: usize = 3;
+
+    pub const ROOM: usize = Label::MOST * Label::WORDS;
 }
 
 // A memory that statements work on, with the labels that they have sent and the question that refused, 0 where none did. Definitions speak
 // of it whole; the code has its parts in lent arrays.
 pub struct Work {
-    pub kinds: [u8; 32],
-    pub numbers: [i64; 32],
-    pub texts: [u8; 32],
+    pub kinds: [u8; Contract::FIELDS],
+    pub numbers: [i64; Contract::FIELDS],
+    pub texts: [u8; Contract::FIELDS],
     // The amounts of the assets, then of the asset parameters.
-    pub holdings: [u64; 20],
-    pub labels: [Label; 64],
+    pub holdings: [u64; Holdings::MOST],
+    pub labels: [Label; Label::MOST],
     pub count: usize,
     pub refusal: u8,
 }
@@ -90,9 +102,9 @@ fn set_integer(list: &mut [i64], i: usize, z: i64)
 
 // Field x holds what its kind says: an integer, or a string by its number.
 fn fill(
-    kinds: &mut [u8; 32],
-    numbers: &mut [i64; 32],
-    texts: &mut [u8; 32],
+    kinds: &mut [u8; Contract::FIELDS],
+    numbers: &mut [i64; Contract::FIELDS],
+    texts: &mut [u8; Contract::FIELDS],
     x: usize,
     kind: u8,
     number: i64,
@@ -109,9 +121,9 @@ fn fill(
 
 // Field x gets a value.
 fn store(
-    kinds: &mut [u8; 32],
-    numbers: &mut [i64; 32],
-    texts: &mut [u8; 32],
+    kinds: &mut [u8; Contract::FIELDS],
+    numbers: &mut [i64; Contract::FIELDS],
+    texts: &mut [u8; Contract::FIELDS],
     x: usize,
     value: Value,
 )
@@ -127,50 +139,45 @@ fn store(
 
 // A label after those sent so far; how many there are then.
 fn add_label(
-    sorts: &mut [u8; 64],
-    receivers: &mut [usize; 64],
-    amounts: &mut [i64; 64],
+    labels: &mut [i64; Label::ROOM],
     count: usize,
-    kind: u8,
-    party: usize,
+    kind: u64,
+    party: u8,
     value: i64,
 ) -> usize
-    ensures { λ r. ⌜ labelsFrom (now (sorts .exit)) (now (receivers .exit)) (now (amounts .exit)) ≡ labelsWith (labelsFrom (now (sorts .entry)) (now (receivers .entry)) (now (amounts .entry))) count kind party value ⌝ }
+    requires { ⌜ kind < 4 ⌝ }
+    ensures { λ r. ⌜ labelsFrom (now (labels .exit)) ≡ labelsWith (labelsFrom (now (labels .entry))) count kind party value ⌝ }
     ensures { λ r. ⌜ r ≡ countWith count ⌝ }
 {
-    if 64 <= count {
+    if Label::MOST <= count {
         return count;
     }
-    sorts[count] = kind;
-    receivers[count] = party;
-    amounts[count] = value;
+    let at = count * Label::WORDS;
+    labels[at] = kind as i64;
+    labels[at + 1] = party as i64;
+    labels[at + 2] = value;
     count + 1
 }
 
 // A value is sent to a party; how many labels there are then.
-fn send(
-    sorts: &mut [u8; 64],
-    receivers: &mut [usize; 64],
-    amounts: &mut [i64; 64],
-    count: usize,
-    party: usize,
-    value: Value,
-) -> usize
-    ensures { λ r. ⌜ labelsFrom (now (sorts .exit)) (now (receivers .exit)) (now (amounts .exit)) ≡ labelsWith (labelsFrom (now (sorts .entry)) (now (receivers .entry)) (now (amounts .entry))) count (sortOf value) party (amountOf value) ⌝ }
+fn send(labels: &mut [i64; Label::ROOM], count: usize, party: u8, value: Value) -> usize
+    ensures { λ r. ⌜ labelsFrom (now (labels .exit)) ≡ labelsWith (labelsFrom (now (labels .entry))) count (sortOf value) party (amountOf value) ⌝ }
     ensures { λ r. ⌜ r ≡ countWith count ⌝ }
 {
     match value {
-        Value::Integer(z) => add_label(sorts, receivers, amounts, count, Label::INTEGER, party, z),
-        Value::Text(n) => add_label(
-            sorts,
-            receivers,
-            amounts,
-            count,
-            Label::STRING,
-            party,
-            n as i64,
-        ),
+        Value::Integer(z) => add_label(labels, count, Label::INTEGER, party, z),
+        Value::Text(n) => add_label(labels, count, Label::STRING, party, n as i64),
     }
+}
+
+// The number of the party that a node names; past the last one, of no contract that was read.
+fn receiver_of(argument: u64) -> u8
+    ensures { λ r. ⌜ r ≡ receiver argument ⌝ }
+{
+    if Contract::PARTIES as u64 <= argument {
+        return Contract::PARTIES as u8;
+    }
+    argument as u8
 }
 
 // The amount at place i, and 0 where there is none.
@@ -194,14 +201,18 @@ fn set_amount(holdings: &mut [u64], i: usize, n: u64)
 fn place_of(kind: u64, argument: u64) -> usize
     ensures { λ r. ⌜ r ≡ place (holderOf kind argument) ⌝ }
 {
-    if 20 <= argument {
-        return 20;
+    if Holdings::MOST as u64 <= argument {
+        return Holdings::MOST;
     }
     let i = argument as usize;
     if kind == Node::ASSET {
         return i;
     }
-    if i < 4 { 16 + i } else { 20 }
+    if i < Function::PARAMETERS {
+        Contract::ASSETS + i
+    } else {
+        Holdings::MOST
+    }
 }
 
 // All that the holder that a node names holds.
@@ -215,18 +226,18 @@ fn held_amount(holdings: &[u64], kind: u64, argument: u64) -> u64
     if holdings.len() <= i {
         return 0;
     }
-    amount(holdings, 16 + i)
+    amount(holdings, Contract::ASSETS + i)
 }
 
 // n goes from place i to place j: the question that refuses it, 0 where none does.
-fn move_amount(holdings: &mut [u64; 20], i: usize, j: usize, n: u64) -> u8
+fn move_amount(holdings: &mut [u64; Holdings::MOST], i: usize, j: usize, n: u64) -> u8
     ensures { λ r. ⌜ onlyHoldings (now (holdings .exit)) r ≡ moved (onlyHoldings (now (holdings .entry)) 0) i j n ⌝ }
 {
     let source = amount(holdings, i);
     if source < n {
         return questions::AMOUNT_HELD;
     }
-    if 20 <= j {
+    if Holdings::MOST <= j {
         return questions::TABLE_CHECK;
     }
     if i == j {
@@ -245,7 +256,7 @@ fn move_amount(holdings: &mut [u64; 20], i: usize, j: usize, n: u64) -> u8
 }
 
 // n is taken from place i: the question that refuses it, 0 where none does.
-fn take_amount(holdings: &mut [u64; 20], i: usize, n: u64) -> u8
+fn take_amount(holdings: &mut [u64; Holdings::MOST], i: usize, n: u64) -> u8
     ensures { λ r. ⌜ now (holdings .exit) ≡ takenFrom (now (holdings .entry)) i n ⌝ }
     ensures { λ r. ⌜ r ≡ takenRefusal (now (holdings .entry)) i n ⌝ }
 {
@@ -258,7 +269,7 @@ fn take_amount(holdings: &mut [u64; 20], i: usize, n: u64) -> u8
 }
 
 // n goes from place i to place j, n being a value: the question that refuses it, 0 where none does.
-fn move_value(holdings: &mut [u64; 20], i: usize, j: usize, value: Value) -> u8
+fn move_value(holdings: &mut [u64; Holdings::MOST], i: usize, j: usize, value: Value) -> u8
     ensures { λ r. ⌜ onlyHoldings (now (holdings .exit)) r ≡ withAmount (onlyHoldings (now (holdings .entry)) 0) (Answer.Is value) (moved (onlyHoldings (now (holdings .entry)) 0) i j) ⌝ }
 {
     let Value::Integer(z) = value else {
@@ -272,19 +283,17 @@ fn move_value(holdings: &mut [u64; 20], i: usize, j: usize, value: Value) -> u8
 
 // n is paid from place i to a party, n being a value.
 fn pay_value(
-    holdings: &mut [u64; 20],
-    sorts: &mut [u8; 64],
-    receivers: &mut [usize; 64],
-    amounts: &mut [i64; 64],
+    holdings: &mut [u64; Holdings::MOST],
+    labels: &mut [i64; Label::ROOM],
     count: usize,
     i: usize,
-    party: usize,
+    party: u8,
     value: Value,
 ) -> Ran
     ensures { λ r.
-        ⌜ workIn [] [] [] (now (holdings .exit)) (now (sorts .exit)) (now (receivers .exit)) (now (amounts .exit)) (r .count) (r .refusal)
-        ≡ withAmount (workIn [] [] [] (now (holdings .entry)) (now (sorts .entry)) (now (receivers .entry)) (now (amounts .entry)) count 0) (Answer.Is value)
-        (paid (workIn [] [] [] (now (holdings .entry)) (now (sorts .entry)) (now (receivers .entry)) (now (amounts .entry)) count 0) i party) ⌝ }
+        ⌜ workIn [] [] [] (now (holdings .exit)) (now (labels .exit)) (r .count) (r .refusal)
+        ≡ withAmount (workIn [] [] [] (now (holdings .entry)) (now (labels .entry)) count 0) (Answer.Is value)
+        (paid (workIn [] [] [] (now (holdings .entry)) (now (labels .entry)) count 0) i party) ⌝ }
 {
     let Value::Integer(z) = value else {
         return Ran {
@@ -302,28 +311,26 @@ fn pay_value(
     if refusal != 0 {
         return Ran { count, refusal };
     }
-    let count = add_label(sorts, receivers, amounts, count, Label::ASSET, party, z);
+    let count = add_label(labels, count, Label::ASSET, party, z);
     Ran { count, refusal: 0 }
 }
 
 // E -> t at node k, with the answer of E: a party is sent the value, or a field gets it.
 fn give_value(
     table: &[u64],
-    kinds: &mut [u8; 32],
-    numbers: &mut [i64; 32],
-    texts: &mut [u8; 32],
-    sorts: &mut [u8; 64],
-    receivers: &mut [usize; 64],
-    amounts: &mut [i64; 64],
+    kinds: &mut [u8; Contract::FIELDS],
+    numbers: &mut [i64; Contract::FIELDS],
+    texts: &mut [u8; Contract::FIELDS],
+    labels: &mut [i64; Label::ROOM],
     count: usize,
     k: usize,
     answer: Answer,
 ) -> Ran
     ensures { λ r.
         ⌜ ((hs : List ℕ)
-        → workIn (now (kinds .exit)) (now (numbers .exit)) (now (texts .exit)) hs (now (sorts .exit)) (now (receivers .exit)) (now (amounts .exit)) (r .count) (r .refusal)
+        → workIn (now (kinds .exit)) (now (numbers .exit)) (now (texts .exit)) hs (now (labels .exit)) (r .count) (r .refusal)
         ≡ valueGiven
-        (workIn (now (kinds .entry)) (now (numbers .entry)) (now (texts .entry)) hs (now (sorts .entry)) (now (receivers .entry)) (now (amounts .entry)) count 0)
+        (workIn (now (kinds .entry)) (now (numbers .entry)) (now (texts .entry)) hs (now (labels .entry)) count 0)
         (now (table .entry)) k answer) ⌝ }
 {
     let Answer::Is(value) = answer else {
@@ -333,11 +340,12 @@ fn give_value(
         };
     };
     let target = contract::node_at(table, minus(k, 1));
-    let i = target.argument as usize;
     if target.kind == Node::PARTY {
-        let count = send(sorts, receivers, amounts, count, i, value);
+        let party = receiver_of(target.argument);
+        let count = send(labels, count, party, value);
         return Ran { count, refusal: 0 };
     }
+    let i = target.argument as usize;
     store(kinds, numbers, texts, i, value);
     Ran { count, refusal: 0 }
 }
@@ -345,19 +353,17 @@ fn give_value(
 // A move at node k, with the answer of its amount: it goes where the two nodes before node k say.
 fn give_amount(
     table: &[u64],
-    holdings: &mut [u64; 20],
-    sorts: &mut [u8; 64],
-    receivers: &mut [usize; 64],
-    amounts: &mut [i64; 64],
+    holdings: &mut [u64; Holdings::MOST],
+    labels: &mut [i64; Label::ROOM],
     count: usize,
     k: usize,
     answer: Answer,
 ) -> Ran
     ensures { λ r.
         ⌜ ((ks : List ℕ) (ns : List ℤ) (ts : List ℕ)
-        → workIn ks ns ts (now (holdings .exit)) (now (sorts .exit)) (now (receivers .exit)) (now (amounts .exit)) (r .count) (r .refusal)
+        → workIn ks ns ts (now (holdings .exit)) (now (labels .exit)) (r .count) (r .refusal)
         ≡ amountGiven
-        (workIn ks ns ts (now (holdings .entry)) (now (sorts .entry)) (now (receivers .entry)) (now (amounts .entry)) count 0)
+        (workIn ks ns ts (now (holdings .entry)) (now (labels .entry)) count 0)
         (now (table .entry)) k answer) ⌝ }
 {
     let Answer::Is(value) = answer else {
@@ -370,8 +376,8 @@ fn give_amount(
     let target = contract::node_at(table, minus(k, 1));
     let i = place_of(source.kind, source.argument);
     if target.kind == Node::PARTY {
-        let party = target.argument as usize;
-        return pay_value(holdings, sorts, receivers, amounts, count, i, party, value);
+        let party = receiver_of(target.argument);
+        return pay_value(holdings, labels, count, i, party, value);
     }
     let j = place_of(target.kind, target.argument);
     let refusal = move_value(holdings, i, j, value);
@@ -381,10 +387,10 @@ fn give_amount(
 // What the statement at node k, of a kind that is no conditional's, hands on: what its expression gives, or all that its source holds.
 fn answer_of(
     table: &[u64],
-    kinds: &[u8; 32],
-    numbers: &[i64; 32],
-    texts: &[u8; 32],
-    holdings: &[u64; 20],
+    kinds: &[u8; Contract::FIELDS],
+    numbers: &[i64; Contract::FIELDS],
+    texts: &[u8; Contract::FIELDS],
+    holdings: &[u64; Holdings::MOST],
     values: &[i64],
     clock: u64,
     k: usize,
@@ -407,22 +413,20 @@ fn answer_of(
 // The statement at node k, not a conditional.
 fn act(
     table: &[u64],
-    kinds: &mut [u8; 32],
-    numbers: &mut [i64; 32],
-    texts: &mut [u8; 32],
-    holdings: &mut [u64; 20],
-    sorts: &mut [u8; 64],
-    receivers: &mut [usize; 64],
-    amounts: &mut [i64; 64],
+    kinds: &mut [u8; Contract::FIELDS],
+    numbers: &mut [i64; Contract::FIELDS],
+    texts: &mut [u8; Contract::FIELDS],
+    holdings: &mut [u64; Holdings::MOST],
+    labels: &mut [i64; Label::ROOM],
     count: usize,
     values: &[i64],
     clock: u64,
     k: usize,
 ) -> Ran
     ensures { λ r.
-        ⌜ workIn (now (kinds .exit)) (now (numbers .exit)) (now (texts .exit)) (now (holdings .exit)) (now (sorts .exit)) (now (receivers .exit)) (now (amounts .exit)) (r .count) (r .refusal)
+        ⌜ workIn (now (kinds .exit)) (now (numbers .exit)) (now (texts .exit)) (now (holdings .exit)) (now (labels .exit)) (r .count) (r .refusal)
         ≡ performed (now (values .entry)) clock
-        (workIn (now (kinds .entry)) (now (numbers .entry)) (now (texts .entry)) (now (holdings .entry)) (now (sorts .entry)) (now (receivers .entry)) (now (amounts .entry)) count 0) (actionAt (now (table .entry)) k) ⌝ }
+        (workIn (now (kinds .entry)) (now (numbers .entry)) (now (texts .entry)) (now (holdings .entry)) (now (labels .entry)) count 0) (actionAt (now (table .entry)) k) ⌝ }
 {
     let kind = contract::node_at(table, k).kind;
     let answer = answer_of(
@@ -437,20 +441,9 @@ fn act(
         kind,
     );
     if kind == Node::VALUE_MOVE {
-        return give_value(
-            table,
-            kinds,
-            numbers,
-            texts,
-            sorts,
-            receivers,
-            amounts,
-            count,
-            k,
-            answer,
-        );
+        return give_value(table, kinds, numbers, texts, labels, count, k, answer);
     }
-    give_amount(table, holdings, sorts, receivers, amounts, count, k, answer)
+    give_amount(table, holdings, labels, count, k, answer)
 }
 
 // The size of node k.
@@ -459,6 +452,14 @@ fn size_at(table: &[u64], k: usize) -> usize
 {
     let node = contract::node_at(table, k);
     node.size
+}
+
+// The argument of node k. It is read where it is needed, so that other nodes don't pay for it.
+fn argument_at(table: &[u64], k: usize) -> usize
+    ensures { λ r. ⌜ r ≡ argumentAt (now (table .entry)) k ⌝ }
+{
+    let node = contract::node_at(table, k);
+    node.argument as usize
 }
 
 // Where the block before the statement at node k ends.
@@ -475,7 +476,7 @@ fn end_before(table: &[u64], k: usize) -> usize
     if node.kind == Node::WHOLE_MOVE {
         return minus(k, 2);
     }
-    let first = minus(k, node.argument as usize);
+    let first = minus(k, argument_at(table, k));
     minus(first, size_at(table, minus(first, 1)))
 }
 
@@ -501,16 +502,25 @@ fn broken(count: usize) -> Ran
     }
 }
 
+// A block up to its first statement: nothing is done, and it is broken where that statement starts before it.
+fn begin(count: usize, from: usize, end: usize) -> Ran
+    ensures { λ r. ⌜ r .count ≡ count ⌝ }
+    ensures { λ r. ⌜ r .refusal ≡ pick (eqb end from) 0 3 ⌝ }
+{
+    if end == from {
+        return Ran { count, refusal: 0 };
+    }
+    broken(count)
+}
+
 // The conditional at node k whose block starts at node `first`: the block is run where the condition before it holds.
 fn branch(
     table: &[u64],
-    kinds: &mut [u8; 32],
-    numbers: &mut [i64; 32],
-    texts: &mut [u8; 32],
-    holdings: &mut [u64; 20],
-    sorts: &mut [u8; 64],
-    receivers: &mut [usize; 64],
-    amounts: &mut [i64; 64],
+    kinds: &mut [u8; Contract::FIELDS],
+    numbers: &mut [i64; Contract::FIELDS],
+    texts: &mut [u8; Contract::FIELDS],
+    holdings: &mut [u64; Holdings::MOST],
+    labels: &mut [i64; Label::ROOM],
     count: usize,
     values: &[i64],
     clock: u64,
@@ -518,9 +528,9 @@ fn branch(
     k: usize,
 ) -> Ran
     ensures { λ r.
-        ⌜ workIn (now (kinds .exit)) (now (numbers .exit)) (now (texts .exit)) (now (holdings .exit)) (now (sorts .exit)) (now (receivers .exit)) (now (amounts .exit)) (r .count) (r .refusal)
+        ⌜ workIn (now (kinds .exit)) (now (numbers .exit)) (now (texts .exit)) (now (holdings .exit)) (now (labels .exit)) (r .count) (r .refusal)
         ≡ branched (now (values .entry)) clock
-        (workIn (now (kinds .entry)) (now (numbers .entry)) (now (texts .entry)) (now (holdings .entry)) (now (sorts .entry)) (now (receivers .entry)) (now (amounts .entry)) count 0) (now (table .entry)) first k ⌝ }
+        (workIn (now (kinds .entry)) (now (numbers .entry)) (now (texts .entry)) (now (holdings .entry)) (now (labels .entry)) count 0) (now (table .entry)) first k ⌝ }
 {
     let answer = evaluation::truth(
         table,
@@ -545,9 +555,7 @@ fn branch(
             numbers,
             texts,
             holdings,
-            sorts,
-            receivers,
-            amounts,
+            labels,
             count,
             values,
             clock,
@@ -561,22 +569,20 @@ fn branch(
 // The statement at node k.
 fn perform_one(
     table: &[u64],
-    kinds: &mut [u8; 32],
-    numbers: &mut [i64; 32],
-    texts: &mut [u8; 32],
-    holdings: &mut [u64; 20],
-    sorts: &mut [u8; 64],
-    receivers: &mut [usize; 64],
-    amounts: &mut [i64; 64],
+    kinds: &mut [u8; Contract::FIELDS],
+    numbers: &mut [i64; Contract::FIELDS],
+    texts: &mut [u8; Contract::FIELDS],
+    holdings: &mut [u64; Holdings::MOST],
+    labels: &mut [i64; Label::ROOM],
     count: usize,
     values: &[i64],
     clock: u64,
     k: usize,
 ) -> Ran
     ensures { λ r.
-        ⌜ workIn (now (kinds .exit)) (now (numbers .exit)) (now (texts .exit)) (now (holdings .exit)) (now (sorts .exit)) (now (receivers .exit)) (now (amounts .exit)) (r .count) (r .refusal)
+        ⌜ workIn (now (kinds .exit)) (now (numbers .exit)) (now (texts .exit)) (now (holdings .exit)) (now (labels .exit)) (r .count) (r .refusal)
         ≡ performedAt (now (values .entry)) clock
-        (workIn (now (kinds .entry)) (now (numbers .entry)) (now (texts .entry)) (now (holdings .entry)) (now (sorts .entry)) (now (receivers .entry)) (now (amounts .entry)) count 0) (now (table .entry)) k ⌝ }
+        (workIn (now (kinds .entry)) (now (numbers .entry)) (now (texts .entry)) (now (holdings .entry)) (now (labels .entry)) count 0) (now (table .entry)) k ⌝ }
 {
     let node = contract::node_at(table, k);
     if node.kind != Node::CONDITIONAL {
@@ -586,25 +592,21 @@ fn perform_one(
             numbers,
             texts,
             holdings,
-            sorts,
-            receivers,
-            amounts,
+            labels,
             count,
             values,
             clock,
             k,
         );
     }
-    let first = minus(k, node.argument as usize);
+    let first = minus(k, argument_at(table, k));
     branch(
         table,
         kinds,
         numbers,
         texts,
         holdings,
-        sorts,
-        receivers,
-        amounts,
+        labels,
         count,
         values,
         clock,
@@ -617,13 +619,11 @@ fn perform_one(
 // Where a question refuses, the arrays hold what was reached by then: the caller drops them.
 pub fn run(
     table: &[u64],
-    kinds: &mut [u8; 32],
-    numbers: &mut [i64; 32],
-    texts: &mut [u8; 32],
-    holdings: &mut [u64; 20],
-    sorts: &mut [u8; 64],
-    receivers: &mut [usize; 64],
-    amounts: &mut [i64; 64],
+    kinds: &mut [u8; Contract::FIELDS],
+    numbers: &mut [i64; Contract::FIELDS],
+    texts: &mut [u8; Contract::FIELDS],
+    holdings: &mut [u64; Holdings::MOST],
+    labels: &mut [i64; Label::ROOM],
     count: usize,
     values: &[i64],
     clock: u64,
@@ -631,12 +631,12 @@ pub fn run(
     end: usize,
 ) -> Ran
     ensures { λ r.
-        ⌜ workIn (now (kinds .exit)) (now (numbers .exit)) (now (texts .exit)) (now (holdings .exit)) (now (sorts .exit)) (now (receivers .exit)) (now (amounts .exit)) (r .count) (r .refusal)
+        ⌜ workIn (now (kinds .exit)) (now (numbers .exit)) (now (texts .exit)) (now (holdings .exit)) (now (labels .exit)) (r .count) (r .refusal)
         ≡ ran (now (values .entry)) clock
-        (workIn (now (kinds .entry)) (now (numbers .entry)) (now (texts .entry)) (now (holdings .entry)) (now (sorts .entry)) (now (receivers .entry)) (now (amounts .entry)) count 0) (blockBetween (now (table .entry)) from end) ⌝ }
+        (workIn (now (kinds .entry)) (now (numbers .entry)) (now (texts .entry)) (now (holdings .entry)) (now (labels .entry)) count 0) (blockBetween (now (table .entry)) from end) ⌝ }
 {
     if end <= from {
-        return Ran { count, refusal: 0 };
+        return begin(count, from, end);
     }
     let k = end - 1;
     if !is_statement(table, k) {
@@ -648,9 +648,7 @@ pub fn run(
         numbers,
         texts,
         holdings,
-        sorts,
-        receivers,
-        amounts,
+        labels,
         count,
         values,
         clock,
@@ -667,9 +665,7 @@ pub fn run(
         numbers,
         texts,
         holdings,
-        sorts,
-        receivers,
-        amounts,
+        labels,
         sent,
         values,
         clock,

@@ -7,8 +7,8 @@ use native.Mathlib.Nat.{add-zero}
 use native.Mathlib.Numerals.{add-one}
 use native.Mathlib.Omega.{arith}
 use lib.Dec.{leb, ltb}
-use lib.IntN.{ℤ, pos}
-use lib.ListN.{length, getD, set, take, length-append}
+use lib.IntN.{ℤ}
+use lib.ListN.{length, set, take, length-append}
 use lib.Seq.{sets, length-sets, take-suc, take-all}
 use borrow.Author.Tests.{ltb-true, ltb-false, le-leb, lt-leb, leb-true, leb-false}
 use Rattle.statements.specs.declared.Label.{Label}
@@ -19,8 +19,8 @@ use Rattle.results.specs.Coded.{coded, integerOf, codedAll, integersOf}
 use Rattle.outcomes.specs.declared.Rule.{Rule}
 use Rattle.outcomes.specs.declared.Outcome.{Outcome}
 use Rattle.outcomes.specs.declared.Outcome.the-variants as outcome
-use Rattle.outcomes.specs.Outcomes.{noLabel}
-use Rattle.outcomes.proofs.Columns.{columns-at}
+use Rattle.outcomes.specs.Outcomes.{noLabel, labelAt}
+use Rattle.outcomes.proofs.Labels.{label-at}
 use Rattle.step_reports.specs.Reports.{ruleNumber, reportOf, labelReport, labelReports, sent, stepReports, roomIn, hasRoom}
 
 -- ---- stores after stores
@@ -115,38 +115,37 @@ unfolding labelReports
 reports-length [] = refl
 reports-length (l ∷ a) = ap suc (reports-length a)
 
-pub sent-length : (n : ℕ) (ks ps : List ℕ) (vs : List ℤ) → length (sent n ks ps vs) ≡ n
+pub sent-length : (n : ℕ) (ws : List ℤ) → length (sent n ws) ≡ n
 unfolding sent
-sent-length zero ks ps vs = refl
-sent-length (suc n) ks ps vs =
-    let a = length-append (sent n ks ps vs) (report.Sent (getD ks n 0) (getD ps n 0) (getD vs n (pos 0)) ∷ []) in
-    let b = sent-length n ks ps vs in
+sent-length zero ws = refl
+sent-length (suc n) ws =
+    let a = length-append (sent n ws) (labelReport (labelAt ws n) ∷ []) in
+    let b = sent-length n ws in
     omega arith
 
--- the first n labels of three columns
-sent-first : (n : ℕ) (ks ps : List ℕ) (vs : List ℤ) → n ≤ length (labelsFrom ks ps vs) → sent n ks ps vs ≡ labelReports (take n (labelsFrom ks ps vs))
+-- the first n labels of these words
+sent-first : (n : ℕ) (ws : List ℤ) → n ≤ length (labelsFrom ws) → sent n ws ≡ labelReports (take n (labelsFrom ws))
 unfolding sent labelReports
-sent-first zero ks ps vs h = refl
-sent-first (suc n) ks ps vs h =
-    let l : List Label = labelsFrom ks ps vs in
+sent-first zero ws h = refl
+sent-first (suc n) ws h =
+    let l : List Label = labelsFrom ws in
     let x : n < length l = omega arith in
     let y : n ≤ length l = omega arith in
-    ap (λ z. z ++ (report.Sent (getD ks n 0) (getD ps n 0) (getD vs n (pos 0)) ∷ [])) (sent-first n ks ps vs y)
-    ∙ ap (λ (z : Label). labelReports (take n l) ++ (labelReport z ∷ [])) (columns-at ks ps vs n x)
+    ap (λ z. z ++ (labelReport (labelAt ws n) ∷ [])) (sent-first n ws y)
+    ∙ ap (λ (z : Label). labelReports (take n l) ++ (labelReport z ∷ [])) (label-at ws n x)
     ∙ sym (ap labelReports (take-suc l n noLabel x) ∙ reports-append (take n l) _)
 
 -- label i after those before it
-pub label-told : {numbers more : List ℕ} {integers others : List ℤ} {n : ℕ} {told : List ℕ} {values : List ℤ} (ks ps : List ℕ) (vs : List ℤ) (i : ℕ)
-    → Told numbers integers n (sent i ks ps vs) told values
-    → {k : ℕ} → k ≡ getD ks i 0 → more ≡ sets told (4 * (n + i)) (2 ∷ k ∷ getD ps i 0 ∷ 0 ∷ [])
-    → {v : ℤ} → v ≡ getD vs i (pos 0) → others ≡ sets values (n + i) (v ∷ [])
-    → Told numbers integers n (sent (i + 1) ks ps vs) more others
+pub label-told : {numbers more : List ℕ} {integers others : List ℤ} {n : ℕ} {told : List ℕ} {values : List ℤ} (ws : List ℤ) (i : ℕ)
+    → Told numbers integers n (sent i ws) told values
+    → {k p : ℕ} → k ≡ labelAt ws i .kind → p ≡ labelAt ws i .party → more ≡ sets told (4 * (n + i)) (2 ∷ k ∷ p ∷ 0 ∷ [])
+    → {v : ℤ} → v ≡ labelAt ws i .value → others ≡ sets values (n + i) (v ∷ [])
+    → Told numbers integers n (sent (i + 1) ws) more others
 unfolding sent
-label-told {numbers} {more} {integers} {others} {n} {told} {values} ks ps vs i t {k = kind} g p {v} f q =
-    let r : Report = report.Sent (getD ks i 0) (getD ps i 0) (getD vs i (pos 0)) in
-    let m : n + i ≡ n + length (sent i ks ps vs) = ap (λ (k : ℕ). n + k) (sym (sent-length i ks ps vs)) in
+label-told {numbers} {more} {integers} {others} {n} {told} {values} ws i t {k = kind} {p = party} ek ep a {v} ev b =
+    let m : n + i ≡ n + length (sent i ws) = ap (λ (k : ℕ). n + k) (sym (sent-length i ws)) in
     let u : suc i ≡ i + 1 = sym (add-one i) in
-    subst (λ (k : ℕ). Told numbers integers n (sent k ks ps vs) more others) u (told-more t m (told-one r more others (p ∙ ap (λ (z : ℕ). sets told (4 * (n + i)) (2 ∷ z ∷ getD ps i 0 ∷ 0 ∷ [])) g) (q ∙ ap (λ (z : ℤ). sets values (n + i) (z ∷ [])) f)))
+    subst (λ (k : ℕ). Told numbers integers n (sent k ws) more others) u (told-more t m (told-one (labelReport (labelAt ws i)) more others (a ∙ (λ j. sets told (4 * (n + i)) (2 ∷ ek j ∷ ep j ∷ 0 ∷ []))) (b ∙ ap (λ (z : ℤ). sets values (n + i) (z ∷ [])) ev)))
 
 -- no more labels than there are
 take-least : (l : List Label) (k n : ℕ) (b : Bool) → ltb k n ≡ b → length l ≡ n → take (min k n) l ≡ take k l
@@ -161,22 +160,22 @@ take-least l k n false e h =
 
 -- ---- a step's result lines
 
--- the columns have the labels that are told
-pub columns-told : (count : ℕ) (ks ps : List ℕ) (vs : List ℤ) → length (labelsFrom ks ps vs) ≡ 64 → sent (min count 64) ks ps vs ≡ labelReports (take count (labelsFrom ks ps vs))
-columns-told count ks ps vs h =
-    sent-first (min count 64) ks ps vs (omega arith) ∙ ap labelReports (take-least (labelsFrom ks ps vs) count 64 (ltb count 64) refl h)
+-- the words have the labels that are told
+pub words-told : (count : ℕ) (ws : List ℤ) → length (labelsFrom ws) ≡ 64 → sent (min count 64) ws ≡ labelReports (take count (labelsFrom ws))
+words-told count ws h =
+    sent-first (min count 64) ws (omega arith) ∙ ap labelReports (take-least (labelsFrom ws) count 64 (ltb count 64) refl h)
 
 -- what came of a step, and its labels after it
-module _ {numbers told more : List ℕ} {integers values others : List ℤ} {n m : ℕ} (o : Outcome) (state clock count : ℕ) (ks ps : List ℕ) (vs : List ℤ) where
+module _ {numbers told more : List ℕ} {integers values others : List ℤ} {n m : ℕ} (o : Outcome) (state clock count : ℕ) (ws : List ℤ) where
   pub step-told : m ≡ min count 64
       → told ≡ sets numbers (4 * n) (coded (reportOf o state clock))
       → values ≡ sets integers n (integerOf (reportOf o state clock) ∷ [])
-      → more ≡ sets told (4 * (n + 1)) (codedAll (sent m ks ps vs))
-      → others ≡ sets values (n + 1) (integersOf (sent m ks ps vs))
-      → Told numbers integers n (stepReports o state clock count ks ps vs) more others
+      → more ≡ sets told (4 * (n + 1)) (codedAll (sent m ws))
+      → others ≡ sets values (n + 1) (integersOf (sent m ws))
+      → Told numbers integers n (stepReports o state clock count ws) more others
   step-told e a b p q =
-      let x : Told told values (n + 1) (sent m ks ps vs) more others = record { numbers-after = p; integers-after = q } in
-      subst (λ (k : ℕ). Told numbers integers n (reportOf o state clock ∷ sent k ks ps vs) more others) e (told-more (told-one (reportOf o state clock) told values a b) refl x)
+      let x : Told told values (n + 1) (sent m ws) more others = record { numbers-after = p; integers-after = q } in
+      subst (λ (k : ℕ). Told numbers integers n (reportOf o state clock ∷ sent k ws) more others) e (told-more (told-one (reportOf o state clock) told values a b) refl x)
 
 -- ---- whether result lines fit
 pub fits-not : (n room : ℕ) → room < 65 → false ≡ leb (n + 65) room

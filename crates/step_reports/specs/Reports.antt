@@ -2,9 +2,9 @@
 use Prim.Native.Nat.{ℕ, zero, suc, _+_, _/_, min}
 use mathlib.Core.Bool.{Bool}
 use mathlib.Core.List.{List, [], _∷_, _++_}
-use lib.ListN.{length, getD, take}
+use lib.ListN.{length, take}
 use lib.Dec.{leb}
-use lib.IntN.{ℤ, pos}
+use lib.IntN.{ℤ}
 use Rattle.statements.specs.declared.Label.{Label}
 use Rattle.statements.specs.Running.{maxLabels}
 use Rattle.results.specs.declared.Report.{Report}
@@ -14,6 +14,7 @@ use Rattle.outcomes.specs.declared.Rule.the-variants.{Agree, Call, EventMatch, 
 use Rattle.outcomes.specs.declared.Outcome.{Outcome}
 use Rattle.outcomes.specs.declared.Outcome.the-variants as outcome
 use Rattle.outcomes.specs.declared.Stepped.{Stepped}
+use Rattle.outcomes.specs.Outcomes.{labelAt}
 
 -- a rule's number in a result line
 abbrev pub ruleNumber : Rule → ℕ
@@ -51,11 +52,11 @@ roomIn numbers integers = min (numbers / 4) integers
 abbrev pub hasRoom : List ℕ → List ℤ → ℕ → Bool
 hasRoom numbers integers n = leb (n + maxTold) (roomIn (length numbers) (length integers))
 
--- the first n labels of three columns as result lines
-unfoldable pub sent : ℕ → List ℕ → List ℕ → List ℤ → List Report
-sent zero kinds parties values = []
-sent (suc n) kinds parties values = sent n kinds parties values ++ (report.Sent (getD kinds n 0) (getD parties n 0) (getD values n (pos 0)) ∷ [])
+-- the first n labels of these words as result lines
+unfoldable pub sent : ℕ → List ℤ → List Report
+sent zero words = []
+sent (suc n) words = sent n words ++ (labelReport (labelAt words n) ∷ [])
 
--- the result lines of a step whose labels stand in three columns
-abbrev pub stepReports : Outcome → ℕ → ℕ → ℕ → List ℕ → List ℕ → List ℤ → List Report
-stepReports o state clock count kinds parties values = reportOf o state clock ∷ sent (min count maxLabels) kinds parties values
+-- the result lines of a step whose labels stand in these words
+abbrev pub stepReports : Outcome → ℕ → ℕ → ℕ → List ℤ → List Report
+stepReports o state clock count words = reportOf o state clock ∷ sent (min count maxLabels) words

@@ -2,16 +2,16 @@
 ghost use mathlib.Core.Path.{_≡_};
 ghost use Prim.Native.Nat.{_+_, _*_, _≤_, _<_, min};
 ghost use mathlib.Core.List.{[], _∷_};
-ghost use lib.ListN.{length};
+ghost use lib.ListN.{length, getD};
+ghost use lib.IntN.{pos, natAbs};
 ghost use lib.Seq.{sets};
 ghost use Rattle.laws.specs.Choice.{pick};
 ghost use Rattle.results.specs.Coded.{coded, codedAll, integerOf, integersOf};
 ghost use Rattle.step_reports.specs.Reports.{ruleNumber, reportOf, sent, stepReports, roomIn, hasRoom};
 use outcomes::Outcome;
 use outcomes::Rule;
-
-// The most result lines of a step.
-const TOLD: usize = 65;
+use outcomes::Stepped;
+use statements::Label;
 
 // Result line n is told: its four numbers and its integer.
 fn tell(
@@ -71,38 +71,32 @@ fn tell_outcome(
     }
 }
 
-fn wide(x: u8) -> u64
-    ensures { λ r. ⌜ r ≡ x ⌝ }
+// Word i of the labels, without its sign.
+fn word(labels: &[i64; Label::ROOM], i: usize) -> u64
+    requires { ⌜ i < 192 ⌝ }
+    ensures { λ r. ⌜ r ≡ natAbs (getD (now (labels .entry)) i (pos 0)) ⌝ }
 {
-    x as u64
+    numbers::magnitude(labels[i])
 }
 
-// The first labels of three columns, as result lines from n on.
+// The first labels of these words, as result lines from n on.
 fn tell_labels(
     numbers: &mut [u64],
     integers: &mut [i64],
     n: usize,
-    sorts: &[u8; 64],
-    receivers: &[usize; 64],
-    amounts: &[i64; 64],
+    labels: &[i64; Label::ROOM],
     count: usize,
 )
     requires { ⌜ (count ≤ 64) × (4 * (n + count) ≤ length (now numbers)) × (n + count ≤ length (now integers)) ⌝ }
-    ensures { λ _. ⌜ now (numbers .exit) ≡ sets (now (numbers .entry)) (4 * n) (codedAll (sent count (now (sorts .entry)) (now (receivers .entry)) (now (amounts .entry)))) ⌝ }
-    ensures { λ _. ⌜ now (integers .exit) ≡ sets (now (integers .entry)) n (integersOf (sent count (now (sorts .entry)) (now (receivers .entry)) (now (amounts .entry)))) ⌝ }
+    ensures { λ _. ⌜ now (numbers .exit) ≡ sets (now (numbers .entry)) (4 * n) (codedAll (sent count (now (labels .entry)))) ⌝ }
+    ensures { λ _. ⌜ now (integers .exit) ≡ sets (now (integers .entry)) n (integersOf (sent count (now (labels .entry)))) ⌝ }
 {
     let mut i: usize = 0;
     while i < count {
-        tell(
-            numbers,
-            integers,
-            n + i,
-            2,
-            wide(sorts[i]),
-            receivers[i] as u64,
-            0,
-            amounts[i],
-        );
+        let at = Label::WORDS * i;
+        let kind = word(labels, at);
+        let party = word(labels, at + 1);
+        tell(numbers, integers, n + i, 2, kind, party, 0, labels[at + 2]);
         i += 1;
     }
 }
@@ -111,7 +105,11 @@ fn tell_labels(
 fn labels_told(count: usize) -> usize
     ensures { λ r. ⌜ r ≡ min count 64 ⌝ }
 {
-    if count < 64 { count } else { 64 }
+    if count < Label::MOST {
+        count
+    } else {
+        Label::MOST
+    }
 }
 
 // How many result lines there is room for.
@@ -128,10 +126,10 @@ fn fits_from(numbers: &[u64], integers: &[i64], n: usize) -> bool
     ensures { λ r. ⌜ r ≡ hasRoom (now (numbers .entry)) (now (integers .entry)) n ⌝ }
 {
     let room = room_in(numbers, integers);
-    if room < TOLD {
+    if room < Stepped::REPORTS {
         return false;
     }
-    n <= room - TOLD
+    n <= room - Stepped::REPORTS
 }
 
 // The result lines of a step, from line n on, and the line after them; nothing where those of any step don't fit.
@@ -142,20 +140,18 @@ pub fn report(
     outcome: Outcome,
     state: usize,
     clock: u64,
-    sorts: &[u8; 64],
-    receivers: &[usize; 64],
-    amounts: &[i64; 64],
+    labels: &[i64; Label::ROOM],
     count: usize,
 ) -> usize
     ensures { λ r. ⌜ r ≡ pick (hasRoom (now (numbers .entry)) (now (integers .entry)) n) (n + 1 + min count 64) n ⌝ }
-    ensures { λ _. ⌜ now (numbers .exit) ≡ pick (hasRoom (now (numbers .entry)) (now (integers .entry)) n) (sets (now (numbers .entry)) (4 * n) (codedAll (stepReports outcome state clock count (now (sorts .entry)) (now (receivers .entry)) (now (amounts .entry))))) (now (numbers .entry)) ⌝ }
-    ensures { λ _. ⌜ now (integers .exit) ≡ pick (hasRoom (now (numbers .entry)) (now (integers .entry)) n) (sets (now (integers .entry)) n (integersOf (stepReports outcome state clock count (now (sorts .entry)) (now (receivers .entry)) (now (amounts .entry))))) (now (integers .entry)) ⌝ }
+    ensures { λ _. ⌜ now (numbers .exit) ≡ pick (hasRoom (now (numbers .entry)) (now (integers .entry)) n) (sets (now (numbers .entry)) (4 * n) (codedAll (stepReports outcome state clock count (now (labels .entry))))) (now (numbers .entry)) ⌝ }
+    ensures { λ _. ⌜ now (integers .exit) ≡ pick (hasRoom (now (numbers .entry)) (now (integers .entry)) n) (sets (now (integers .entry)) n (integersOf (stepReports outcome state clock count (now (labels .entry))))) (now (integers .entry)) ⌝ }
 {
     if !fits_from(numbers, integers, n) {
         return n;
     }
     let many = labels_told(count);
     tell_outcome(numbers, integers, n, outcome, state, clock);
-    tell_labels(numbers, integers, n + 1, sorts, receivers, amounts, many);
+    tell_labels(numbers, integers, n + 1, labels, many);
     n + 1 + many
 }

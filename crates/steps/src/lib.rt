@@ -19,24 +19,24 @@ pub struct Left {
 struct Out {
     left: Left,
     count: usize,
-    labels: [Label; 64],
+    labels: [Label; Label::MOST],
 }
 
-// How many entries are written: none into a slice of fewer than 64 entries, and no more than 64.
+// How many entries are written: none into a slice of fewer entries than a step may have labels, and no more than these.
 fn count(slots: usize, n: usize) -> usize
     ensures { λ r. ⌜ r ≡ countOf slots n ⌝ }
 {
-    if slots < 64 {
+    if slots < Label::MOST {
         return 0;
     }
-    if 64 < n {
-        return 64;
+    if Label::MOST < n {
+        return Label::MOST;
     }
     n
 }
 
-// The first n entries of `from` over the first of `labels`, where there are at least 64 of these.
-fn copy(labels: &mut [Label], from: [Label; 64], n: usize)
+// The first n entries of `from` over the first of `labels`, where there are entries for all that a step may have.
+fn copy(labels: &mut [Label], from: [Label; Label::MOST], n: usize)
     ensures { λ _. ⌜ now (labels .exit) ≡ copiedOf (now (labels .entry)) from n ⌝ }
 {
     let m = count(labels.len(), n);

@@ -659,7 +659,7 @@ fn print_fields(s: State, count: usize) {
 
 fn print_label(label: Label) {
     print(b" ");
-    print_number(wide(label.kind));
+    print_number(label.kind);
     print_number(label.party as u64);
     print_integer(label.value);
     print(b"\n");

@@ -8,13 +8,15 @@
 //   q NUMBER             a refusal
 //   f NUMBER             a failed firing
 //   t NUMBER PLACE       the refusal of a text
+//   l MANY N N ..        so many reports as numbers, four each, at once; their integers are 3, -1250, 0 and 7, and the buffer has at most 640 bytes
 //   # ..                 print the line
 // A report prints its line, then how many bytes were written, those bytes, and whether the others are still dots; or the number
-// that refused, and whether all are.
+// that refused, and whether all are. Reports at once also print how many were written.
 // Expected results: the lines that document 01 lists and others of each kind, with the answers of questions 52, 3 and 53; who worked them out, and how, is not recorded here.
 ghost use Prim.Native.Nat.{_≤_, _<_};
 ghost use lib.ListN.{length};
 use libc::STDOUT_FILENO;
+use results::Batch;
 use results::Report;
 use results::Written;
 
@@ -61,11 +63,10 @@ fn put(table: &mut [u64], at: usize, v: u64) {
     }
 }
 
-// The numbers from i on, at the words from `at` on.
-fn write_words(line: &[u8], table: &mut [u64]) {
-    let first = number_at(line, 2);
-    let mut at = first.value as usize;
-    let mut i = first.next;
+// The numbers from a place on, at the words from one on.
+fn write_words(line: &[u8], start: usize, table: &mut [u64], word: usize) {
+    let mut at = word;
+    let mut i = start;
     while i < line.len() {
         if table.len() <= at {
             return;
@@ -162,6 +163,32 @@ fn ask_text(number: u8, place: usize, size: usize) {
     write_text_within(number, place, &mut buffer, size);
 }
 
+fn show_batch(answer: Batch, buffer: &[u8]) {
+    if answer.question != 0 {
+        show(Written::Refused(answer.question), buffer);
+        return;
+    }
+    io::print_decimal(STDOUT_FILENO, answer.many as u64);
+    io::write_all(STDOUT_FILENO, b" of them, ");
+    show(Written::Wrote(answer.used), buffer);
+}
+
+fn write_batch_within(table: &[u64], numbers: &[u64], many: usize, buffer: &mut [u8], size: usize) {
+    if size <= buffer.len() {
+        let integers = [3i64, -1250, 0, 7];
+        let answer = results::write_batch(table, numbers, &integers, 0, many, &mut buffer[..size]);
+        show_batch(answer, buffer);
+    }
+}
+
+fn ask_batch(line: &[u8], table: &[u64], size: usize) {
+    let first = number_at(line, 2);
+    let mut numbers = [0u64; 20];
+    write_words(line, first.next, &mut numbers, 0);
+    let mut buffer = [b'.'; 640];
+    write_batch_within(table, &numbers, first.value as usize, &mut buffer, size);
+}
+
 fn print_line(line: &[u8]) {
     io::write_all(STDOUT_FILENO, line);
     io::write_all(STDOUT_FILENO, b"\n");
@@ -190,6 +217,7 @@ fn report_line(line: &[u8], table: &[u64], size: usize) {
         b'q' => ask(table, Report::Refused(byte(a)), size),
         b'f' => ask(table, Report::Failed(byte(a)), size),
         b't' => ask_text(byte(a), b as usize, size),
+        b'l' => ask_batch(line, table, size),
         _ => {}
     }
 }
@@ -201,7 +229,8 @@ fn run_line(line: &[u8], table: &mut [u64], size: usize) -> usize {
     }
     match line[0] {
         b'w' => {
-            write_words(line, table);
+            let first = number_at(line, 2);
+            write_words(line, first.next, table, first.value as usize);
             size
         }
         b'b' => {

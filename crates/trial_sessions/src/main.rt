@@ -1,6 +1,6 @@
 // Plays the session of each folder that standard input names, one a line, and prints the name and what the desk prints. The functions
-// under "a session" are those of crate `desk`. Expected results: the published vectors' of each session, byte for
-// byte, where question 24 is read as docs/DECISIONS.md 30 says (it decides directed_at_a_limit_1, directed_parts_1 and directed_random_2).
+// under "a session" are those of crate `desk` without its options and without what it says of failures. Expected results: the published
+// vectors' of each session, byte for byte; of the examples, what the customer's plain desk prints.
 ghost use Prim.Native.Nat.{_≤_};
 ghost use lib.ListN.{length};
 use contract::Contract;

@@ -265,7 +265,7 @@ fn print_entry(label: Label, i: usize) {
     print(b" ");
     print_number(i as u64);
     print(b":");
-    print_number(wide(label.kind));
+    print_number(label.kind);
     print_number(label.party as u64);
     print_integer(label.value);
     print(b"\n");

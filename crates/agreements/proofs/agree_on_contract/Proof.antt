@@ -40,7 +40,8 @@ returns-3 c =
     c .refuse3 .ensures
     ∙ agree-differ (contractOf table) (s .args .s) (partsIn line (length parts / 4) parts spans values) (c6 .if1 .left) (sym (c5 .same-clauses .ensures) ∙ not-false _ (c4 .if2 .left)) _
     (c3 .set-clauses .ensures ∙ sym (set-in-row (contractOf table) ((contractOf table) .clauses) line (length parts / 4) parts spans values (s .args .s) (sym (c5 .same-clauses .ensures) ∙ not-false _ (c4 .if2 .left))))
-    (agreed-in-row (contractOf table) ((contractOf table) .clauses) line (length parts / 4) parts spans values (c3 .set-clauses .result) (sym (c5 .same-clauses .ensures) ∙ not-false _ (c4 .if2 .left)) ∙ sym (c .before .before .agreed-clauses .ensures) ∙ not-true _ (c .before .if3 .taken))
+    values (agreed-in-row (contractOf table) ((contractOf table) .clauses) line (length parts / 4) parts spans values (c3 .set-clauses .result) (sym (c5 .same-clauses .ensures) ∙ not-false _ (c4 .if2 .left)))
+    (sym (c .before .before .same-map .ensures) ∙ not-true _ (c .before .if3 .taken))
 
 returns-4 : tie.Need-returns-4
 returns-4 c =
@@ -59,7 +60,8 @@ returns-4 c =
     c .answer .ensures
     ∙ ap (λ (x : State). answered (Accepted Agree) x) (opened-at table (c4 .set-clauses .result) _ (c .before .head .ensures))
     ∙ agree-done (contractOf table) (s .args .s) (partsIn line (length parts / 4) parts spans values) (c7 .if1 .left) (sym (c6 .same-clauses .ensures) ∙ not-false _ (c5 .if2 .left)) _ (c4 .set-clauses .ensures ∙ sym (set-in-row (contractOf table) ((contractOf table) .clauses) line (length parts / 4) parts spans values (s .args .s) (sym (c6 .same-clauses .ensures) ∙ not-false _ (c5 .if2 .left))))
-    (agreed-in-row (contractOf table) ((contractOf table) .clauses) line (length parts / 4) parts spans values (c4 .set-clauses .result) (sym (c6 .same-clauses .ensures) ∙ not-false _ (c5 .if2 .left)) ∙ sym (c3 .agreed-clauses .ensures) ∙ not-false _ (c .before .before .if3 .left))
+    values (agreed-in-row (contractOf table) ((contractOf table) .clauses) line (length parts / 4) parts spans values (c4 .set-clauses .result) (sym (c6 .same-clauses .ensures) ∙ not-false _ (c5 .if2 .left)))
+    (sym (c3 .same-map .ensures) ∙ not-false _ (c .before .before .if3 .left))
 
 pub agree-on-contract-spec : {M : Type 1} → statement M
 agree-on-contract-spec =

@@ -10,7 +10,8 @@ use Rattle.state.specs.declared.State.{State}
 use mir.Val.{SFits}
 use mir.Syntax.{w64}
 use mir.Facts.{toZ-ofZ}
-use Rattle.agreements.specs.Agreement.{setFields, withInteger}
+use Rattle.state.specs.States.{withInteger}
+use Rattle.agreements.specs.Agreement.{setFields}
 use Rattle.agreements.proofs.Agreements.{set-more, set-short, set-all}
 use Rattle.agreements.proofs.set_fields.Statement.{statement}
 use Rattle.agreements.proofs.set_fields.Tie as tie

@@ -3,11 +3,10 @@ use borrow.Author.Needs.{needs}
 use mathlib.Core.Path.{refl}
 use Prim.Native.Nat.{ℕ, _<_}
 use native.Mathlib.Omega.{arith}
-use native.Mathlib.Nat.{pos-of-ne-zero}
 use borrow.Fn.Kinds.{In}
 use borrow.Fn.PlainCycle.{Measures, is, falls, and}
 use Rattle.contract.proofs.node_at.Reads as node-at-reads
-use Rattle.evaluation.proofs.Truths.{simple-at, beyond-at, first-at, refused-left, refused-right, both-hold, run-below, turned-below, refused-below}
+use Rattle.evaluation.proofs.Truths.{simple-at, beyond-at, uncounted-at, refused-left, refused-right, both-hold, run-below, turned-below, refused-below}
 use Rattle.evaluation.proofs.truth.Reads as truth
 use Rattle.evaluation.proofs.truth.Kinds as truth-kinds
 use Rattle.evaluation.proofs.+truth.Lts-truth as lts
@@ -34,19 +33,21 @@ abbrev calls : ℕ → lts.Claims
 calls t = (run-at-reads.Asked, run-at-reads.Learnt, node-at-reads.Asked, node-at-reads.Learnt, simple-reads.Asked, simple-reads.Learnt, turned-reads.Asked, turned-reads.Learnt, left-of-reads.Asked, left-of-reads.Learnt, under t, truth.Post, both-reads.Asked, both-reads.Learnt)
 
 returns : (t : ℕ) → lts.Need-returns (calls t) (at t) truth.Post
-returns t c = turned-below _ _ _ _ (c .before .before .before .before .run-at .ensures) _ _ (c .turned .ensures) (simple-at _ _ _ _ (c .before .before .before .node-at .ensures) _ (c .before .before .if1 .taken) (c .before .simple .ensures))
+returns t c = turned-below _ _ _ _ (c .before .before .before .before .run-at .ensures) _ _ (c .turned .ensures) (simple-at _ _ _ _ (c .before .before .before .node-at .ensures) _ (c .before .before .if1 .taken) (run-below _ _ _ (c .before .before .before .before .run-at .ensures) .plain) (c .before .simple .ensures))
 
 returns-2 : (t : ℕ) → lts.Need-returns-2 (calls t) (at t) truth.Post
 returns-2 t c = refused-below _ _ _ _ (c .before .before .before .run-at .ensures) _ 3 refl (beyond-at _ _ _ _ (c .before .before .node-at .ensures) (c .if2 .taken))
 
 returns-3 : (t : ℕ) → lts.Need-returns-3 (calls t) (at t) truth.Post
-returns-3 t c = refused-below _ _ _ _ (c .before .before .before .before .run-at .ensures) _ 3 refl (first-at _ _ _ _ (c .before .before .before .node-at .ensures) (c .before .before .if1 .left) (c .if3 .taken))
+returns-3 t c =
+    let c4 = c .before .before .before .before in
+    refused-below _ _ _ _ (c4 .before .run-at .ensures) _ 3 refl (uncounted-at _ _ _ _ (c4 .node-at .ensures) (c .before .before .before .if1 .left) _ (c .before .left-of .ensures) (c .if3 .taken))
 
 sub-last : (t : ℕ) → lts.Need-sub-last (calls t) (at t) truth.Post
-sub-last t c = pos-of-ne-zero (c .if3 .left)
+sub-last t c = omega (arith, c .if3 .left)
 
 truth-requires : (t : ℕ) → lts.Need-truth-requires (calls t) (at t) truth.Post
-truth-requires t c κs = (omega (arith, c .before .before .before .before .before .before .before .pre .0, c .left-of .ensures, pos-of-ne-zero (c .before .if3 .left), run-below _ _ _ (c .before .before .before .before .before .run-at .ensures) .low), tt)
+truth-requires t c κs = (omega (arith, c .before .before .before .before .before .before .before .pre .0, c .if3 .left, run-below _ _ _ (c .before .before .before .before .before .run-at .ensures) .low), tt)
 
 enum-told : (t : ℕ) → lts.Need-enum-told (calls t) (at t) truth.Post
 enum-told t c = search needs
@@ -61,14 +62,14 @@ returns-4 t c =
     let c7 = c6 .before in
     let c8 = c7 .before in
     refused-below _ _ _ _ (c8 .run-at .ensures) _ _ (c .enum-told .given .1)
-    (refused-left _ _ _ _ (c7 .node-at .ensures) _ _ (c6 .if1 .left) (c5 .if2 .left) (run-below _ _ _ (c8 .run-at .ensures) .plain) (c4 .if3 .left) (c3 .left-of .ensures) (c2 .truth .ensures) _ (c .enum-told .given .1))
+    (refused-left _ _ _ _ (c7 .node-at .ensures) _ _ (c6 .if1 .left) (c5 .if2 .left) (c4 .left-of .ensures) (c3 .if3 .left) (c2 .truth .ensures) _ (c .enum-told .given .1))
 
 truth-requires-2 : (t : ℕ) → lts.Need-truth-requires-2 (calls t) (at t) truth.Post
 truth-requires-2 t c κs =
-    let c5 = c .before .before .before .before .before in
-    let c9 = c5 .before .before .before .before in
+    let c4 = c .before .before .before .before in
+    let c9 = c4 .before .before .before .before .before in
     let c11 = c9 .before .before in
-    (omega (arith, c11 .pre .0, pos-of-ne-zero (c5 .if3 .left), run-below _ _ _ (c9 .run-at .ensures) .low), tt)
+    (omega (arith, c11 .pre .0, c4 .if3 .left, run-below _ _ _ (c9 .run-at .ensures) .low), tt)
 
 returns-5 : (t : ℕ) → lts.Need-returns-5 (calls t) (at t) truth.Post
 returns-5 t c =
@@ -82,7 +83,7 @@ returns-5 t c =
     let c11 = c10 .before in
     let c12 = c11 .before in
     refused-below _ _ _ _ (c12 .run-at .ensures) _ _ (c .enum-told2 .given .1)
-    (refused-right _ _ _ _ (c11 .node-at .ensures) _ _ (c10 .if1 .left) (c9 .if2 .left) (run-below _ _ _ (c12 .run-at .ensures) .plain) (c8 .if3 .left) (c7 .left-of .ensures) (c6 .truth .ensures) _ _ _ (c4 .one .given .1) (c .enum-told2 .given .1) (c2 .truth2 .ensures))
+    (refused-right _ _ _ _ (c11 .node-at .ensures) _ _ (c10 .if1 .left) (c9 .if2 .left) (c8 .left-of .ensures) (c7 .if3 .left) (c6 .truth .ensures) _ _ _ (c4 .one .given .1) (c .enum-told2 .given .1) (c2 .truth2 .ensures))
 
 returns-6 : (t : ℕ) → lts.Need-returns-6 (calls t) (at t) truth.Post
 returns-6 t c =
@@ -97,10 +98,10 @@ returns-6 t c =
     let c14 = c13 .before in
     let c15 = c14 .before in
     turned-below _ _ _ _ (c15 .run-at .ensures) _ _ (c .turned2 .ensures)
-    (both-hold _ _ _ _ (c14 .node-at .ensures) _ _ (c13 .if1 .left) (c12 .if2 .left) (run-below _ _ _ (c15 .run-at .ensures) .plain) (c11 .if3 .left) (c10 .left-of .ensures) (c9 .truth .ensures) _ _ _ _ (c7 .one .given .1) (c3 .other .given .1) (c5 .truth2 .ensures) (c .before .both .ensures))
+    (both-hold _ _ _ _ (c14 .node-at .ensures) _ _ (c13 .if1 .left) (c12 .if2 .left) (c11 .left-of .ensures) (c10 .if3 .left) (c9 .truth .ensures) _ _ _ _ (c7 .one .given .1) (c3 .other .given .1) (c5 .truth2 .ensures) (c .before .both .ensures))
 
 pub +truth-spec : {M : Type 1} → statement M
 +truth-spec =
     close μ λ t. lts.spec (calls t) (at t) truth.Post (λ c κs. tt) (λ c κs. tt) (λ c κs. tt) (λ c κs. tt) (returns t)
-    (returns-2 t) (returns-3 t) (sub-last t) (λ c κs. tt) (truth-requires t) (λ c. search needs) (enum-told t) (returns-4 t)
+    (returns-2 t) (λ c κs. tt) (returns-3 t) (sub-last t) (truth-requires t) (λ c. search needs) (enum-told t) (returns-4 t)
     (truth-requires-2 t) (λ c. search needs) (λ c. search needs) (returns-5 t) (λ c κs. tt) (λ c κs. tt) (returns-6 t)

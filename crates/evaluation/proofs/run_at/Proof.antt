@@ -18,10 +18,10 @@ loop-holds : tie.Need-loop-holds Inv-loop μ-loop
 loop-holds c = refl
 
 loop-again : tie.Need-loop-again Inv-loop μ-loop
-loop-again c = sym (run-on _ _ _ _ (c .before .before .node-at .ensures) (c .before .before .before .loop-test .taken) (c .if1 .taken)) ∙ c .before .before .before .before .loop .inv
+loop-again c = sym (run-on _ _ _ _ (c .before .negates .ensures) (c .before .before .loop-test .taken) (c .if1 .taken)) ∙ c .before .before .before .loop .inv
 
 returns : tie.Need-returns Inv-loop μ-loop
-returns c = run-stops _ _ _ _ (c .before .before .node-at .ensures) (c .if1 .left) ∙ c .before .before .before .before .loop .inv
+returns c = run-stops _ _ _ _ (c .before .negates .ensures) (c .if1 .left) ∙ c .before .before .before .loop .inv
 
 returns-2 : tie.Need-returns-2 Inv-loop μ-loop
 returns-2 c = run-first _ _ _ (omega arith) ∙ c .before .loop .inv

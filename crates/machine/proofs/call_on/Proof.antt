@@ -10,8 +10,9 @@ use Rattle.machine.proofs.call_on.Tie as tie
 
 returns : tie.Need-returns
 returns c =
-    let a = c .before .before .before .before .before .before .args in
-    by-answer _ _ (call-unagreed (contractOf (a .table .now)) (a .s) (record { caller = a .caller .now; function = a .function .now; values = (a .values .now); assets = (a .assets .now) }) (not-true _ (c .before .if1 .taken))) _ (c .turn-down .ensures) _ (c .before .before .before .before .before .before .pre .1)
+    let c6 = c .before .before .before .before .before .before in
+    let a = c6 .args in
+    by-answer _ _ (call-unagreed (contractOf (a .table .now)) (a .s) (record { caller = a .caller .now; function = a .function .now; values = (a .values .now); assets = (a .assets .now) }) (not-true _ (c .before .if1 .taken))) _ (c .turn-down .ensures) _ (c6 .pre .1)
 
 enum-told : tie.Need-enum-told
 enum-told c = search needs
@@ -37,22 +38,22 @@ returns-3 c =
 
 invoke-requires : tie.Need-invoke-requires
 invoke-requires c κs =
-    let c4 = c .before .before .before .before in
-    let c6 = c4 .before .before in
-    let c15 = c6 .before .before .before .before .before .before .before .before .before in
-    ((c15 .pre .0 .0, c15 .pre .0 .1, c6 .find-function .ensures .within _ (c4 .found .given .1)), c15 .pre .1)
+    let c2 = c .before .before in
+    let c4 = c2 .before .before in
+    let c13 = c4 .before .before .before .before .before .before .before .before .before in
+    ((c13 .pre .0 .0, c13 .pre .0 .1, c4 .find-function .ensures .within _ (c2 .found .given .1)), c13 .pre .1)
 
 returns-4 : tie.Need-returns-4
 returns-4 c =
-    let c5 = c .before .before .before .before .before in
-    let c7 = c5 .before .before in
-    let c8 = c7 .before in
-    let c10 = c8 .before .before in
-    let c11 = c10 .before in
-    let c16 = c11 .before .before .before .before .before in
-    let a = c16 .args in
-    by-answer _ _ (call-found (a .table .now) (a .s) (record { caller = a .caller .now; function = a .function .now; values = (a .values .now); assets = (a .assets .now) }) (not-false _ (c11 .if1 .left)) (sym
-    (c10 .first-due .ensures) ∙ c8 .enum-told .given .1) _ (c7 .find-function .ensures) _ (c5 .found .given .1)) _ (c .invoke .ensures .0) _ (c .invoke .ensures .1)
+    let c3 = c .before .before .before in
+    let c5 = c3 .before .before in
+    let c6 = c5 .before in
+    let c8 = c6 .before .before in
+    let c9 = c8 .before in
+    let c14 = c9 .before .before .before .before .before in
+    let a = c14 .args in
+    by-answer _ _ (call-found (a .table .now) (a .s) (record { caller = a .caller .now; function = a .function .now; values = (a .values .now); assets = (a .assets .now) }) (not-false _ (c9 .if1 .left)) (sym
+    (c8 .first-due .ensures) ∙ c6 .enum-told .given .1) _ (c5 .find-function .ensures) _ (c3 .found .given .1)) _ (c .invoke .ensures .0) _ (c .invoke .ensures .1)
 
 pub call-on-spec : {M : Type 1} → statement M
 call-on-spec =

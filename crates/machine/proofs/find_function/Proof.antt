@@ -7,14 +7,14 @@ use Rattle.contract.specs.Table.{wordAt}
 use Rattle.contract.specs.Decode.{functionAt, contractOf}
 use Rattle.contract.specs.declared.TableHead.{TableHead}
 use Rattle.machine.specs.Steps.{choose}
-use Rattle.machine.specs.Private.{naming}
+use Rattle.machine.specs.Private.{naming, inState}
 use Rattle.machine.proofs.Functions.{onward, onward-first, found-here, found-none, choose-miss}
 use Rattle.machine.proofs.find_function.Statement.{statement}
 use Rattle.machine.proofs.find_function.Tie as tie
 
 abbrev Inv-loop : tie.InvT-loop
 Inv-loop table state caller function count i₀ i =
-    (count ≡ wordAt table 6) × (choose (contractOf table) state (naming caller function) 0 (contractOf table .functions) ≡ onward table state (naming caller function) i)
+    (count ≡ wordAt table 6) × (choose (contractOf table) (inState state) (naming caller function) 0 (contractOf table .functions) ≡ onward table state (naming caller function) i)
 
 abbrev μ-loop : tie.MeasureT-loop
 μ-loop table state caller function count i₀ i =
@@ -40,7 +40,7 @@ loop-again : tie.Need-loop-again Inv-loop μ-loop
 loop-again c =
     let s = c .before .before .before .before .before .before .before .before in
     let l = c .before .before .before .loop in
-    (l .inv .0, l .inv .1 ∙ choose-miss (contractOf (s .args .table .now)) (s .args .state) (naming (s .args .caller .now) (s .args .function .now)) (functionAt (s .args .table .now)) (wordAt (s .args .table .now) 6) _ (omega (arith, l .inv .0)) (sym (c .before .answers-to .ensures) ∙ c .if1 .left))
+    (l .inv .0, l .inv .1 ∙ choose-miss (contractOf (s .args .table .now)) (inState (s .args .state)) (naming (s .args .caller .now) (s .args .function .now)) (functionAt (s .args .table .now)) (wordAt (s .args .table .now) 6) _ (omega (arith, l .inv .0)) (sym (c .before .answers-to .ensures) ∙ c .if1 .left))
 
 returns-2 : tie.Need-returns-2 Inv-loop μ-loop
 returns-2 c =

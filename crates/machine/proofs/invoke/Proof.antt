@@ -17,8 +17,10 @@ use Rattle.machine.proofs.invoke.Tie as tie
 
 returns : tie.Need-returns
 returns c =
-    let a = c .before .before .before .before .before .args in
-    by-answer _ _ (wrong-values (a .s) (a .values .now) (a .assets .now) (a .n) (functionAt (a .table .now) (a .n)) (λ e. c .before .if1 .taken (e ∙ sym (row-values (a .table .now) (a .n) _ (c .before .before .before .function-at .ensures))))) _ (c .turn-down .ensures) _ (c .before .before .before .before .before .pre .1)
+    let c3 = c .before .before .before in
+    let c5 = c3 .before .before in
+    let a = c5 .args in
+    by-answer _ _ (wrong-values (a .s) (a .values .now) (a .assets .now) (a .n) (functionAt (a .table .now) (a .n)) (λ e. c .before .if1 .taken (e ∙ sym (row-values (a .table .now) (a .n) _ (c3 .function-at .ensures))))) _ (c .turn-down .ensures) _ (c5 .pre .1)
 
 returns-2 : tie.Need-returns-2
 returns-2 c =
@@ -30,13 +32,14 @@ returns-2 c =
 
 returns-3 : tie.Need-returns-3
 returns-3 c =
-    let c3 = c .before .before .before in
+    let c2 = c .before .before in
+    let c3 = c2 .before in
     let c5 = c3 .before .before in
     let c7 = c5 .before .before in
     let c9 = c7 .before .before in
     let a = c9 .args in
     by-answer _ _ (negative-asset (a .s) (a .values .now) (a .assets .now) (a .n) (functionAt (a .table .now) (a .n)) (c5 .if1 .left ∙ row-values (a .table .now) (a .n) _ (c7 .function-at .ensures)) (c3 .if2 .left
-    ∙ row-parameters (a .table .now) (a .n) _ (c7 .function-at .ensures)) (sym (c .before .before .none-negative .ensures) ∙ not-true _ (c .before .if3 .taken))) _ (c .turn-down3 .ensures) _ (c9 .pre .1)
+    ∙ row-parameters (a .table .now) (a .n) _ (c7 .function-at .ensures)) (sym (c2 .none-negative .ensures) ∙ not-true _ (c .before .if3 .taken))) _ (c .turn-down3 .ensures) _ (c9 .pre .1)
 
 precondition-requires : tie.Need-precondition-requires
 precondition-requires c κs =
@@ -50,7 +53,8 @@ enum-told c = search needs
 
 returns-4 : tie.Need-returns-4
 returns-4 c =
-    let c4 = c .before .before .before .before in
+    let c2 = c .before .before in
+    let c4 = c2 .before .before in
     let c9 = c4 .before .before .before .before .before in
     let c14 = c9 .before .before .before .before .before in
     let c15 = c14 .before in
@@ -59,10 +63,10 @@ returns-4 c =
     let c20 = c18 .before .before in
     let c22 = c20 .before .before in
     let a = c22 .args in
-    by-answer _ _ (ap (refused (a .s)) (c .before .truth-refusal .ensures ∙ ap truthRefusal (c .before .before .enum-told .given .1)) ∙ precondition-refused (a .s) (a .values .now) (a .assets .now) (a .n) (functionAt
+    by-answer _ _ (ap (refused (a .s)) (c .before .truth-refusal .ensures ∙ ap truthRefusal (c2 .enum-told .given .1)) ∙ precondition-refused (a .s) (a .values .now) (a .assets .now) (a .n) (functionAt
     (a .table .now) (a .n)) (c18 .if1 .left ∙ row-values (a .table .now) (a .n) _ (c20 .function-at .ensures)) (c16 .if2 .left ∙ row-parameters (a .table .now) (a .n) _ (c20 .function-at .ensures)) (sym (c15 .none-negative .ensures)
     ∙ not-false _ (c14 .if3 .left)) _ (begins (a .s) (a .assets .now) _ (c9 .holdings-of .ensures)) _ (c4 .precondition .ensures ∙ ap (preconditionHolds (memoryOf (a .s .kinds) (a .s .numbers) (a .s .texts)
-    (c9 .holdings-of .result) (a .values .now) (a .s .clock))) (row-precondition (a .table .now) (a .n) _ (c20 .function-at .ensures))) _ (c .before .before .enum-told .given .1)) _ (c .turn-down4 .ensures) _
+    (c9 .holdings-of .result) (a .values .now) (a .s .clock))) (row-precondition (a .table .now) (a .n) _ (c20 .function-at .ensures))) _ (c2 .enum-told .given .1)) _ (c .turn-down4 .ensures) _
     (c22 .pre .1)
 
 returns-5 : tie.Need-returns-5
@@ -84,21 +88,21 @@ returns-5 c =
 
 returns-6 : tie.Need-returns-6
 returns-6 c =
-    let c4 = c .before .before .before .before in
+    let c2 = c .before .before in
+    let c4 = c2 .before .before in
     let c6 = c4 .before .before in
-    let c8 = c6 .before .before in
-    let c13 = c8 .before .before .before .before .before in
-    let c18 = c13 .before .before .before .before .before in
-    let c19 = c18 .before in
-    let c20 = c19 .before in
+    let c11 = c6 .before .before .before .before .before in
+    let c16 = c11 .before .before .before .before .before in
+    let c17 = c16 .before in
+    let c18 = c17 .before in
+    let c20 = c18 .before .before in
     let c22 = c20 .before .before in
     let c24 = c22 .before .before in
-    let c26 = c24 .before .before in
-    let a = c26 .args in
-    by-answer _ _ (precondition-true (a .s) (a .values .now) (a .assets .now) (a .n) (functionAt (a .table .now) (a .n)) (c22 .if1 .left ∙ row-values (a .table .now) (a .n) _ (c24 .function-at .ensures)) (c20 .if2 .left
-    ∙ row-parameters (a .table .now) (a .n) _ (c24 .function-at .ensures)) (sym (c19 .none-negative .ensures) ∙ not-false _ (c18 .if3 .left)) _ (begins (a .s) (a .assets .now) _ (c13 .holdings-of .ensures)) _
-    (c8 .precondition .ensures ∙ ap (preconditionHolds (memoryOf (a .s .kinds) (a .s .numbers) (a .s .texts) (c13 .holdings-of .result) (a .values .now) (a .s .clock))) (row-precondition (a .table .now) (a .n) _
-    (c24 .function-at .ensures))) (c6 .truth .given .1 ∙ ap truth.Holds (not-false _ (c4 .if4 .left))) _ refl) _ (c .perform .ensures .0) _ (c .perform .ensures .1)
+    let a = c24 .args in
+    by-answer _ _ (precondition-true (a .s) (a .values .now) (a .assets .now) (a .n) (functionAt (a .table .now) (a .n)) (c20 .if1 .left ∙ row-values (a .table .now) (a .n) _ (c22 .function-at .ensures)) (c18 .if2 .left
+    ∙ row-parameters (a .table .now) (a .n) _ (c22 .function-at .ensures)) (sym (c17 .none-negative .ensures) ∙ not-false _ (c16 .if3 .left)) _ (begins (a .s) (a .assets .now) _ (c11 .holdings-of .ensures)) _
+    (c6 .precondition .ensures ∙ ap (preconditionHolds (memoryOf (a .s .kinds) (a .s .numbers) (a .s .texts) (c11 .holdings-of .result) (a .values .now) (a .s .clock))) (row-precondition (a .table .now) (a .n) _
+    (c22 .function-at .ensures))) (c4 .truth .given .1 ∙ ap truth.Holds (not-false _ (c2 .if4 .left))) _ refl) _ (c .perform .ensures .0) _ (c .perform .ensures .1)
 
 pub invoke-spec : {M : Type 1} → statement M
 invoke-spec =

@@ -5,7 +5,7 @@ use Rattle.contract.specs.Tree.{Contract}
 use Rattle.contract.specs.Decode.{contractOf}
 use Rattle.machine.specs.Steps.{ticked}
 use Rattle.machine.proofs.Gates.{refused-first, stepped}
-use Rattle.machine.proofs.Columns.{tick-plain}
+use Rattle.machine.proofs.Answers.{tick-plain}
 use Rattle.machine.proofs.tick.Statement.{statement}
 use Rattle.machine.proofs.tick.Tie as tie
 

@@ -1,6 +1,8 @@
 -- `statements::add_label` meets its contract. Assumes nothing.
 use borrow.Author.Needs.{needs}
-use mir.Facts.{toZ-ofZ}
+use native.Mathlib.Omega.{arith}
+use mir.Syntax.{w64}
+use mir.Facts.{toZ-ofZ, toZ-pos}
 use Rattle.statements.proofs.add_label.Statement.{statement}
 use Rattle.statements.proofs.add_label.Tie as tie
 use Rattle.statements.proofs.Writes.{label-full, count-full, label-added, count-added}
@@ -12,8 +14,8 @@ returns c =
 returns-2 : tie.Need-returns-2
 returns-2 c =
     let s = c .before .args in (
-      label-added (s .count) (s .sorts .now) (s .receivers .now) (s .amounts .now) (s .kind) (s .party) (s .value) _ (toZ-ofZ (c .before .fits .value))
-          (c .if1 .left),
+      label-added (s .count) (s .labels .now) (s .kind) (s .party) (s .value) _ _ _ _ _ _ (toZ-pos w64 (omega arith)) (toZ-pos w64 (omega arith))
+          (toZ-ofZ (c .before .fits .value)) (omega arith) (omega arith) (omega arith) (c .if1 .left),
       count-added _ (c .if1 .left),
     )
 
@@ -22,4 +24,4 @@ add-label-spec =
     tie.close
     (tie.spec
     returns (λ c. search needs) (λ c. search needs) (λ c. search needs) (λ c. search needs) (λ c. search needs) (λ c. search needs)
-    returns-2)
+    (λ c. search needs) (λ c. search needs) (λ c. search needs) (λ c. search needs) (λ c. search needs) (λ c. search needs) returns-2)

@@ -11,19 +11,21 @@ use Rattle.statements.proofs.Writes.{value-label}
 
 returns : tie.Need-returns
 returns c =
-    let fz : SFits w64 (c .before .before .before .before .before .value .given .0 .0) = record
-    { sfits = c .before .before .before .before .known-told .given .0 .1 } in (
-      c .add-label .ensures .0 ∙ value-label _ _ _ _ (c .before .before .before .before .before .before .before .args .value) _ _
-          (c .before .before .before .before .before .value .given .1) refl (toZ-ofZ fz),
+    let c2 = c .before .before in
+    let c3 = c2 .before in
+    let c5 = c3 .before .before in
+    let fz : SFits w64 (c3 .value .given .0 .0) = record { sfits = c2 .known-told .given .0 .1 } in (
+      c .add-label .ensures .0 ∙ value-label _ _ _ _ (c5 .args .value) _ _ (c3 .value .given .1) refl (toZ-ofZ fz),
       c .add-label .ensures .1,
     )
 
 returns-2 : tie.Need-returns-2
-returns-2 c = (
-  c .add-label2 .ensures .0 ∙ value-label _ _ _ _ (c .before .before .before .before .before .before .before .args .value) _ _
-      (c .before .before .before .before .before .value2 .given .1) refl (toZ-pos w64 (omega arith)),
-  c .add-label2 .ensures .1,
-)
+returns-2 c =
+    let c3 = c .before .before .before in
+    let c5 = c3 .before .before in (
+      c .add-label2 .ensures .0 ∙ value-label _ _ _ _ (c5 .args .value) _ _ (c3 .value2 .given .1) refl (toZ-pos w64 (omega arith)),
+      c .add-label2 .ensures .1,
+    )
 
 pub send-spec : {M : Type 1} → statement M
 send-spec =

@@ -51,7 +51,7 @@ returns-2 c =
     let m = c .before .before .before .before .before .before .before .before .before .before .before .before .labels-told .ensures in
     let a = c .before .before .before .before .before .before .before .before .before .tell-outcome .ensures in
     let b = c .before .before .before .tell-labels .ensures in
-    let y = step-told (s .args .outcome) (s .args .state) (s .args .clock) (s .args .count) (s .args .sorts .now) (s .args .receivers .now) (s .args .amounts .now) m (a .0) (a .1) (b .0) (b .1) in
+    let y = step-told (s .args .outcome) (s .args .state) (s .args .clock) (s .args .count) (s .args .labels .now) m (a .0) (a .1) (b .0) (b .1) in
     (ap (λ (k : ℕ). s .args .n + 1 + k) m ∙ sym (pick-true _ _ _ e), (y .numbers-after ∙ sym (pick-true _ _ _ e), y .integers-after ∙ sym (pick-true _ _ _ e)))
 
 pub report-spec : {M : Type 1} → statement M

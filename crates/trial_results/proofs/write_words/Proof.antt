@@ -8,11 +8,11 @@ use Rattle.trial_results.proofs.write_words.Statement.{statement}
 use Rattle.trial_results.proofs.write_words.Tie as tie
 
 abbrev Inv-loop : tie.InvT-loop
-Inv-loop line table₀ at₀ i₀ table at i =
+Inv-loop line start table₀ word at₀ i₀ table at i =
     length table ≡ length table₀
 
 abbrev μ-loop : tie.MeasureT-loop
-μ-loop line table₀ at₀ i₀ table at i =
+μ-loop line start table₀ word at₀ i₀ table at i =
     length line - i
 
 same-length : tie.Need-same-length Inv-loop μ-loop
@@ -20,7 +20,7 @@ same-length c = c .before .before .loop .inv
 
 loop-less : tie.Need-loop-less Inv-loop μ-loop
 loop-less c =
-    omega (arith, c .before .before .before .before .number-at2 .ensures (c .before .before .before .before .before .before .loop-test .taken))
+    omega (arith, c .before .before .before .before .number-at .ensures (c .before .before .before .before .before .before .loop-test .taken))
 
 loop-again : tie.Need-loop-again Inv-loop μ-loop
 loop-again c =
@@ -35,7 +35,6 @@ write-words-spec =
     (tie.spec
     Inv-loop
     μ-loop
-    (λ c κs. search needs)
     (λ c. search needs)
     same-length
     (λ c. search needs)

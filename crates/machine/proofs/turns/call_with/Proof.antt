@@ -12,15 +12,15 @@ use Rattle.machine.proofs.turns.call_with.Tie as tie
 
 slice-aggregate-call-on : tie.Need-slice-aggregate-call-on
 slice-aggregate-call-on c =
-    let s = c .before .before .before .before in
-    omega (arith, s .pre .0 .2, length-take (s .args .values) (s .args .all .now))
+    let c4 = c .before .before .before .before in
+    omega (arith, c4 .pre .0 .2, length-take (c4 .args .values) (c4 .args .all .now))
 
 returns : tie.Need-returns
 returns c =
-    let s = c .before .before .before .before .before .before .before .before .before in
+    let c7 = c .before .before .before .before .before .before .before in
     let does : ℕ → Stepped =
-    λ n. calledBy (contractOf (s .args .table .now)) (s .args .s) (s .args .caller .now) (s .args .function .now) (take (s .args .values) (s .args .all .now)) (take n (drop (s .args .values) (s .args .all .now))) in
-    let q : s .args .values + s .args .assets - s .args .values ≡ s .args .assets = omega arith in
+    λ n. calledBy (contractOf (c7 .args .table .now)) (c7 .args .s) (c7 .args .caller .now) (c7 .args .function .now) (take (c7 .args .values) (c7 .args .all .now)) (take n (drop (c7 .args .values) (c7 .args .all .now))) in
+    let q : c7 .args .values + c7 .args .assets - c7 .args .values ≡ c7 .args .assets = omega arith in
     (c .call-on .ensures .0 ∙ ap (λ (n : ℕ). replyOf (does n)) q, c .call-on .ensures .1 ∙ ap (λ (n : ℕ). does n .labels) q)
 
 pub call-with-spec : {M : Type 1} → statement M

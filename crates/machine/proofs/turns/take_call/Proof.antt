@@ -8,8 +8,7 @@ use Rattle.tokens.specs.Tokens.{between}
 use Rattle.lines.specs.Lines.{asked}
 use Rattle.contract.specs.Decode.{contractOf}
 use Rattle.outcomes.specs.declared.Stepped.{Stepped}
-use Rattle.machine.specs.Private.{replyOf, calledBy}
-use Rattle.machine.specs.Sessions.{taken}
+use Rattle.machine.specs.Private.{replyOf, calledBy, taken}
 use Rattle.machine.proofs.Taken.{numbers-length, does-call}
 use borrow.Author.Needs.{needs}
 use Rattle.machine.proofs.turns.take_call.Statement.{statement}
@@ -17,30 +16,32 @@ use Rattle.machine.proofs.turns.take_call.Tie as tie
 
 slice-aggregate-call-with : tie.Need-slice-aggregate-call-with
 slice-aggregate-call-with c =
-    let s = c .before .before .before .before .before .before in
-    sym (numbers-length (s .args .read) _ (s .good .1 .1 .1 .0))
+    let c6 = c .before .before .before .before .before .before in
+    sym (numbers-length (c6 .args .read) _ (c6 .good .1 .1 .1 .0))
 
 call-with-requires : tie.Need-call-with-requires
 call-with-requires c κs =
-    let s = c .before .before .before .before .before .before .before .before .before in
-    let r = s .args .read in
-    let l = numbers-length r _ (s .good .1 .1 .1 .0) in
-    let k = does-call (contractOf (s .args .table .now)) (s .args .s) (s .args .line .now) (asked (s .args .line .now)) r (s .pre .1 .1 .0) (s .pre .1 .1 .1) l in
-    ((s .pre .0 .0, s .pre .0 .1, omega (arith, k .room, l)), s .pre .1 .0)
+    let c7 = c .before .before .before .before .before .before .before in
+    let r = c7 .args .read in
+    let l = numbers-length r _ (c7 .good .1 .1 .1 .0) in
+    let k = does-call (contractOf (c7 .args .table .now)) (c7 .args .s) (c7 .args .line .now) (asked (c7 .args .line .now)) r (c7 .pre .1 .1 .0) (c7 .pre .1 .1 .1) l in
+    ((c7 .pre .0 .0, c7 .pre .0 .1, omega (arith, k .room, l)), c7 .pre .1 .0)
 
 returns : tie.Need-returns
 returns c =
-    let s = c .before .before .before .before .before .before .before .before .before .before in
-    let r = s .args .read in
-    let l = numbers-length r _ (s .good .1 .1 .1 .0) in
-    let k = does-call (contractOf (s .args .table .now)) (s .args .s) (s .args .line .now) (asked (s .args .line .now)) r (s .pre .1 .1 .0) (s .pre .1 .1 .1) l in
+    let c4 = c .before .before .before .before in
+    let c5 = c4 .before in
+    let c8 = c5 .before .before .before in
+    let r = c8 .args .read in
+    let l = numbers-length r _ (c8 .good .1 .1 .1 .0) in
+    let k = does-call (contractOf (c8 .args .table .now)) (c8 .args .s) (c8 .args .line .now) (asked (c8 .args .line .now)) r (c8 .pre .1 .1 .0) (c8 .pre .1 .1 .1) l in
     let does : List ℕ → List ℕ → Stepped =
-    λ x y. calledBy (contractOf (s .args .table .now)) (s .args .s) x y (take (r .values) (r .numbers)) (take (r .assets) (drop (r .values) (r .numbers))) in
-    let caller = c .before .before .before .before .before .before .before .between .ensures in
-    let function = c .before .before .before .before .before .before .between2 .ensures in
-    let e : does (c .before .before .before .before .before .before .before .between .result .now) (c .before .before .before .before .before .before .between2 .result .now) ≡ taken (contractOf (s .args .table .now)) (s .args .s) (s .args .line .now) =
-    ap (λ (x : List ℕ). does x (c .before .before .before .before .before .before .between2 .result .now)) caller
-    ∙ ap (does (between (s .args .line .now) (r .«party_start») (r .«party_end»))) function
+    λ x y. calledBy (contractOf (c8 .args .table .now)) (c8 .args .s) x y (take (r .values) (r .numbers)) (take (r .assets) (drop (r .values) (r .numbers))) in
+    let caller = c5 .between .ensures in
+    let function = c4 .between2 .ensures in
+    let e : does (c5 .between .result .now) (c4 .between2 .result .now) ≡ taken (contractOf (c8 .args .table .now)) (c8 .args .s) (c8 .args .line .now) =
+    ap (λ (x : List ℕ). does x (c4 .between2 .result .now)) caller
+    ∙ ap (does (between (c8 .args .line .now) (r .«party_start») (r .«party_end»))) function
     ∙ k .does in
     (c .call-with .ensures .0 ∙ ap replyOf e, c .call-with .ensures .1 ∙ ap (λ (t : Stepped). t .labels) e)
 

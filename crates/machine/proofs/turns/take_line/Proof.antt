@@ -14,36 +14,43 @@ enum-told c = search needs
 
 take-call-requires : tie.Need-take-call-requires
 take-call-requires c κs =
-    let s = c .before .before .before .before .before .before .before .before in
-    (s .pre .0, (s .pre .1, (c .before .before .before .before .before .read .ensures, c .before .before .before .enum-told2 .given .1)))
+    let c3 = c .before .before .before in
+    let c6 = c3 .before .before .before in
+    (c6 .pre .0, (c6 .pre .1, (c3 .read .ensures, c .before .enum-told2 .given .1)))
 
 take-agreement-requires : tie.Need-take-agreement-requires
 take-agreement-requires c κs =
-    (c .before .before .before .before .before .pre .0 .0, ap (λ (x : Line). x .request) (sym (c .before .before .read .ensures)) ∙ c .enum-told3 .given .1)
+    let c2 = c .before .before in
+    let c5 = c2 .before .before .before in
+    (c5 .pre .0 .0, ap (λ (x : Line). x .request) (sym (c2 .read .ensures)) ∙ c .enum-told3 .given .1)
 
 returns : tie.Need-returns
 returns c =
-    let s = c .before .before .before .before .before .before .before in
-    let w = contractOf (s .args .table .now) in
-    let l = s .args .line .now in
-    let e = ap (λ (x : Line). x .request) (sym (c .before .before .before .before .read .ensures)) ∙ c .before .before .request .given .1 in
-    (c .turn-down .ensures ∙ ap replyOf (does-refused w (s .args .s) l (asked l) e), s .pre .1 ∙ sym (silent-refusal w (s .args .s) l (asked l) e .labels))
+    let c2 = c .before .before in
+    let c4 = c2 .before .before in
+    let c7 = c4 .before .before .before in
+    let w = contractOf (c7 .args .table .now) in
+    let l = c7 .args .line .now in
+    let e = ap (λ (x : Line). x .request) (sym (c4 .read .ensures)) ∙ c2 .request .given .1 in
+    (c .turn-down .ensures ∙ ap replyOf (does-refused w (c7 .args .s) l (asked l) e), c7 .pre .1 ∙ sym (silent-refusal w (c7 .args .s) l (asked l) e .labels))
 
 returns-2 : tie.Need-returns-2
 returns-2 c =
-    let s = c .before .before .before .before .before .before in
-    let w = contractOf (s .args .table .now) in
-    let l = s .args .line .now in
-    let e = ap (λ (x : Line). x .request) (sym (c .before .before .before .read .ensures)) ∙ c .before .enum-told .given .1 in
-    (c .tick-on .ensures ∙ ap replyOf (does-tick w (s .args .s) l (asked l) e), s .pre .1 ∙ sym (silent-tick w (s .args .s) l (asked l) e .labels))
+    let c3 = c .before .before .before in
+    let c6 = c3 .before .before .before in
+    let w = contractOf (c6 .args .table .now) in
+    let l = c6 .args .line .now in
+    let e = ap (λ (x : Line). x .request) (sym (c3 .read .ensures)) ∙ c .before .enum-told .given .1 in
+    (c .tick-on .ensures ∙ ap replyOf (does-tick w (c6 .args .s) l (asked l) e), c6 .pre .1 ∙ sym (silent-tick w (c6 .args .s) l (asked l) e .labels))
 
 returns-4 : tie.Need-returns-4
 returns-4 c =
-    let s = c .before .before .before .before .before .before in
-    let w = contractOf (s .args .table .now) in
-    let l = s .args .line .now in
-    let e = ap (λ (x : Line). x .request) (sym (c .before .before .before .read .ensures)) ∙ c .before .enum-told3 .given .1 in
-    (c .take-agreement .ensures, s .pre .1 ∙ sym (silent-agreement w (s .args .s) l (asked l) e .labels))
+    let c3 = c .before .before .before in
+    let c6 = c3 .before .before .before in
+    let w = contractOf (c6 .args .table .now) in
+    let l = c6 .args .line .now in
+    let e = ap (λ (x : Line). x .request) (sym (c3 .read .ensures)) ∙ c .before .enum-told3 .given .1 in
+    (c .take-agreement .ensures, c6 .pre .1 ∙ sym (silent-agreement w (c6 .args .s) l (asked l) e .labels))
 
 pub take-line-spec : {M : Type 1} → statement M
 take-line-spec =

@@ -1,0 +1,6 @@
+-- What the code's proofs use.
+pub mod Numerals
+pub mod Shown
+pub mod Diagnosed
+-- What holds of the definitions.
+pub mod Worked

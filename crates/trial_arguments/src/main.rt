@@ -1,0 +1,197 @@
+// Does what the desk does before a session, for each folder that standard input names, one a line: what the arguments in its file `args` ask
+// for, one argument a line, and what comes of the contract. Prints the folder's name, then `usage`, `help`, what the desk says of a FILE that
+// can't be read or of a refused contract, its report on the terms, or `accepted`. At the end, each question with its words.
+// Expected results: the published vectors' (requests/F-00), standard output before standard error; the words of the desk's page.
+ghost use Prim.Native.Nat.{_≤_};
+ghost use lib.ListN.{length};
+use arguments::Asked;
+use contract::Contract;
+use libc::STDOUT_FILENO;
+use reading::Answer;
+use results::Written;
+
+fn print(bytes: &[u8]) {
+    io::write_all(STDOUT_FILENO, bytes);
+}
+
+// The place of the first LF from `at` on, or the end.
+fn line_end(text: &[u8], at: usize) -> usize
+    requires { ⌜ at ≤ length (now text) ⌝ }
+    ensures { λ r. ⌜ (at ≤ r) × (r ≤ length (now (text .entry))) ⌝ }
+{
+    let mut i = at;
+    while i < text.len() {
+        if text[i] == b'\n' {
+            return i;
+        }
+        i += 1;
+    }
+    i
+}
+
+// Keeps bytes after those kept before, as many as there is room for; answers how many are kept.
+fn keep(line: &mut [u8], kept: usize, bytes: &[u8]) -> usize {
+    let mut k = kept;
+    let mut i = 0;
+    while i < bytes.len() {
+        if line.len() <= k {
+            return k;
+        }
+        line[k] = bytes[i];
+        k += 1;
+        i += 1;
+    }
+    k
+}
+
+// What arguments ask for, one a line. Their numbers are the places where their lines start.
+fn ask(lines: &[u8]) -> Asked {
+    let mut asked = Asked::nothing();
+    let mut start = 0;
+    while start < lines.len() {
+        let end = line_end(lines, start);
+        asked = arguments::hear(asked, start, &lines[start..end]);
+        start = end + 1;
+    }
+    asked
+}
+
+// A refused text, as the desk tells it.
+fn refuse(name: &[u8], text: &[u8], number: u8, place: usize) {
+    let mut line = [0u8; 128];
+    let written = results::write_text_refusal(number, place, &mut line);
+    if let Written::Wrote(n) = written {
+        print(tokens::between(&line, 0, n));
+    }
+    let mut out = [0u8; 2048];
+    let n = diagnoses::write(name, text, number, place, &mut out);
+    print(tokens::between(&out, 0, n));
+}
+
+fn review_field(table: &[u64], x: usize) {
+    if reviews::never_agreed(table, x) {
+        let mut name = [0u8; 32];
+        let n = reviews::field_name(table, x, &mut name);
+        print(b"// never agreed: ");
+        print(tokens::between(&name, 0, n));
+        print(b"\n");
+    }
+}
+
+fn review(table: &[u64]) {
+    let mut x: usize = 0;
+    while x < Contract::FIELDS {
+        review_field(table, x);
+        x += 1;
+    }
+}
+
+fn begin(asked: Asked, name: &[u8], text: &[u8]) {
+    let mut table = [0u64; Contract::TABLE];
+    let answer = reader::read(text, &mut table);
+    match answer {
+        Answer::Refused(number, place) => refuse(name, text, number, place),
+        Answer::Accepted => {
+            if asked.review {
+                review(&table);
+            } else {
+                print(b"accepted\n");
+            }
+        }
+    }
+}
+
+// The contract in the file with this name in a folder.
+fn start(asked: Asked, folder: &[u8], name: &[u8]) {
+    let mut path = [0u8; 1280];
+    let slash = keep(&mut path, 0, folder);
+    let file = keep(&mut path, slash, b"/");
+    let end = keep(&mut path, file, name);
+    let fd = os::open_read(tokens::between(&path, 0, end));
+    if fd < 0 {
+        print(b"desk: ");
+        print(name);
+        print(b" can't be read\n");
+        return;
+    }
+    let mut text = [0u8; 16385];
+    let n = io::read_full(fd, &mut text);
+    libc::close(fd);
+    begin(asked, name, tokens::between(&text, 0, n));
+}
+
+// What is asked by these arguments of the contract in a folder.
+fn answer(folder: &[u8], lines: &[u8]) {
+    let asked = ask(lines);
+    let file = asked.file;
+    if asked.fault != 0 {
+        print(b"usage\n");
+        return;
+    }
+    if asked.help {
+        print(b"help\n");
+        return;
+    }
+    if asked.files == 0 {
+        start(asked, folder, b"terms.stipula");
+        return;
+    }
+    if file <= lines.len() {
+        start(
+            asked,
+            folder,
+            tokens::between(lines, file, line_end(lines, file)),
+        );
+    }
+}
+
+fn show(name: &[u8]) {
+    let mut path = [0u8; 128];
+    let slash = keep(&mut path, 0, name);
+    let end = keep(&mut path, slash, b"/args");
+    let mut lines = [0u8; 16384];
+    let fd = os::open_read(tokens::between(&path, 0, end));
+    let n = io::read_full(fd, &mut lines);
+    libc::close(fd);
+    print(b"== ");
+    print(name);
+    print(b"\n");
+    answer(name, tokens::between(&lines, 0, n));
+}
+
+fn show_all(names: &[u8]) {
+    let mut start = 0;
+    while start < names.len() {
+        let end = line_end(names, start);
+        show(&names[start..end]);
+        start = end + 1;
+    }
+}
+
+// A question that has words.
+fn word(question: u8) {
+    let mut words = [0u8; 64];
+    let n = question_words::words(question, &mut words);
+    if n == 0 {
+        return;
+    }
+    io::print_decimal(STDOUT_FILENO, question as u64);
+    print(b" ");
+    print(tokens::between(&words, 0, n));
+    print(b"\n");
+}
+
+fn words() {
+    let mut question: u8 = 0;
+    while question < 255 {
+        word(question);
+        question += 1;
+    }
+}
+
+fn main() {
+    let mut names = [0u8; 8192];
+    let n = io::read_full(libc::STDIN_FILENO, &mut names);
+    show_all(&names[..n]);
+    words();
+}
