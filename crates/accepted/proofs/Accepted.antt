@@ -1,20 +1,20 @@
 -- The contract of an accepted text fits: its table passes question 3, and gives the contract back. Assumes nothing.
 use mathlib.Core.Path.{_≡_, refl, sym, ap, subst, _∙_}
-use mathlib.Core.Bool.{Bool, true, false, _&&_}
+use mathlib.Core.Bool.{Bool, true, false, _&&_, _||_}
 use mathlib.Core.List.{List, [], _∷_, _++_}
-use Prim.Native.Nat.{ℕ, _+_, _≤_}
+use Prim.Native.Nat.{ℕ, _+_, _<_, _≤_}
 use native.Mathlib.Omega.{arith}
 use lib.ListN.{length}
 use lib.Dec.{eqb, leb}
-use borrow.Author.Tests.{le-leb, leb-true, lt-ltb, ltb-true}
+use borrow.Author.Tests.{le-leb, leb-true, lt-ltb, ltb-true, eq-eqb, eqb-true}
 use Rattle.laws.specs.Choice.{pick}
 use Rattle.laws.proofs.Choice.{by-cases, true-false, pick-false}
 use Rattle.contract.specs.Tree.{Word, Clause, Contract}
 use Rattle.contract.specs.Limits.{maxParties, maxAssets, maxFields, maxStates, maxStrings, maxClauses, maxFunctions, maxEvents, maxNodes}
-use Rattle.contract.specs.Fits.{isName, isString, wordsIn, fits}
-use Rattle.laws.proofs.Members.{every-append}
-use Rattle.laws.proofs.Truths.{both-left, both-right, both-true}
-use Rattle.laws.specs.Lists.{every}
+use Rattle.contract.specs.Fits.{isName, isString, wordsIn, hasClause, fits}
+use Rattle.laws.proofs.Members.{every-append, all-below, below-at}
+use Rattle.laws.proofs.Truths.{both-left, both-right, both-true, link, either-true, first-true, second-true}
+use Rattle.laws.specs.Lists.{every, allBelow}
 use Rattle.contract.specs.Table.{tableLength}
 use Rattle.contract.specs.Encode.{encode}
 use Rattle.contract.specs.Decode.{contractOf}
@@ -26,7 +26,7 @@ use Rattle.reading.specs.Syntax.{Syntax}
 use Rattle.reading.specs.Grammar.{Parsed, done, no, parse, isOneOf}
 use Rattle.reading.specs.Items.{Item, closes, ofEach, declared, stateItem, functionItems, clauseItems, items}
 use Rattle.reading.specs.Items as kind
-use Rattle.reading.specs.Rules.{Finding, fine, breaks, most, word, isAmong, known, headers, count, clausesIn, keepsRules, judge, judged}
+use Rattle.reading.specs.Rules.{Finding, fine, breaks, most, word, isAmong, known, headers, count, clausesIn, distinct, isSet, partiesOf, fieldsSet, agreesWell, keepsRules, judge, judged}
 use Rattle.reading.specs.Resolve.{Names, eachOf, latestFirst, functionOf, namesIn, contractIn, resolve}
 use Rattle.reading.specs.Reading.{maxText, Reading, accepted, refused, ruled, parsed, readText}
 use Rattle.accepted.proofs.Judged.{Clean, judged-clean, clean-first, clean-second, latest-append, test-holds}
@@ -34,7 +34,8 @@ use Rattle.accepted.proofs.Known.{wordsFor, rightItem, known-few, known
 use Rattle.accepted.proofs.Counts.{tally, headsIn, tally-append, heads-append, count-latest, always-on, count-few, heads-few}
 use Rattle.accepted.proofs.Sorted.{SyntaxSorted, parse-sorted}
 use Rattle.accepted.proofs.CodeItems.{declared-right, functions-right, functions-nodes, functions-events, functions-heads, length-each}
-use Rattle.accepted.proofs.FunctionsFit.{seven, Reach, reach-back, met-shared, functions-in, clauses-in, clauses-plain, clauses-right, length-clauses, clause-lengths}
+use Rattle.accepted.proofs.Late.{late-known, functions-late}
+use Rattle.accepted.proofs.FunctionsFit.{seven, Reach, reach-back, met-shared, functions-in, clauses-in, clauses-plain, clauses-right, length-clauses, clause-lengths, has-same}
 
 words-in : (p : Word → Bool) (n : ℕ) (ws : List Word) → every p ws ≡ true → length ws ≤ n → wordsIn p n ws ≡ true
 unfolding wordsIn
@@ -52,10 +53,11 @@ contract-fits c h =
     (both-true _ _ (words-in isString maxStrings (c .strings) (h .strings) (h .strings-few))
     (both-true _ _ (h .clauses)
     (both-true _ _ (le-leb _ _ (h .clauses-few))
+    (both-true _ _ (h .heard)
     (both-true _ _ (lt-ltb _ _ (h .initial))
     (both-true _ _ (h .functions)
     (both-true _ _ (le-leb _ _ (h .functions-few))
-    (both-true _ _ (le-leb _ _ (h .events-few)) (le-leb _ _ (h .nodes-few)))))))))))))
+    (both-true _ _ (le-leb _ _ (h .events-few)) (le-leb _ _ (h .nodes-few))))))))))))))
 
 -- the contract of a reading fits, if it has one
 abbrev Fitting : Reading → Type 0
@@ -66,6 +68,41 @@ Fitting (refused q p) = Unit {0}
 rules-few : (n : ℕ) (ks : List Clause) → keepsRules n ks ≡ true → (leb (length ks) maxClauses && every (λ k. leb (length (k .fields)) maxFields) ks) ≡ true
 unfolding keepsRules
 rules-few n ks e = both-left _ _ e
+
+-- a party of a SET or of an OK has a clause
+has-more : (k : Clause) (ks : List Clause) (ps : List ℕ) (p : ℕ) (b : Bool) → b ≡ eqb p (k .party) → (isOneOf ps p ≡ true → hasClause ks p ≡ true)
+    → pick b true (isOneOf ps p) ≡ true → hasClause (k ∷ ks) p ≡ true
+unfolding hasClause pick
+has-more k ks ps p true e f h = first-true _ (eq-eqb (k .party) p (sym (eqb-true p (k .party) (sym e))))
+has-more k ks ps p false e f h = second-true (eqb (k .party) p) (f h)
+
+has-party : (v : Bool) (ks : List Clause) (p : ℕ) → isOneOf (partiesOf v ks) p ≡ true → hasClause ks p ≡ true
+unfolding partiesOf isOneOf hasClause
+has-party v [] p e = true-false (sym e)
+has-party true (k ∷ ks) p e =
+    by-cases (λ (l : List ℕ). isOneOf l p ≡ true → hasClause (k ∷ ks) p ≡ true) (isSet (k .verb)) _ _
+    (λ _. has-more k ks (partiesOf true ks) p (eqb p (k .party)) refl (has-party true ks p))
+    (λ _ h. second-true (eqb (k .party) p) (has-party true ks p h)) e
+has-party false (k ∷ ks) p e =
+    by-cases (λ (l : List ℕ). isOneOf l p ≡ true → hasClause (k ∷ ks) p ≡ true) (isSet (k .verb)) _ _
+    (λ _ h. second-true (eqb (k .party) p) (has-party false ks p h))
+    (λ _. has-more k ks (partiesOf false ks) p (eqb p (k .party)) refl (has-party false ks p)) e
+
+-- each party has a clause
+rules-heard : (n : ℕ) (ks : List Clause) → keepsRules n ks ≡ true → (p : ℕ) → p < n → hasClause ks p ≡ true
+unfolding keepsRules
+rules-heard n ks e p h =
+    let q : ℕ → Bool = λ a. isOneOf (partiesOf true ks) a || isOneOf (partiesOf false ks) a in
+    let t =
+    link
+    ((leb (length ks) maxClauses && every (λ k. leb (length (k .fields)) maxFields) ks)
+    ∷ distinct (fieldsSet (λ a. true) ks)
+    ∷ every (agreesWell ks) ks
+    ∷ allBelow n q
+    ∷ (distinct (partiesOf true ks) && distinct (partiesOf false ks))
+    ∷ [])
+    e in
+    either-true _ _ (below-at q n (t 3) p h) (has-party true ks p) (has-party false ks p)
 
 module _ (s : List ℕ) where
   -- ---- the items of a whole text
@@ -156,7 +193,12 @@ module _ (s : List ℕ) where
       let mq = met-shared s n b3 q (clauses-plain s (c .clauses)) (clean-first s b3 q t l3) r4 in
       let mi = met-shared s n b5 (stateItem (c .initial) ∷ []) refl (l4 .1 .0, tt) r5 in
       let ks = clausesIn s (known s kind.party b4) (known s kind.field b4) (c .clauses) in
-      let rules = rules-few (length (known s kind.party b4)) ks (test-holds _ 14 (c .closing) (l4 .0)) in
+      let kept = test-holds _ 14 (c .closing) (l4 .0) in
+      let rules = rules-few (length (known s kind.party b4)) ks kept in
+      let parties : n .parties ≡ known s kind.party b4 = ap (known s kind.party) ends ∙ late-known s kind.party t b4 (omega arith) (functions-late s n (c .functions) (h .functions)) in
+      let heard : (p : ℕ) → p < length (n .parties) → hasClause (clausesIn s (n .parties) (n .fields) (c .clauses)) p ≡ true =
+      λ p i. has-same s (n .parties) (n .fields) (known s kind.field b4) (c .clauses) p
+      ∙ subst (λ (ps : List Word). (p < length ps → hasClause (clausesIn s ps (known s kind.field b4) (c .clauses)) p ≡ true)) (sym parties) (rules-heard (length (known s kind.party b4)) ks kept p) i in
       let few : leb (length ks) maxClauses ≡ true = both-left (leb (length ks) maxClauses) (every (λ k. leb (length (k .fields)) maxFields) ks) rules in
       let fields : every (λ k. leb (length (k .fields)) maxFields) ks ≡ true = both-right (leb (length ks) maxClauses) (every (λ k. leb (length (k .fields)) maxFields) ks) rules in
       let same : length (clausesIn s (n .parties) (n .fields) (c .clauses)) ≡ length ks = length-clauses s (n .parties) (n .fields) (c .clauses) ∙ sym (length-clauses s _ _ (c .clauses)) in
@@ -186,6 +228,7 @@ module _ (s : List ℕ) where
         strings-few = known-few s kind.string B;
         clauses = clauses-in s n c _ _ (c .clauses) mq (clause-lengths s _ _ _ _ (c .clauses) ∙ fields);
         clauses-few = leb-true _ _ (ap (λ (m : ℕ). leb m maxClauses) same ∙ few);
+        heard = all-below (hasClause (clausesIn s (n .parties) (n .fields) (c .clauses))) (length (n .parties)) heard;
         initial = ltb-true _ _ (both-left (isAmong (word s (c .initial)) (n .states)) true mi);
         functions = functions-in s n c b6 (c .functions) (h .functions) (l4 .1 .1) r6;
         functions-few = omega arith;

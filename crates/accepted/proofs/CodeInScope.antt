@@ -173,7 +173,7 @@ module _ (s : List ℕ) where
       let x = o .statement in
       omega arith
 
-  module _ (C : tree.Contract) (F : tree.Function) (n : Names) (whole : scopeOf C (F .values) (F .parameters) ≡ scopeIn (namesAt inFunction n)) (bare : scopeOf C 0 0 ≡ scopeIn (namesAt inHandler n)) (states : C .states ≡ n .states) where
+  module _ (C : tree.Contract) (F : tree.Function) (n : Names) (whole : scopeOf C (length (F .values)) (length (F .parameters)) ≡ scopeIn (namesAt inFunction n)) (bare : scopeOf C 0 0 ≡ scopeIn (namesAt inHandler n)) (states : C .states ≡ n .states) where
     pub event-in : (b : List Item) (w : Event) → isEvent s w ≡ true → Clean s b (eventItems w) → every (met s n) (eventItems w) ≡ true → eventIn C F (eventOf s (namesAt inFunction n) w) ≡ true
     unfolding isEvent eventItems eventOf eventIn every latestFirst
     event-in b w h c e =

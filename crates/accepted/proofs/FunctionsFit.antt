@@ -1,16 +1,16 @@
 -- The functions and clauses of a text without a finding fit its contract. Assumes nothing.
 use mathlib.Core.Path.{_≡_, refl, sym, ap, subst, _∙_}
-use mathlib.Core.Bool.{true, false, _&&_, _||_}
+use mathlib.Core.Bool.{Bool, true, false, _&&_, _||_}
 use mathlib.Core.List.{List, [], _∷_, _++_}
 use Prim.Native.Nat.{ℕ, zero, suc, _<_, _≤_}
 use native.Mathlib.Omega.{arith}
 use lib.ListN.{length}
-use lib.Dec.{ltb, leb}
+use lib.Dec.{eqb, ltb, leb}
 use borrow.Author.Tests.{le-leb}
 use Rattle.laws.specs.Choice.{pick}
 use Rattle.contract.specs.Tree.{Word, Clause}
 use Rattle.contract.specs.Limits.{maxStatements, maxValues, maxParameters, maxFields}
-use Rattle.contract.specs.Fits.{Scope, blockIn, preconditionIn, scopeOf, functionIn, clauseIn}
+use Rattle.contract.specs.Fits.{isName, Scope, blockIn, preconditionIn, scopeOf, functionIn, clauseIn, wordsIn, hasClause}
 use Rattle.laws.proofs.Members.{every-first, every-second, every-append}
 use Rattle.laws.proofs.Truths.{both-left, both-right, both-true, or-last}
 use Rattle.laws.specs.Lists.{every}
@@ -19,14 +19,14 @@ use Rattle.reading.specs.Syntax as syntax
 use Rattle.reading.specs.Grammar.{isOneOf}
 use Rattle.reading.specs.Items.{Item, uses, opens, heads, inFunction, ofEach, declared, stateItem, blockItems, eventItems, preconditionItems, functionItems, clauseItems}
 use Rattle.reading.specs.Items as kind
-use Rattle.reading.specs.Rules.{word, isAmong, known, numbersIn, clausesIn}
+use Rattle.reading.specs.Rules.{word, numberOf, isAmong, known, numbersIn, clausesIn}
 use Rattle.reading.specs.Resolve.{Names, within, eachOf, latestFirst, blockOf, preconditionOf, functionOf, contractIn}
 use Rattle.accepted.proofs.Judged.{Clean, clean-first, clean-second, latest-append}
 use Rattle.accepted.proofs.Known.{wordsFor, isKnownIn, plain, met, Knows, grows, shared-stays, known-few, plain-known, met-all, rightItem}
 use Rattle.accepted.proofs.Counts.{declared-known, declared-other}
 use Rattle.reading.proofs.TokenKinds.{Each}
-use Rattle.accepted.proofs.Sorted.{isBlock, isEvent, FunctionSorted}
-use Rattle.accepted.proofs.CodeItems.{codeItems, code-of, block-of, length-each}
+use Rattle.accepted.proofs.Sorted.{isNamed, isBlock, isEvent, FunctionSorted}
+use Rattle.accepted.proofs.CodeItems.{codeItems, code-of, block-of}
 use Rattle.accepted.proofs.CodeInScope.{scopeIn, block-in, precondition-in, block-few, events-in}
 
 -- the kinds that names have, one by one
@@ -41,6 +41,12 @@ seven P a b c d e f g (suc (suc (suc (suc (suc (suc zero)))))) h = g
 seven P a b c d e f g (suc (suc (suc (suc (suc (suc (suc k))))))) h = absurd (omega arith)
 
 module _ (s : List ℕ) where
+  -- the words of names are names
+  pub words-named : (xs : List Span) → every (isNamed s) xs ≡ true → every isName (eachOf (word s) xs) ≡ true
+  unfolding every eachOf
+  words-named [] e = refl
+  words-named (x ∷ xs) e = both-true _ _ (both-left (isNamed s x) (every (isNamed s) xs) e) (words-named xs (both-right (isNamed s x) (every (isNamed s) xs) e))
+
   -- what all functions share is known to the end of the text
   abbrev pub Reach : Names → List Item → Type 0
   Reach n b = (k : ℕ) → k < 7 → isOneOf (kind.value ∷ kind.parameter ∷ []) k ≡ false → (w : Word) → isAmong w (known s k b) ≡ true → isAmong w (wordsFor n k) ≡ true
@@ -66,7 +72,7 @@ module _ (s : List ℕ) where
 
   module _ (n : Names) (c : Syntax) where
     pub function-in : (b : List Item) (f : Function) → FunctionSorted s f → Clean s b (functionItems f) → Reach n (latestFirst b (functionItems f)) → functionIn (contractIn s n c) (functionOf s n f) ≡ true
-    unfolding functionItems functionIn functionOf latestFirst known every isKnownIn scopeOf pick isOneOf
+    unfolding functionItems functionIn functionOf latestFirst known every isKnownIn scopeOf pick isOneOf wordsIn
     function-in b f h l r =
         let zs = eachOf (word s) (f .values) in
         let ys = eachOf (word s) (f .parameters) in
@@ -95,16 +101,13 @@ module _ (s : List ℕ) where
         let p5 : known s kind.parameter b5 ≡ ys = plain-known s kind.parameter code b4 (omega arith) (w .plains) ∙ p4 in
         let ms : every (met s m) code ≡ true = met-all s m code b4 (w .plains) l4 (knows-from n b5 zs ys r5 v5 p5) in
         let mh = met-shared n b first refl (l .0, (l .1 .0, tt)) r1 in
-        let lz : length zs ≡ length (f .values) = length-each (word s) (f .values) in
-        let ly : length ys ≡ length (f .parameters) = length-each (word s) (f .parameters) in
         let fz : length (known s kind.value b3) ≤ maxValues = known-few s kind.value b3 in
         let fy : length (known s kind.parameter b4) ≤ maxParameters = known-few s kind.parameter b4 in
         let gz : length (known s kind.value b3) ≡ length zs = ap length v3 in
         let gy : length (known s kind.parameter b4) ≡ length ys = ap length p4 in
         let F = functionOf s n f in
         let D = contractIn s n c in
-        let whole : scopeOf D (F .values) (F .parameters) ≡ scopeIn m =
-        (λ i. record { parties = length (n .parties); assets = length (n .assets); fields = length (n .fields); strings = length (n .strings); values = sym lz i; parameters = sym ly i }) in
+        let whole : scopeOf D (length zs) (length ys) ≡ scopeIn m = refl in
         let blk = blockItems inFunction (f .body .statements) in
         let evs = ofEach eventItems (f .body .events) in
         let tail = stateItem (f .last) ∷ [] in
@@ -118,8 +121,8 @@ module _ (s : List ℕ) where
         both-true _ _ (both-left (isAmong (word s (f .state)) (n .states)) _ mh)
         (both-true _ _ (or-last (isAmong (word s (f .party)) (n .parties)) (both-left (isAmong (word s (f .party)) (n .parties) || false) true (both-right (isAmong (word s (f .state)) (n .states)) _ mh)))
         (both-true _ _ (h .name)
-        (both-true _ _ (le-leb (length (f .values)) maxValues (omega arith))
-        (both-true _ _ (le-leb (length (f .parameters)) maxParameters (omega arith))
+        (both-true _ _ (both-true _ _ (words-named (f .values) (h .values)) (le-leb (length zs) maxValues (omega arith)))
+        (both-true _ _ (both-true _ _ (words-named (f .parameters) (h .parameters)) (le-leb (length ys) maxParameters (omega arith)))
         (both-true _ _ (ap (λ (x : Scope). preconditionIn x (preconditionOf s m (f .precondition))) whole ∙ precondition-in s m (f .precondition) (h .precondition) (every-first (met s m) pre _ ms))
         (both-true _ _ (ap (λ (x : Scope). blockIn x (blockOf s m (f .body .statements))) whole ∙ block-in s inFunction m (f .body .statements) hb (every-first (met s m) blk (evs ++ tail) m1))
         (both-true _ _ (le-leb _ maxStatements (block-few s (latestFirst b4 pre) blk _ _ (clean-first s (opens ∷ latestFirst b4 pre) blk (evs ++ tail) k1) (block-of s inFunction m (f .body .statements) hb)))
@@ -185,6 +188,12 @@ module _ (s : List ℕ) where
       let e : length (numbersIn s xs (k .fields)) ≡ length (numbersIn s ys (k .fields)) = length-numbers xs (k .fields) ∙ sym (length-numbers ys (k .fields)) in
       let r = clause-lengths ps xs qs ys ks in
       (λ i. leb (e i) maxFields && r i)
+
+  -- nor does a party's clause hang on the fields
+  pub has-same : (ps xs ys : List Word) (ks : List syntax.Clause) (p : ℕ) → hasClause (clausesIn s ps xs ks) p ≡ hasClause (clausesIn s ps ys ks) p
+  unfolding hasClause clausesIn
+  has-same ps xs ys [] p = refl
+  has-same ps xs ys (k ∷ ks) p = ap (λ (b : Bool). eqb (numberOf (word s (k .party)) ps) p || b) (has-same ps xs ys ks p)
 
   pub clause-fields-plain : (xs : List Span) → every plain (ofEach (λ x. uses (kind.field ∷ []) x ∷ []) xs) ≡ true
   unfolding ofEach every

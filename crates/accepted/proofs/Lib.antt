@@ -4,6 +4,7 @@ pub mod Counts
 pub mod TokenBytes
 pub mod Sorted
 pub mod CodeItems
+pub mod Late
 pub mod CodeInScope
 pub mod FunctionsFit
 pub mod ClauseRoom

@@ -53,7 +53,7 @@ pub record Placed (w : List ℕ) (i : ℕ) : Type 0 where
   pub many : clauseWord w i 2 ≤ 32
   pub field : (j : ℕ) → j < clauseWord w i 2 → clauseWord w i (3 + j) < wordAt w 2
   pub fields : wordAt w 2 ≤ 32
-  pub long : length w ≡ 20819
+  pub long : length w ≡ 24659
 
 pub placed : (w : List ℕ) → passes w ≡ true → (i : ℕ) → i < wordAt w 5 → Placed w i
 unfolding clauseOk

@@ -3,7 +3,18 @@
 use contract::Contract;
 use libc::STDOUT_FILENO;
 use reading::Answer;
+use results::Report;
 use state::State;
+use tokens::Digits;
+
+// The bytes of a session, of a file's name and of the first argument; the result lines that are told at once.
+const SESSION: usize = 262144;
+
+const NAME: usize = 1024;
+
+const WORD: usize = 8;
+
+const LINES: usize = 1024;
 
 // The most parts in which a session is played.
 const PARTS: u64 = 9223372036854775808;
@@ -66,8 +77,8 @@ fn play_once(
         if p.many == 0 {
             return next;
         }
-        if p.many <= 1024 {
-            next = mix_all(next, numbers, 4 * p.many);
+        if p.many <= LINES {
+            next = mix_all(next, numbers, Report::WORDS * p.many);
         }
         state = p.state;
         at = desk_lines::past(at, p.used, input.len());
@@ -77,8 +88,8 @@ fn play_once(
 
 // The checksum of what so many sessions tell.
 fn play_often(table: &[u64], input: &[u8], times: u64) -> u64 {
-    let mut numbers = [0u64; 4096];
-    let mut integers = [0i64; 1024];
+    let mut numbers = [0u64; LINES * Report::WORDS];
+    let mut integers = [0i64; LINES];
     let mut sum: u64 = 0;
     let mut left = times;
     while 0 < left {
@@ -90,7 +101,7 @@ fn play_often(table: &[u64], input: &[u8], times: u64) -> u64 {
 
 // The bytes of the file that argument i names.
 fn load(i: usize, bytes: &mut [u8]) -> usize {
-    let mut name = [0u8; 1024];
+    let mut name = [0u8; NAME];
     let n = os::arg(i, &mut name);
     let file = os::open_read(tokens::between(&name, 0, n));
     let size = io::read_full(file, bytes);
@@ -100,7 +111,7 @@ fn load(i: usize, bytes: &mut [u8]) -> usize {
 
 // The number that argument i is.
 fn number(i: usize) -> u64 {
-    let mut digits = [0u8; 20];
+    let mut digits = [0u8; Digits::MOST];
     let n = os::arg(i, &mut digits);
     tokens::value_of(tokens::between(&digits, 0, n), 0)
 }
@@ -108,19 +119,19 @@ fn number(i: usize) -> u64 {
 // Reads the text, so many times; then plays the session, so many times.
 fn work(reads: u64, plays: u64) -> u64 {
     let mut table = [0u64; Contract::TABLE];
-    let mut text = [0u8; 16385];
+    let mut text = [0u8; Answer::TEXT + 1];
     let n = load(2, &mut text);
     let sum = read_often(tokens::between(&text, 0, n), &mut table, reads);
     if plays == 0 {
         return sum;
     }
-    let mut session = [0u8; 262144];
+    let mut session = [0u8; SESSION];
     let size = load(3, &mut session);
     play_often(&table, tokens::between(&session, 0, size), plays)
 }
 
 fn main() {
-    let mut word = [0u8; 8];
+    let mut word = [0u8; WORD];
     os::arg(1, &mut word);
     let sum = if word[0] == b'r' {
         work(number(3), 0)

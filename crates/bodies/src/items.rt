@@ -11,6 +11,7 @@ ghost use Rattle.reading_laws.specs.Walk.{AgreesWith, draft};
 use crate::blocks;
 use contract::Contract;
 use contract::Node;
+use entries::Notes;
 
 // => @Q' after a handler: the event's node and row.
 fn event_end(
@@ -76,7 +77,7 @@ fn event(
         table,
         notes,
         cursors::lex(text, cursors::end_of(q)),
-        cursors::LEVELS,
+        Contract::LEVELS,
         true,
     );
     if cursors::stops(r) {
@@ -90,9 +91,9 @@ fn event(
 fn one_more(notes: &mut [u64])
     ensures { λ _. ⌜ now (notes .exit) ≡ walk.oneMore [] (now (notes .entry)) ⌝ }
 {
-    let n = contract::word(notes, entries::HERE);
+    let n = contract::word(notes, Notes::HERE);
     if n < Contract::NODES as u64 {
-        entries::store(notes, entries::HERE, n + 1);
+        entries::store(notes, Notes::HERE, n + 1);
     }
 }
 
@@ -101,7 +102,7 @@ fn grow(notes: &mut [u64], from: usize)
     ensures { λ _. ⌜ now (notes .exit) ≡ set (now (notes .entry)) 604 (note (now (notes .entry)) 14 - from) ⌝ }
 {
     let many = cursors::nodes_since(notes, from);
-    entries::store(notes, entries::BODY, many as u64);
+    entries::store(notes, Notes::BODY, many as u64);
 }
 
 // A statement or an event, after its expression.
@@ -126,7 +127,7 @@ fn body_rest(
         one_more(notes);
         return d;
     }
-    if contract::word(notes, entries::HERE) != 0 {
+    if contract::word(notes, Notes::HERE) != 0 {
         return cursors::unfit(text, c);
     }
     let r = blocks::action(text, table, notes, first, from, c, false);
@@ -143,10 +144,10 @@ fn body_conditional(text: &[u8], table: &mut [u64], notes: &mut [u64], c: u64, f
     requires { ⌜ (length (now text) ≤ 16384) × (isStop c ≡ false) ⌝ }
     ensures { λ r. ⌜ AgreesWith (walk.bodyConditional (now (text .entry)) from (cursorIn (now (text .entry)) c) (draft (now (table .entry)) (now (notes .entry)))) (stepIn (now (text .entry)) r) (now (table .exit)) (now (notes .exit)) ⌝ }
 {
-    if contract::word(notes, entries::HERE) != 0 {
+    if contract::word(notes, Notes::HERE) != 0 {
         return cursors::unfit(text, c);
     }
-    let r = blocks::conditional(text, table, notes, c, cursors::LEVELS, from, false);
+    let r = blocks::conditional(text, table, notes, c, Contract::LEVELS, from, false);
     if cursors::stops(r) {
         return r;
     }
@@ -165,7 +166,7 @@ fn body_item(text: &[u8], table: &mut [u64], notes: &mut [u64], c: u64, from: us
     }
     let before = cursors::nodes(notes);
     entries::count(notes, entries::NODE, cursors::start_of(c));
-    let r = expressions::expression(text, table, notes, c, cursors::LEVELS, false);
+    let r = expressions::expression(text, table, notes, c, Contract::LEVELS, false);
     if cursors::stops(r) {
         return r;
     }
@@ -207,8 +208,8 @@ pub(crate) fn body(text: &[u8], table: &mut [u64], notes: &mut [u64], c: u64) ->
     }
     let d = a;
     entries::store(notes, entries::STATEMENT, 0);
-    entries::store(notes, entries::BODY, 0);
-    entries::store(notes, entries::HERE, 0);
+    entries::store(notes, Notes::BODY, 0);
+    entries::store(notes, Notes::HERE, 0);
     let r = body_items(text, table, notes, d, from);
     if cursors::stops(r) {
         return r;

@@ -11,8 +11,8 @@ use Rattle.tokens.specs.Classes.{isLetter, isNameByte, isStringByte}
 use Rattle.contract.specs.Limits.{maxParties, maxAssets, maxFields, maxStates, maxStrings, maxClauses, maxFunctions, maxEvents, maxNodes, maxValues, maxParameters, maxStatements, maxName, maxString}
 use Rattle.contract.specs.Tree.{Word, Event, Function, Clause, Contract}
 use Rattle.contract.specs.Sizes.{statements, functionSize}
-use Rattle.contract.specs.Fits.{total, isName, isString, expressionIn, blockIn, preconditionIn, scopeOf, eventIn, functionIn, clauseIn, wordsIn, fits}
-use Rattle.laws.specs.Lists.{every}
+use Rattle.contract.specs.Fits.{total, isName, isString, expressionIn, blockIn, preconditionIn, scopeOf, scopeIn, eventIn, functionIn, clauseIn, wordsIn, hasClause, fits}
+use Rattle.laws.specs.Lists.{every, allBelow}
 use Rattle.laws.proofs.Truths.{both-left, both-right, link}
 
 -- ---- words
@@ -27,6 +27,15 @@ pub string-length : (s : Word) → isString s ≡ true → length s ≤ maxStrin
 unfolding isString
 string-length s e = leb-true (length s) maxString (both-right (every isStringByte s) (leb (length s) maxString) e)
 
+-- words of one kind
+words-right : (p : Word → Bool) (n : ℕ) (l : List Word) → wordsIn p n l ≡ true → every p l ≡ true
+unfolding wordsIn
+words-right p n l e = both-left (every p l) (leb (length l) n) e
+
+words-few : (p : Word → Bool) (n : ℕ) (l : List Word) → wordsIn p n l ≡ true → length l ≤ n
+unfolding wordsIn
+words-few p n l e = leb-true _ _ (both-right (every p l) (leb (length l) n) e)
+
 -- ---- the parts of a contract
 
 pub record FitsClause (c : Contract) (k : Clause) : Type 0 where
@@ -35,7 +44,7 @@ pub record FitsClause (c : Contract) (k : Clause) : Type 0 where
   pub fields-few : length (k .fields) ≤ maxFields
 
 pub record FitsEvent (c : Contract) (f : Function) (e : Event) : Type 0 where
-  pub guard : expressionIn (scopeOf c (f .values) (f .parameters)) (e .guard) ≡ true
+  pub guard : expressionIn (scopeIn c f) (e .guard) ≡ true
   pub state : e .state < length (c .states)
   pub handler : blockIn (scopeOf c 0 0) (e .handler) ≡ true
   pub handler-few : statements (e .handler) ≤ maxStatements
@@ -45,10 +54,12 @@ pub record FitsFunction (c : Contract) (f : Function) : Type 0 where
   pub state : f .state < length (c .states)
   pub party : f .party < length (c .parties)
   pub name : isName (f .name) ≡ true
-  pub values : f .values ≤ maxValues
-  pub parameters : f .parameters ≤ maxParameters
-  pub precondition : preconditionIn (scopeOf c (f .values) (f .parameters)) (f .precondition) ≡ true
-  pub body : blockIn (scopeOf c (f .values) (f .parameters)) (f .body) ≡ true
+  pub values : every isName (f .values) ≡ true
+  pub values-few : length (f .values) ≤ maxValues
+  pub parameters : every isName (f .parameters) ≡ true
+  pub parameters-few : length (f .parameters) ≤ maxParameters
+  pub precondition : preconditionIn (scopeIn c f) (f .precondition) ≡ true
+  pub body : blockIn (scopeIn c f) (f .body) ≡ true
   pub body-few : statements (f .body) ≤ maxStatements
   pub events : every (eventIn c f) (f .events) ≡ true
   pub last : f .last < length (c .states)
@@ -67,6 +78,7 @@ pub record FitsContract (c : Contract) : Type 0 where
   pub strings-few : length (c .strings) ≤ maxStrings
   pub clauses : every (clauseIn c) (c .clauses) ≡ true
   pub clauses-few : length (c .clauses) ≤ maxClauses
+  pub heard : allBelow (length (c .parties)) (hasClause (c .clauses)) ≡ true
   pub initial : c .initial < length (c .states)
   pub functions : every (functionIn c) (c .functions) ≡ true
   pub functions-few : length (c .functions) ≤ maxFunctions
@@ -94,7 +106,7 @@ unfolding eventIn
 fits-event c f e h =
     let t =
     link
-    (expressionIn (scopeOf c (f .values) (f .parameters)) (e .guard)
+    (expressionIn (scopeIn c f) (e .guard)
     ∷ ltb (e .state) (length (c .states))
     ∷ blockIn (scopeOf c 0 0) (e .handler)
     ∷ leb (statements (e .handler)) maxStatements
@@ -117,10 +129,10 @@ fits-function c f h =
     (ltb (f .state) (length (c .states))
     ∷ ltb (f .party) (length (c .parties))
     ∷ isName (f .name)
-    ∷ leb (f .values) maxValues
-    ∷ leb (f .parameters) maxParameters
-    ∷ preconditionIn (scopeOf c (f .values) (f .parameters)) (f .precondition)
-    ∷ blockIn (scopeOf c (f .values) (f .parameters)) (f .body)
+    ∷ wordsIn isName maxValues (f .values)
+    ∷ wordsIn isName maxParameters (f .parameters)
+    ∷ preconditionIn (scopeIn c f) (f .precondition)
+    ∷ blockIn (scopeIn c f) (f .body)
     ∷ leb (statements (f .body)) maxStatements
     ∷ every (eventIn c f) (f .events)
     ∷ ltb (f .last) (length (c .states))
@@ -130,22 +142,16 @@ fits-function c f h =
       state = ltb-true _ _ (t 0);
       party = ltb-true _ _ (t 1);
       name = t 2;
-      values = leb-true _ _ (t 3);
-      parameters = leb-true _ _ (t 4);
+      values = words-right _ _ _ (t 3);
+      values-few = words-few _ _ _ (t 3);
+      parameters = words-right _ _ _ (t 4);
+      parameters-few = words-few _ _ _ (t 4);
       precondition = t 5;
       body = t 6;
       body-few = leb-true _ _ (t 7);
       events = t 8;
       last = ltb-true _ _ (t 9);
     }
-
-words-right : (p : Word → Bool) (n : ℕ) (l : List Word) → wordsIn p n l ≡ true → every p l ≡ true
-unfolding wordsIn
-words-right p n l e = both-left (every p l) (leb (length l) n) e
-
-words-few : (p : Word → Bool) (n : ℕ) (l : List Word) → wordsIn p n l ≡ true → length l ≤ n
-unfolding wordsIn
-words-few p n l e = leb-true _ _ (both-right (every p l) (leb (length l) n) e)
 
 pub fits-contract : (c : Contract) → fits c ≡ true → FitsContract c
 unfolding fits
@@ -160,6 +166,7 @@ fits-contract c h =
     ∷ wordsIn isString maxStrings (c .strings)
     ∷ every (clauseIn c) (c .clauses)
     ∷ leb (length (c .clauses)) maxClauses
+    ∷ allBelow (length (c .parties)) (hasClause (c .clauses))
     ∷ ltb (c .initial) (length (c .states))
     ∷ every (functionIn c) (c .functions)
     ∷ leb (length (c .functions)) maxFunctions
@@ -181,9 +188,10 @@ fits-contract c h =
       strings-few = words-few _ _ _ (t 5);
       clauses = t 6;
       clauses-few = leb-true _ _ (t 7);
-      initial = ltb-true _ _ (t 8);
-      functions = t 9;
-      functions-few = leb-true _ _ (t 10);
-      events-few = leb-true _ _ (t 11);
-      nodes-few = leb-true _ _ (t 12);
+      heard = t 8;
+      initial = ltb-true _ _ (t 9);
+      functions = t 10;
+      functions-few = leb-true _ _ (t 11);
+      events-few = leb-true _ _ (t 12);
+      nodes-few = leb-true _ _ (t 13);
     }

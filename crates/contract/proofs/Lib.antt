@@ -3,3 +3,4 @@ pub mod Fitting
 -- What the code's proofs use, here and in other crates.
 pub mod Rows
 pub mod Tests
+pub mod Zeros

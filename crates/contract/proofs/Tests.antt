@@ -1,14 +1,17 @@
 -- Tests in a row, as the code makes them. Assumes nothing.
 use mathlib.Core.Path.{_≡_, refl, sym, ap, subst, _∙_}
 use mathlib.Core.Bool.{Bool, true, false, _&&_, _||_}
-use Prim.Native.Nat.{ℕ, suc, _<_, _≤_}
+use mathlib.Core.List.{List}
+use Prim.Native.Nat.{ℕ, zero, suc, _+_, _<_, _≤_}
 use native.Mathlib.Omega.{arith}
+use native.Mathlib.Numerals.{add-one}
 use lib.Dec.{eqb, leb}
 use borrow.Author.Tests.{leb-true, le-leb, eqb-true, eqb-false, eq-eqb, ne-eqb}
 use Rattle.laws.specs.Choice.{pick}
 use Rattle.laws.proofs.Choice.{true-false}
-use Rattle.contract.specs.Check.{ranges}
-use Rattle.laws.proofs.Truths.{both-left, both-right, both-true}
+use Rattle.contract.specs.Check.{ranges, clauseBelow}
+use Rattle.contract.specs.Table.{clauseWord}
+use Rattle.laws.proofs.Truths.{both-left, both-right, both-true, first-true, second-true}
 use Rattle.laws.proofs.Members as members
 use Rattle.laws.specs.Lists.{allBelow}
 
@@ -78,3 +81,28 @@ unfolding pick
 pick-either true b x y e = refl
 pick-either false true x y e = refl
 pick-either false false x y e = true-false (sym e)
+
+-- ---- a party's clause
+
+module _ (w : List ℕ) (p : ℕ) where
+  pub below-none : clauseBelow w 0 p ≡ false
+  unfolding clauseBelow
+  below-none = refl
+
+  -- clause i is not of party p
+  pub below-more : (i : ℕ) → clauseBelow w i p ≡ false → eqb (clauseWord w i 0) p ≡ false → clauseBelow w (i + 1) p ≡ false
+  unfolding clauseBelow
+  below-more i a e = rw (add-one i, a) e
+
+  pub below-end : (i n : ℕ) → i ≤ n → n ≤ i → clauseBelow w i p ≡ false → false ≡ clauseBelow w n p
+  below-end i n h l e = let q : i ≡ n = omega arith in sym (subst (λ (k : ℕ). clauseBelow w k p ≡ false) q e)
+
+  -- clause i is
+  pub below-of : (n i : ℕ) → i < n → eqb (clauseWord w i 0) p ≡ true → clauseBelow w n p ≡ true
+  unfolding clauseBelow
+  below-of zero i h e = absurd (omega arith)
+  below-of (suc n) i h e = go (eqb i n) refl (below-of n i)
+    where
+      go : (b : Bool) → eqb i n ≡ b → (i < n → eqb (clauseWord w i 0) p ≡ true → clauseBelow w n p ≡ true) → (clauseBelow w n p || eqb (clauseWord w n 0) p) ≡ true
+      go true q f = second-true (clauseBelow w n p) (ap (λ (k : ℕ). eqb (clauseWord w k 0) p) (sym (eqb-true i n q)) ∙ e)
+      go false q f = let d = eqb-false i n q in first-true _ (f (omega arith) e)

@@ -8,9 +8,10 @@ use lib.Dec.{eqb, leb, ltb}
 use Rattle.laws.specs.Choice.{pick}
 use Rattle.tokens.specs.Classes.{isLetter, isNameByte, isStringByte}
 use Rattle.contract.specs.Limits.{top, maxParties, maxAssets, maxFields, maxStates, maxStrings, maxClauses, maxFunctions, maxEvents, maxNodes, maxValues, maxParameters, maxStatements, maxName, maxString}
-use Rattle.contract.specs.Fits.{Scope}
-use Rattle.contract.specs.Table.{wordAt, kindAt, argumentAt, sizeAt, functionWord, eventWord, clauseWord, nameWords, stringWords, functionWords, nameStart, partiesStart, assetsStart, fieldsStart, statesStart, stringsStart, functionsStart, tableLength, constantKind, stringKind}
+use Rattle.contract.specs.Fits.{isName, Scope}
+use Rattle.contract.specs.Table.{wordAt, kindAt, argumentAt, sizeAt, functionWord, eventWord, clauseWord, nameWords, stringWords, functionWords, packedWords, valuesOf, parametersOf, nameStart, partiesStart, assetsStart, fieldsStart, statesStart, stringsStart, functionsStart, tableLength, constantKind, stringKind}
 use Rattle.contract.specs.Table.{nowKind, fieldKind, assetKind, valueKind, parameterKind, plusKind, overKind, trueKind, falseKind, equalKind, atLeastKind, notKind, andKind, orKind, partyKind, valueMoveKind, assetMoveKind, wholeMoveKind, conditionalKind, eventKind}
+use Rattle.contract.specs.Decode.{packedWord}
 use Rattle.laws.specs.Lists.{allBelow}
 
 -- lo ≤ n ≤ hi
@@ -29,6 +30,10 @@ nameOk w o =
 -- a string of up to 64 bytes, its length at o
 unfoldable pub stringOk : List ℕ → ℕ → Bool
 stringOk w o = leb (wordAt w o) maxString && allBelow (wordAt w o) (λ j. isStringByte (wordAt w (o + 1 + j)))
+
+-- a name in the packed row at o
+unfoldable pub packedOk : List ℕ → ℕ → Bool
+packedOk w o = leb (wordAt w o) maxName && isName (packedWord w o)
 
 -- ---- nodes
 
@@ -78,7 +83,8 @@ abbrev pub wholeFrom : List ℕ → ℕ → Start → Bool
 wholeFrom w k (at p) = eqb (sizeAt w k + p) (k + 1)
 wholeFrom w k nowhere = false
 
--- node k, a statement whose own parts start at p, counts them, itself and the statements before it in its block
+-- node k, a statement whose own parts start at p, counts them, itself and the statements before it in its block, or starts anew: then
+-- the block's end, which counts all its nodes, tells
 abbrev pub statementFrom : List ℕ → ℕ → ℕ → Start → Bool
 statementFrom w from k (at p) =
     eqb (sizeAt w k + p) (k + 1)
@@ -190,6 +196,7 @@ unfoldable pub firstEvent : List ℕ → ℕ → ℕ
 firstEvent w zero = 0
 firstEvent w (suc i) = functionWord w i 8 + functionWord w i 9
 
+-- the first three lines follow from the others, and keep sums small
 unfoldable pub functionNodesOk : List ℕ → Scope → ℕ → Bool
 functionNodesOk w c i =
     leb (functionWord w i 6) maxNodes
@@ -212,6 +219,12 @@ functionOk w i =
     && (eqb (functionWord w i 8) (firstEvent w i)
     && functionNodesOk w (scopeAt w (functionWord w i 3) (functionWord w i 4)) i)))))))
 
+-- the names of function i's parameters
+unfoldable pub parametersOk : List ℕ → ℕ → Bool
+parametersOk w i =
+    allBelow (functionWord w i 3) (λ j. packedOk w (valuesOf i + j * packedWords))
+    && allBelow (functionWord w i 4) (λ j. packedOk w (parametersOf i + j * packedWords))
+
 -- ---- the whole
 
 unfoldable pub clauseOk : List ℕ → ℕ → Bool
@@ -220,6 +233,11 @@ clauseOk w i =
     && (leb (clauseWord w i 1) 1
     && (leb (clauseWord w i 2) maxFields
     && allBelow (clauseWord w i 2) (λ j. ltb (clauseWord w i (3 + j)) (wordAt w 2))))
+
+-- some of the first n clauses is of party p
+unfoldable pub clauseBelow : List ℕ → ℕ → ℕ → Bool
+clauseBelow w zero p = false
+clauseBelow w (suc n) p = clauseBelow w n p || eqb (clauseWord w n 0) p
 
 unfoldable pub headOk : List ℕ → Bool
 headOk w =
@@ -249,6 +267,8 @@ passes w =
     && (headOk w
     && (namesOk w
     && (allBelow (wordAt w 5) (clauseOk w)
+    && (allBelow (wordAt w 0) (clauseBelow w (wordAt w 5))
     && (allBelow (wordAt w 6) (functionOk w)
     && (eqb (firstNode w (wordAt w 6)) (wordAt w 8)
-    && eqb (firstEvent w (wordAt w 6)) (wordAt w 7))))))
+    && (eqb (firstEvent w (wordAt w 6)) (wordAt w 7)
+    && allBelow (wordAt w 6) (parametersOk w))))))))

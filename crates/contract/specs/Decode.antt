@@ -1,6 +1,6 @@
 -- The contract that a table holds, for any words at all. A node's parts have lower numbers than the node; the right part of node k ends
 -- at k - 1, the left part before it. A malformed table gives some contract, often with a broken part; such a table does not pass.
-use Prim.Native.Nat.{ℕ, zero, suc, _+_, _-_, _*_}
+use Prim.Native.Nat.{ℕ, zero, suc, _+_, _-_, _*_, _/_, _%_, _^_}
 use mathlib.Core.Bool.{Bool, true, false}
 use mathlib.Core.List.{List, [], _∷_}
 use lib.ListN.{take, drop}
@@ -10,10 +10,10 @@ use Rattle.numbers.specs.declared.Operator.{Operator}
 use Rattle.numbers.specs.declared.Operator.the-variants.{Plus, Minus, Times, Over}
 use Rattle.numbers.specs.declared.Comparison.{Comparison}
 use Rattle.numbers.specs.declared.Comparison.the-variants.{Equal, Unequal, Less, AtMost, Greater, AtLeast}
-use Rattle.contract.specs.Limits.{top, maxStrings}
+use Rattle.contract.specs.Limits.{top, maxStrings, maxName}
 use Rattle.contract.specs.Tree.{Word, Holder, asset, assetParameter, Expression, constant, string, clock, field, valueParameter, held, apply, brokenExpression, Condition, truth, compare, negation, both, either, brokenCondition, Action}
 use Rattle.contract.specs.Tree.{assign, send, move, pay, moveAll, payAll, Block, none, perform, conditional, brokenBlock, Precondition, omitted, given, Event, Function, set, ok, Clause, Contract}
-use Rattle.contract.specs.Table.{wordAt, kindAt, argumentAt, sizeAt, functionWord, eventWord, clauseWord, nameWords, stringWords, clauseWords, functionWords, nameStart, partiesStart, assetsStart, fieldsStart, statesStart, stringsStart, clausesStart, functionsStart, constantKind, stringKind, nowKind, fieldKind}
+use Rattle.contract.specs.Table.{wordAt, kindAt, argumentAt, sizeAt, functionWord, eventWord, clauseWord, nameWords, stringWords, clauseWords, functionWords, packedWords, valuesOf, parametersOf, nameStart, partiesStart, assetsStart, fieldsStart, statesStart, stringsStart, clausesStart, functionsStart, constantKind, stringKind, nowKind, fieldKind}
 use Rattle.contract.specs.Table.{assetKind, valueKind, parameterKind, plusKind, minusKind, timesKind, overKind, trueKind, falseKind, equalKind, unequalKind, lessKind, atMostKind, greaterKind, atLeastKind, notKind, andKind, orKind, partyKind, valueMoveKind, assetMoveKind, wholeMoveKind, conditionalKind}
 
 -- f i, f (i + 1), .. n of them
@@ -36,7 +36,7 @@ comparisonOf kind =
 abbrev pub holderOf : ℕ → ℕ → Holder
 holderOf kind i = pick (eqb kind assetKind) (asset i) (assetParameter i)
 
--- an expression of no parts
+-- an expression of no parts; a constant over top, which no 64-bit integer holds, and the number of a string past the last are broken
 unfoldable pub leafOf : ℕ → ℕ → Expression
 leafOf kind n =
     pick (eqb kind constantKind) (pick (leb n top) (constant n) brokenExpression)
@@ -55,7 +55,7 @@ countsTwo w k = eqb (sizeAt w k) (suc (sizeAt w (k - 1 - sizeAt w (k - 1)) + siz
 unfoldable pub countsOne : List ℕ → ℕ → Bool
 countsOne w k = eqb (sizeAt w k) (suc (sizeAt w (k - 1)))
 
--- the expression at node k, with at most so many levels; node 0 counts no parts
+-- the expression at node k, in at most so many steps down; node 0 counts no parts
 unfoldable pub expressionWithin : ℕ → List ℕ → ℕ → Expression
 expressionWithin zero w k = brokenExpression
 expressionWithin (suc fuel) w k =
@@ -66,7 +66,7 @@ expressionWithin (suc fuel) w k =
     brokenExpression)
     brokenExpression)
 
--- parts have lower numbers than the whole, so that many levels are enough
+-- parts have lower numbers than the whole, so that many steps are enough
 abbrev pub expressionAt : List ℕ → ℕ → Expression
 expressionAt w k = expressionWithin (suc k) w k
 
@@ -115,7 +115,7 @@ wholeMoveAt w k =
     (payAll (holderAt w (k - 2)) (argumentAt w (k - 1)))
     (moveAll (holderAt w (k - 2)) (holderAt w (k - 1)))
 
--- the block that stands in the nodes from `from` up to, not including, `end`, with at most so many levels; k is its last node; one whose
+-- the block that stands in the nodes from `from` up to, not including, `end`, in at most so many steps down; k is its last node; one whose
 -- first statement starts before `from` is broken
 unfoldable pub blockWithin : ℕ → List ℕ → ℕ → ℕ → Block
 blockWithin zero w from end = brokenBlock
@@ -142,6 +142,14 @@ blockBetween w from end = blockWithin (suc end) w from end
 abbrev pub wordOf : List ℕ → ℕ → Word
 wordOf w o = take (wordAt w o) (drop (o + 1) w)
 
+-- byte j of the packed row at o
+abbrev pub packedByte : List ℕ → ℕ → ℕ → ℕ
+packedByte w o j = wordAt w (o + 1 + j / 8) / 256 ^ (j % 8) % 256
+
+-- the word of the packed row at o: as many of its 32 bytes as it says
+unfoldable pub packedWord : List ℕ → ℕ → Word
+packedWord w o = take (wordAt w o) (eachFrom 0 maxName (packedByte w o))
+
 unfoldable pub eventAt : List ℕ → ℕ → Event
 eventAt w i =
     let k = eventWord w i 2 in
@@ -164,8 +172,8 @@ functionAt w i =
       state = functionWord w i 0;
       party = functionWord w i 1;
       name = wordOf w (functionsStart + i * functionWords + 10);
-      values = functionWord w i 3;
-      parameters = functionWord w i 4;
+      values = eachFrom 0 (functionWord w i 3) (λ j. packedWord w (valuesOf i + j * packedWords));
+      parameters = eachFrom 0 (functionWord w i 4) (λ j. packedWord w (parametersOf i + j * packedWords));
       precondition = preconditionAt w first pre;
       body = blockBetween w (first + pre) (first + pre + functionWord w i 7);
       events = eachFrom (functionWord w i 8) (functionWord w i 9) (eventAt w);

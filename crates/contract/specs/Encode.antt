@@ -3,18 +3,18 @@
 use Prim.Native.Nat.{ℕ, zero, suc, _+_, _-_, _*_}
 use mathlib.Core.Bool.{Bool, true, false}
 use mathlib.Core.List.{List, [], _∷_, _++_}
-use lib.ListN.{length}
+use lib.ListN.{length, take, drop}
 use Rattle.numbers.specs.declared.Operator.{Operator}
 use Rattle.numbers.specs.declared.Operator.the-variants.{Plus, Minus, Times, Over}
 use Rattle.numbers.specs.declared.Comparison.{Comparison}
 use Rattle.numbers.specs.declared.Comparison.the-variants.{Equal, Unequal, Less, AtMost, Greater, AtLeast}
-use Rattle.contract.specs.Limits.{maxParties, maxAssets, maxFields, maxStates, maxStrings, maxClauses, maxFunctions, maxEvents, maxNodes, maxName, maxString}
+use Rattle.contract.specs.Limits.{maxParties, maxAssets, maxFields, maxStates, maxStrings, maxClauses, maxFunctions, maxEvents, maxNodes, maxValues, maxParameters, maxName, maxString}
 use Rattle.contract.specs.Tree.{Word, Holder, asset, assetParameter, Expression, constant, string, clock, field, valueParameter, held, apply, brokenExpression, Condition, truth, compare, negation, both, either, brokenCondition, Action}
 use Rattle.contract.specs.Tree.{assign, send, move, pay, moveAll, payAll, Block, none, perform, conditional, brokenBlock, Precondition, omitted, given, Event, Function, Verb, set, ok, Clause, Contract}
 use Rattle.contract.specs.Sizes.{expressionSize, conditionSize, blockSize, preconditionSize, eventSize, functionSize}
 use Rattle.contract.specs.Fits.{total}
 use Rattle.contract.specs.Table.{constantKind, stringKind, nowKind, fieldKind, assetKind, valueKind, parameterKind, plusKind, minusKind, timesKind, overKind, trueKind, falseKind, equalKind, unequalKind, lessKind, atMostKind}
-use Rattle.contract.specs.Table.{greaterKind, atLeastKind, notKind, andKind, orKind, partyKind, valueMoveKind, assetMoveKind, wholeMoveKind, conditionalKind, eventKind, nameWords, stringWords, clauseWords, functionWords, eventWords, nodeWords}
+use Rattle.contract.specs.Table.{greaterKind, atLeastKind, notKind, andKind, orKind, partyKind, valueMoveKind, assetMoveKind, wholeMoveKind, conditionalKind, eventKind, nameWords, stringWords, clauseWords, functionWords, eventWords, nodeWords, packedWords, parameterWords}
 
 unfoldable pub zeros : ℕ → List ℕ
 zeros zero = []
@@ -119,6 +119,25 @@ nameRow n = length n ∷ padded maxName n
 unfoldable pub stringRow : Word → List ℕ
 stringRow s = length s ∷ padded maxString s
 
+-- bytes as one word, the first lowest
+unfoldable pub packed : List ℕ → ℕ
+packed [] = 0
+packed (x ∷ xs) = x + packed xs * 256
+
+-- n words of eight bytes each
+unfoldable pub packs : ℕ → List ℕ → List ℕ
+packs zero l = []
+packs (suc n) l = packed (take 8 l) ∷ packs n (drop 8 l)
+
+unfoldable pub packedRow : Word → List ℕ
+packedRow n = length n ∷ packs 4 n
+
+-- a function's parameters
+unfoldable pub parameterRows : Function → List ℕ
+parameterRows f =
+    padded (maxValues * packedWords) (joined packedRow (f .values))
+    ++ padded (maxParameters * packedWords) (joined packedRow (f .parameters))
+
 abbrev pub verbWord : Verb → ℕ
 verbWord set = 0
 verbWord ok = 1
@@ -129,7 +148,7 @@ clauseRow c = c .party ∷ verbWord (c .verb) ∷ length (c .fields) ∷ padded 
 -- a function whose first node and first event have these numbers
 unfoldable pub functionRow : ℕ → ℕ → Function → List ℕ
 functionRow first event f =
-    f .state ∷ f .party ∷ f .last ∷ f .values ∷ f .parameters ∷ first
+    f .state ∷ f .party ∷ f .last ∷ length (f .values) ∷ length (f .parameters) ∷ first
     ∷ preconditionSize (f .precondition) ∷ blockSize (f .body) ∷ event ∷ length (f .events) ∷ nameRow (f .name)
 
 unfoldable pub functionRows : ℕ → ℕ → List Function → List ℕ
@@ -166,4 +185,5 @@ encode c =
     ++ (padded (maxClauses * clauseWords) (joined clauseRow (c .clauses))
     ++ (padded (maxFunctions * functionWords) (functionRows 0 0 (c .functions))
     ++ (padded (maxEvents * eventWords) (allEventRows 0 (c .functions))
-    ++ padded (maxNodes * nodeWords) (joined functionNodes (c .functions)))))))))))
+    ++ (padded (maxNodes * nodeWords) (joined functionNodes (c .functions))
+    ++ padded (maxFunctions * parameterWords) (joined parameterRows (c .functions))))))))))))

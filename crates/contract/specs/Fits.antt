@@ -1,15 +1,16 @@
--- Which contracts a table can hold: within document 01's limits, each number naming something of its kind.
+-- Which contracts a table that passes holds: within document 01's limits, each number naming something of its kind, each party with a
+-- clause.
 use Prim.Native.Nat.{ℕ, _+_}
-use mathlib.Core.Bool.{Bool, true, false, _&&_}
+use mathlib.Core.Bool.{Bool, true, false, _&&_, _||_}
 use mathlib.Core.List.{List, [], _∷_}
 use lib.ListN.{length}
-use lib.Dec.{leb, ltb}
+use lib.Dec.{eqb, leb, ltb}
 use Rattle.tokens.specs.Classes.{isLetter, isNameByte, isStringByte}
 use Rattle.contract.specs.Limits.{top, maxParties, maxAssets, maxFields, maxStates, maxStrings, maxClauses, maxFunctions, maxEvents, maxNodes, maxValues, maxParameters, maxStatements, maxName, maxString}
 use Rattle.contract.specs.Tree.{Word, Holder, asset, assetParameter, Expression, constant, string, clock, field, valueParameter, held, apply, brokenExpression, Condition, truth, compare, negation, both, either, brokenCondition}
 use Rattle.contract.specs.Tree.{Action, assign, send, move, pay, moveAll, payAll, Block, none, perform, conditional, brokenBlock, Precondition, omitted, given, Event, Function, Clause, Contract}
 use Rattle.contract.specs.Sizes.{statements, functionSize}
-use Rattle.laws.specs.Lists.{every}
+use Rattle.laws.specs.Lists.{every, allBelow}
 
 -- the sum of a number of each member of a list
 unfoldable pub total : {A : Type 0} → (A → ℕ) → List A → ℕ
@@ -24,6 +25,10 @@ isName (x ∷ xs) = isLetter x && (every isNameByte xs && ltb (length xs) maxNam
 -- printable ASCII without the double quote, 64 bytes at most
 unfoldable pub isString : Word → Bool
 isString s = every isStringByte s && leb (length s) maxString
+
+-- some words of one kind, all of them right, and not too many
+unfoldable pub wordsIn : (Word → Bool) → ℕ → List Word → Bool
+wordsIn right most ws = every right ws && leb (length ws) most
 
 -- how many there are of each kind that an expression or a statement may name
 pub record Scope : Type 0 where
@@ -79,10 +84,14 @@ unfoldable pub scopeOf : Contract → ℕ → ℕ → Scope
 scopeOf c v p =
     record { parties = length (c .parties); assets = length (c .assets); fields = length (c .fields); strings = length (c .strings); values = v; parameters = p }
 
+-- and those of a function
+abbrev pub scopeIn : Contract → Function → Scope
+scopeIn c f = scopeOf c (length (f .values)) (length (f .parameters))
+
 -- a handler names no parameter
 unfoldable pub eventIn : Contract → Function → Event → Bool
 eventIn c f e =
-    expressionIn (scopeOf c (f .values) (f .parameters)) (e .guard)
+    expressionIn (scopeIn c f) (e .guard)
     && (ltb (e .state) (length (c .states))
     && (blockIn (scopeOf c 0 0) (e .handler)
     && (leb (statements (e .handler)) maxStatements
@@ -93,10 +102,10 @@ functionIn c f =
     ltb (f .state) (length (c .states))
     && (ltb (f .party) (length (c .parties))
     && (isName (f .name)
-    && (leb (f .values) maxValues
-    && (leb (f .parameters) maxParameters
-    && (preconditionIn (scopeOf c (f .values) (f .parameters)) (f .precondition)
-    && (blockIn (scopeOf c (f .values) (f .parameters)) (f .body)
+    && (wordsIn isName maxValues (f .values)
+    && (wordsIn isName maxParameters (f .parameters)
+    && (preconditionIn (scopeIn c f) (f .precondition)
+    && (blockIn (scopeIn c f) (f .body)
     && (leb (statements (f .body)) maxStatements
     && (every (eventIn c f) (f .events)
     && ltb (f .last) (length (c .states))))))))))
@@ -107,9 +116,10 @@ clauseIn c k =
     && (every (λ x. ltb x (length (c .fields))) (k .fields)
     && leb (length (k .fields)) maxFields)
 
--- some words of one kind, all of them right, and not too many
-unfoldable pub wordsIn : (Word → Bool) → ℕ → List Word → Bool
-wordsIn right most ws = every right ws && leb (length ws) most
+-- some clause is of party p
+unfoldable pub hasClause : List Clause → ℕ → Bool
+hasClause [] p = false
+hasClause (k ∷ ks) p = eqb (k .party) p || hasClause ks p
 
 unfoldable pub fits : Contract → Bool
 fits c =
@@ -121,8 +131,9 @@ fits c =
     && (wordsIn isString maxStrings (c .strings)
     && (every (clauseIn c) (c .clauses)
     && (leb (length (c .clauses)) maxClauses
+    && (allBelow (length (c .parties)) (hasClause (c .clauses))
     && (ltb (c .initial) (length (c .states))
     && (every (functionIn c) (c .functions)
     && (leb (length (c .functions)) maxFunctions
     && (leb (total (λ f. length (f .events)) (c .functions)) maxEvents
-    && leb (total functionSize (c .functions)) maxNodes)))))))))))
+    && leb (total functionSize (c .functions)) maxNodes))))))))))))

@@ -2,7 +2,7 @@
 use Prim.Native.Nat.{ℕ, _+_, _*_}
 use mathlib.Core.List.{List}
 use lib.ListN.{getD}
-use Rattle.contract.specs.Limits.{maxParties, maxAssets, maxFields, maxStates, maxStrings, maxClauses, maxFunctions, maxEvents, maxNodes, maxName, maxString}
+use Rattle.contract.specs.Limits.{maxParties, maxAssets, maxFields, maxStates, maxStrings, maxClauses, maxFunctions, maxEvents, maxNodes, maxValues, maxParameters, maxName, maxString}
 
 -- a word of a table, 0 past its end
 abbrev pub wordAt : List ℕ → ℕ → ℕ
@@ -15,6 +15,10 @@ nameWords = 1 + maxName
 abbrev pub stringWords : ℕ
 stringWords = 1 + maxString
 
+-- words of a packed row: a length, and the bytes, eight in a word with the first lowest
+abbrev pub packedWords : ℕ
+packedWords = 5
+
 -- party, verb, how many fields, the fields
 abbrev pub clauseWords : ℕ
 clauseWords = 3 + maxFields
@@ -23,6 +27,10 @@ clauseWords = 3 + maxFields
 -- event, events, the name
 abbrev pub functionWords : ℕ
 functionWords = 10 + nameWords
+
+-- the packed rows of a function's value parameters and asset parameters
+abbrev pub parameterWords : ℕ
+parameterWords = (maxValues + maxParameters) * packedWords
 
 -- state, last state, its node
 abbrev pub eventWords : ℕ
@@ -67,9 +75,19 @@ eventsStart = functionsStart + maxFunctions * functionWords
 abbrev pub nodesStart : ℕ
 nodesStart = eventsStart + maxEvents * eventWords
 
--- the length of a table: 20,819 words
+abbrev pub parametersStart : ℕ
+parametersStart = nodesStart + maxNodes * nodeWords
+
+-- the length of a table: 24,659 words
 abbrev pub tableLength : ℕ
-tableLength = nodesStart + maxNodes * nodeWords
+tableLength = parametersStart + maxFunctions * parameterWords
+
+-- where the rows of function i's value parameters start, and of its asset parameters
+abbrev pub valuesOf : ℕ → ℕ
+valuesOf i = parametersStart + i * parameterWords
+
+abbrev pub parametersOf : ℕ → ℕ
+parametersOf i = valuesOf i + maxValues * packedWords
 
 -- the words of node k
 abbrev pub kindAt : List ℕ → ℕ → ℕ

@@ -1,6 +1,7 @@
 -- A contract as reading gives it. Names stand for their bytes where they are declared; where they are used they are resolved to
--- the number of what they name. Parties, assets, fields, parameters, functions and events are numbered from 0 in text order,
--- states and strings as the text first names them.
+-- the number of what they name. Parties, assets, fields, functions and events are numbered from 0 in text order, value parameters and asset
+-- parameters each by themselves in their function, states and strings as the text first names them. Not kept: comments, spacing,
+-- parentheses that change nothing, leading zeros, and whether an empty list of parameters was written.
 use Prim.Native.Nat.{ℕ}
 use mathlib.Core.Bool.{Bool}
 use mathlib.Core.List.{List}
@@ -73,14 +74,14 @@ pub record Event : Type 0 where
   pub handler : Block
   pub last : ℕ
 
--- @Q A : f (..) [..] (B) { S W } => @Q'; parameters are told by their numbers alone
+-- @Q A : f (..) [..] (B) { S W } => @Q'
 pub record Function : Type 0 where
   pub state : ℕ
   pub party : ℕ
   pub name : Word
-  -- how many value parameters, and how many asset parameters
-  pub values : ℕ
-  pub parameters : ℕ
+  -- the names of its value parameters, and of its asset parameters
+  pub values : List Word
+  pub parameters : List Word
   pub precondition : Precondition
   pub body : Block
   pub events : List Event

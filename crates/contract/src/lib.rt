@@ -1,9 +1,11 @@
 // The table of a contract: its limits, its rows and nodes, and their readers.
 ghost use mathlib.Core.Path.{_≡_};
 ghost use Prim.Native.Nat.{_+_, _*_, _≤_, _<_};
-ghost use Rattle.contract.specs.Table.{wordAt, clauseWord};
+ghost use Rattle.contract.specs.Table.{wordAt, clauseWord, parametersStart};
+ghost use Rattle.contract.specs.Decode.{packedByte};
 ghost use Rattle.contract.specs.Rows.{headOf, functionRowOf, eventRowOf, clauseRowOf, nodeOf};
 ghost use Rattle.contract.specs.Private.{RowAt};
+use tokens::Token;
 
 // The limits of document 01 on a contract.
 pub struct Contract {}
@@ -19,7 +21,7 @@ impl Contract {
     // Distinct strings.
     pub const STRINGS: usize = 32;
     // Each party has at most one SET and one OK.
-    pub const CLAUSES: usize = 16;
+    pub const CLAUSES: usize = 2 * Contract::PARTIES;
 
     pub const FUNCTIONS: usize = 64;
 
@@ -27,11 +29,15 @@ impl Contract {
 
     pub const NODES: usize = 4096;
     // Bytes of a name, and of a string without its quotes.
-    pub const NAME: usize = 32;
+    pub const NAME: usize = Token::NAME_BYTES;
 
-    pub const STRING: usize = 64;
+    pub const STRING: usize = Token::STRING_BYTES;
+    // Levels of parentheses and conditionals.
+    pub const LEVELS: usize = 16;
+    // The greatest constant, amount and clock.
+    pub const TOP: u64 = Token::TOP;
     // The words of a table.
-    pub const TABLE: usize = 20819;
+    pub const TABLE: usize = PARAMETERS + Contract::FUNCTIONS * Function::NAMES * PACKED_WORDS;
 }
 
 // The head of a table: how many there are of each, and the initial state.
@@ -46,6 +52,11 @@ pub struct TableHead {
     pub events: usize,
     pub nodes: usize,
     pub initial: usize,
+}
+
+impl TableHead {
+    // The words of a head.
+    pub const WORDS: usize = 10;
 }
 
 // A function's row. Its nodes start at `first`: those of the precondition, those of the body, its events.
@@ -67,10 +78,14 @@ impl Function {
     pub const VALUES: usize = 8;
 
     pub const PARAMETERS: usize = 4;
+    // Rows of the parameters that a function has.
+    pub const NAMES: usize = Function::VALUES + Function::PARAMETERS;
     // Statements in a body or a handler, nested ones counted.
     pub const STATEMENTS: usize = 64;
-    // The words of a row.
-    pub const WORDS: usize = 10 + NAME_WORDS;
+    // At which of the words of a row its name stands, and the words of a row.
+    pub const NAME: usize = 10;
+
+    pub const WORDS: usize = Function::NAME + NAME_WORDS;
 }
 
 // An event's row: its states, and its node, which stands after its guard and its handler.
@@ -92,7 +107,10 @@ pub struct Clause {
 }
 
 impl Clause {
-    pub const WORDS: usize = 3 + Contract::FIELDS;
+    // At which of the words of a row its fields stand, and the words of a row.
+    pub const FIELDS: usize = 3;
+
+    pub const WORDS: usize = Clause::FIELDS + Contract::FIELDS;
 }
 
 // A node: its parts stand before it. Of an expression, a condition or an event its size counts the nodes of its whole, of a
@@ -169,8 +187,11 @@ pub const NAME_WORDS: usize = 1 + Contract::NAME;
 
 pub const STRING_WORDS: usize = 1 + Contract::STRING;
 
-// Where the sections of a table start: rows of names, strings, clauses, functions, events and nodes.
-pub const NAME: usize = 10;
+// The words of a packed row: a length, and the bytes, eight in a word with the first lowest.
+pub const PACKED_WORDS: usize = 1 + Contract::NAME / 8;
+
+// Where the sections of a table start: rows of names, strings, clauses, functions, events, nodes and parameters.
+pub const NAME: usize = TableHead::WORDS;
 
 pub const PARTIES: usize = NAME + NAME_WORDS;
 
@@ -189,6 +210,9 @@ pub const FUNCTIONS: usize = CLAUSES + Contract::CLAUSES * Clause::WORDS;
 pub const EVENTS: usize = FUNCTIONS + Contract::FUNCTIONS * Function::WORDS;
 
 pub const NODES: usize = EVENTS + Contract::EVENTS * Event::WORDS;
+
+// Packed rows, for each function those of its value parameters and those of its asset parameters.
+pub const PARAMETERS: usize = NODES + Contract::NODES * Node::WORDS;
 
 // Word i of a table, and 0 past its end.
 pub fn word(table: &[u64], i: usize) -> u64
@@ -272,7 +296,25 @@ pub fn clause_field(table: &[u64], i: usize, j: usize) -> usize
     if table.len() <= j {
         return 0;
     }
-    word(table, row(table, CLAUSES, Clause::WORDS, i) + (3 + j)) as usize
+    word(
+        table,
+        row(table, CLAUSES, Clause::WORDS, i) + (Clause::FIELDS + j),
+    ) as usize
+}
+
+// How many bytes row i of the parameters says that it has.
+pub fn packed_length(table: &[u64], i: usize) -> u64
+    ensures { λ r. ⌜ r ≡ wordAt (now (table .entry)) (parametersStart + i * 5) ⌝ }
+{
+    word(table, row(table, PARAMETERS, PACKED_WORDS, i))
+}
+
+// Byte j of row i of the parameters.
+pub fn packed_byte(table: &[u64], i: usize, j: usize) -> u64
+    ensures { λ r. ⌜ r ≡ packedByte (now (table .entry)) (parametersStart + i * 5) j ⌝ }
+{
+    let eight = word(table, row(table, PARAMETERS, PACKED_WORDS, i) + (1 + j / 8));
+    (eight >> (8 * (j % 8))) % 256
 }
 
 pub fn node_at(table: &[u64], k: usize) -> Node

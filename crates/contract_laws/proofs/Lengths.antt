@@ -4,22 +4,18 @@ use mathlib.Core.Bool.{Bool, true}
 use mathlib.Core.List.{List, [], _∷_}
 use Prim.Native.Nat.{ℕ, zero, suc, _+_, _*_, _≤_}
 use native.Mathlib.Omega.{arith}
-use native.Mathlib.Nat.{add-comm, suc-mul, zero-mul}
-use lib.ListN.{length, length-append}
-use Rattle.contract.specs.Limits.{maxFields, maxName, maxString}
+use native.Mathlib.Nat.{add-comm, suc-mul, zero-mul, mul-le-mul-right}
+use lib.ListN.{length, drop, length-append}
+use Rattle.contract.specs.Limits.{maxFields, maxName, maxString, maxValues, maxParameters}
 use Rattle.contract.specs.Tree.{Word, Holder, asset, assetParameter, Expression, constant, string, clock, field, valueParameter, held, apply, brokenExpression, Condition, truth, compare, negation, both, either, brokenCondition, Action, assign, send, move, pay, moveAll, payAll, Block, none, perform, conditional, brokenBlock, Precondition, omitted, given, Event, Function, Clause}
 use Rattle.contract.specs.Sizes.{expressionSize, conditionSize, actionSize, blockSize, preconditionSize, eventSize, eventsSize, functionSize}
 use Rattle.contract.specs.Fits.{total, isName, isString}
 use Rattle.laws.proofs.Members.{every-head, every-tail}
 use Rattle.laws.specs.Lists.{every}
-use Rattle.contract.specs.Table.{nameWords, stringWords, clauseWords, functionWords}
-use Rattle.contract.specs.Encode.{zeros, padded, joined, holderNode, expressionNodes, conditionNodes, actionParts, blockNodes, preconditionNodes, eventNodes, functionNodes, nameRow, stringRow, clauseRow, functionRow, functionRows, eventRows, allEventRows}
+use Rattle.contract.specs.Table.{nameWords, stringWords, clauseWords, functionWords, packedWords, parameterWords}
+use Rattle.contract.specs.Encode.{zeros, padded, joined, holderNode, expressionNodes, conditionNodes, actionParts, blockNodes, preconditionNodes, eventNodes, functionNodes, nameRow, stringRow, packs, packedRow, parameterRows, clauseRow, functionRow, functionRows, eventRows, allEventRows}
+use Rattle.contract.proofs.Zeros.{length-zeros}
 use Rattle.contract.proofs.Fitting.{name-length, string-length}
-
-pub length-zeros : (n : ℕ) → length (zeros n) ≡ n
-unfolding zeros
-length-zeros zero = refl
-length-zeros (suc n) = ap suc (length-zeros n)
 
 pub length-padded : (n : ℕ) (l : List ℕ) → length l ≤ n → length (padded n l) ≡ n
 unfolding padded
@@ -53,6 +49,36 @@ length-joined row right n f (x ∷ l) e =
     ∙ (λ i. f x (every-head right x l e) i + length-joined row right n f l (every-tail right x l e) i)
     ∙ add-comm n (length l * n)
     ∙ sym (suc-mul (length l) n)
+
+-- some rows of n words fit into room for m
+pub rows-long : {A : Type 0} (row : A → List ℕ) (right : A → Bool) (n m : ℕ) → ((x : A) → right x ≡ true → length (row x) ≡ n)
+    → (l : List A) → every right l ≡ true → length l ≤ m → length (padded (m * n) (joined row l)) ≡ m * n
+rows-long row right n m f l e h =
+    length-padded (m * n) (joined row l) (rw (length-joined row right n f l e) (mul-le-mul-right n h))
+
+pub length-packs : (n : ℕ) (l : List ℕ) → length (packs n l) ≡ n
+unfolding packs
+length-packs zero l = refl
+length-packs (suc n) l = ap suc (length-packs n (drop 8 l))
+
+pub length-packedRow : (n : Word) → isName n ≡ true → length (packedRow n) ≡ packedWords
+unfolding packedRow
+length-packedRow n e = ap suc (length-packs 4 n)
+
+-- the rows of a function's parameters
+pub values-long : (f : Function) → every isName (f .values) ≡ true → length (f .values) ≤ maxValues
+    → length (padded (maxValues * packedWords) (joined packedRow (f .values))) ≡ maxValues * packedWords
+values-long f e h = rows-long packedRow isName packedWords maxValues length-packedRow (f .values) e h
+
+pub length-parameterRows : (f : Function) → every isName (f .values) ≡ true → length (f .values) ≤ maxValues
+    → every isName (f .parameters) ≡ true → length (f .parameters) ≤ maxParameters → length (parameterRows f) ≡ parameterWords
+unfolding parameterRows
+length-parameterRows f e h g l =
+    simp length-append (omega (
+      arith,
+      values-long f e h,
+      rows-long packedRow isName packedWords maxParameters length-packedRow (f .parameters) g l,
+    ))
 
 pub length-functionRows : (first event : ℕ) (fs : List Function) → every (λ f. isName (f .name)) fs ≡ true
     → length (functionRows first event fs) ≡ length fs * functionWords

@@ -1,5 +1,8 @@
 -- Words that stand in a table.
 pub mod Stands
+-- Names in packed rows; parties with a clause.
+pub mod Packing
+pub mod PartyClauses
 -- The round trip.
 pub mod Lengths
 pub mod Sections

@@ -13,20 +13,22 @@ use Rattle.tokens.specs.Classes.{isLetter, isNameByte, isStringByte}
 use Rattle.contract.specs.Limits.{maxStatements, maxName, maxString, maxFields, maxNodes, maxEvents, maxValues, maxParameters, maxParties, maxAssets, maxStates, maxStrings, maxClauses, maxFunctions}
 use Rattle.contract.specs.Tree.{Word, clock, none, Block, Precondition, omitted, given, Event, Function, Verb, set, ok, Clause, Contract}
 use Rattle.contract.specs.Sizes.{expressionSize, conditionSize, blockSize, preconditionSize, eventSize, functionSize, statements}
-use Rattle.contract.specs.Fits.{total, isName, isString, Scope, expressionIn, blockIn, preconditionIn, scopeOf, eventIn, functionIn, clauseIn, fits}
+use Rattle.contract.specs.Fits.{total, isName, isString, Scope, expressionIn, blockIn, preconditionIn, scopeOf, scopeIn, eventIn, functionIn, clauseIn, hasClause, fits}
 use Rattle.laws.proofs.Members.{every-at}
 use Rattle.laws.proofs.Truths.{link, both-true, second-true}
 use Rattle.laws.specs.Lists.{every, allBelow}
-use Rattle.contract.specs.Table.{wordAt, kindAt, argumentAt, sizeAt, functionWord, eventWord, clauseWord, nameWords, stringWords, clauseWords, functionWords, clausesStart, functionsStart, eventsStart, tableLength, eventKind}
-use Rattle.contract.specs.Encode.{zeros, padded, node, expressionNodes, blockNodes, preconditionNodes, eventNodes, functionNodes, joined, nameRow, stringRow, verbWord, clauseRow, functionRow, headRow, encode}
-use Rattle.contract.specs.Check.{nameOk, stringOk, expression, isSort, nodesOk, nodeOk, statementsIn, scopeAt, preconditionOk, bodyOk, eventNodesOk, eventOk, eventFirst, firstNode, firstEvent, functionNodesOk, functionOk, clauseOk, headOk, namesOk, passes}
+use Rattle.contract.specs.Table.{wordAt, kindAt, argumentAt, sizeAt, functionWord, eventWord, clauseWord, nameWords, stringWords, clauseWords, functionWords, packedWords, clausesStart, functionsStart, eventsStart, tableLength, eventKind}
+use Rattle.contract.specs.Encode.{zeros, padded, node, expressionNodes, blockNodes, preconditionNodes, eventNodes, functionNodes, joined, nameRow, stringRow, packedRow, verbWord, clauseRow, functionRow, headRow, encode}
+use Rattle.contract.specs.Check.{nameOk, stringOk, packedOk, parametersOk, clauseBelow, expression, isSort, nodesOk, nodeOk, statementsIn, scopeAt, preconditionOk, bodyOk, eventNodesOk, eventOk, eventFirst, firstNode, firstEvent, functionNodesOk, functionOk, clauseOk, headOk, namesOk, passes}
 use Rattle.contract_laws.proofs.Stands.{Stands, second-part, moved, first-word}
-use Rattle.contract.proofs.Fitting.{FitsClause, FitsEvent, FitsFunction, FitsContract, fits-clause, fits-event, fits-function, fits-contract}
-use Rattle.contract_laws.proofs.Lengths.{length-nameRow, length-stringRow, length-expression, length-block, length-precondition, length-event, expression-some}
+use Rattle.contract.proofs.Fitting.{name-length, FitsClause, FitsEvent, FitsFunction, FitsContract, fits-clause, fits-event, fits-function, fits-contract}
+use Rattle.contract_laws.proofs.Lengths.{length-nameRow, length-packedRow, length-stringRow, length-expression, length-block, length-precondition, length-event, expression-some}
 use Rattle.contract_laws.proofs.Sections.{joined-row, Nodes, NodeIs, node-is, joined-nodes, eventCount, events-total, event-row, eventsFirst, clause-long, head-stands, name-stands, parties-stand, assets-stand, fields-stand, states-stand, strings-stand, clauses-stand, length-encode, FunctionStands, function-stands}
-use Rattle.contract.proofs.Tests.{ranges-true}
-use Rattle.laws.proofs.Members.{all-below}
+use Rattle.contract.proofs.Tests.{ranges-true, below-of}
+use Rattle.laws.proofs.Members.{all-below, below-at}
 use Rattle.contract_laws.proofs.Regions.{Region, Rows, rows, ended-ok}
+use Rattle.contract_laws.proofs.Packing.{packed-read}
+use Rattle.contract_laws.proofs.PartyClauses.{has-at}
 use Rattle.contract_laws.proofs.Formed.{expression-formed, condition-formed, block-formed}
 
 -- ---- names and strings
@@ -77,6 +79,20 @@ strings-ok {w} {o} {n} l e s q =
     all-below (λ i. stringOk w (o + i * stringWords)) n λ i h.
     let k : i < length l = omega arith in
     string-ok (getD l i []) (every-at isString l e i k []) (joined-row stringRow isString stringWords length-stringRow l e s i k [])
+
+-- a name in a packed row, and rows of them
+packed-ok : {w : List ℕ} {o : ℕ} (n : Word) → isName n ≡ true → Stands w o (packedRow n) → packedOk w o ≡ true
+unfolding packedOk packedRow
+packed-ok {w} {o} n e s =
+    let l : wordAt w o ≡ length n = first-word (length n) _ s in
+    both-true _ _ (le-leb (wordAt w o) maxName (omega (arith, name-length n e))) (ap isName (packed-read n o e s) ∙ e)
+
+packed-rows-ok : {w : List ℕ} {o n : ℕ} (l : List Word) → every isName l ≡ true → Stands w o (joined packedRow l) → n ≡ length l
+    → allBelow n (λ j. packedOk w (o + j * packedWords)) ≡ true
+packed-rows-ok {w} {o} {n} l e s q =
+    all-below (λ j. packedOk w (o + j * packedWords)) n λ j h.
+    let k : j < length l = omega arith in
+    packed-ok (getD l j []) (every-at isName l e j k []) (joined-row packedRow isName packedWords length-packedRow l e s j k [])
 
 -- ---- nodes of a function
 
@@ -156,8 +172,8 @@ pub record FunctionIs (w : List ℕ) (i first event : ℕ) (f : Function) : Type
   pub state : functionWord w i 0 ≡ f .state
   pub party : functionWord w i 1 ≡ f .party
   pub last : functionWord w i 2 ≡ f .last
-  pub values : functionWord w i 3 ≡ f .values
-  pub parameters : functionWord w i 4 ≡ f .parameters
+  pub values : functionWord w i 3 ≡ length (f .values)
+  pub parameters : functionWord w i 4 ≡ length (f .parameters)
   pub first-is : functionWord w i 5 ≡ first
   pub precondition : functionWord w i 6 ≡ preconditionSize (f .precondition)
   pub body : functionWord w i 7 ≡ blockSize (f .body)
@@ -181,7 +197,7 @@ function-is i first event f s =
       events = s .word 9 (omega arith);
       name =
           second-part
-          (f .state ∷ f .party ∷ f .last ∷ f .values ∷ f .parameters ∷ first ∷ preconditionSize (f .precondition) ∷ blockSize (f .body) ∷ event ∷ length (f .events) ∷ [])
+          (f .state ∷ f .party ∷ f .last ∷ length (f .values) ∷ length (f .parameters) ∷ first ∷ preconditionSize (f .precondition) ∷ blockSize (f .body) ∷ event ∷ length (f .events) ∷ [])
           (nameRow (f .name)) s;
     }
 
@@ -236,10 +252,10 @@ record EventIs (w : List ℕ) (i first : ℕ) (e : Event) : Type 0 where
   nodes : Nodes w first (eventNodes e)
 
 event-ok : {w : List ℕ} {c : Contract} {f : Function} (i first : ℕ) (e : Event) → HeadIs w c → EventIs w i first e → FitsEvent c f e
-    → first + eventSize e ≤ wordAt w 8 → eventOk w (scopeOf c (f .values) (f .parameters)) first i ≡ true
+    → first + eventSize e ≤ wordAt w 8 → eventOk w (scopeIn c f) first i ≡ true
 unfolding eventOk
 event-ok {w} {c} {f} i first e h x g l =
-    let s = scopeOf c (f .values) (f .parameters) in
+    let s = scopeIn c f in
     let d : e .state < length (c .states) = g .state in
     let k : e .last < length (c .states) = g .last in
     both-true _ _ (lt-ltb (eventWord w i 0) (wordAt w 3) (omega arith))
@@ -288,20 +304,20 @@ module _ {w : List ℕ} {i first event : ℕ} {f : Function} (x : FunctionIs w i
 
   module _ {c : Contract} (h : HeadIs w c) (g : FitsFunction c f) (room : first + functionSize f ≤ wordAt w 8) (few : wordAt w 8 ≤ maxNodes)
       (most : length (f .events) ≤ maxEvents) where
-    each-event : (j : ℕ) → j < functionWord w i 9 → eventOk w (scopeOf c (f .values) (f .parameters)) (eventFirst w i j) (functionWord w i 8 + j) ≡ true
+    each-event : (j : ℕ) → j < functionWord w i 9 → eventOk w (scopeIn c f) (eventFirst w i j) (functionWord w i 8 + j) ≡ true
     unfolding functionSize
     each-event j l =
         let q : j < length (f .events) = omega arith in
         let e = getD (f .events) j noEvent in
-        (λ t. eventOk w (scopeOf c (f .values) (f .parameters)) (event-first j (omega arith) t) (x .event-is t + j))
+        (λ t. eventOk w (scopeIn c f) (event-first j (omega arith) t) (x .event-is t + j))
         ∙ event-ok (event + j) (eventsFirst first f + total eventSize (take j (f .events))) e h (event-is j q)
         (fits-event c f e (every-at (eventIn c f) (f .events) (g .events) j q noEvent))
         (omega (arith, total-more eventSize (f .events) j q noEvent, total-some eventSize (f .events) (suc j), events-total (f .events)))
 
-    function-nodes-ok : functionNodesOk w (scopeOf c (f .values) (f .parameters)) i ≡ true
+    function-nodes-ok : functionNodesOk w (scopeIn c f) i ≡ true
     unfolding functionNodesOk functionSize
     function-nodes-ok =
-        let z = scopeOf c (f .values) (f .parameters) in
+        let z = scopeIn c f in
         let p = preconditionSize (f .precondition) in
         let b = blockSize (f .body) in
         both-true _ _ (le-leb (functionWord w i 6) maxNodes (omega arith))
@@ -321,13 +337,18 @@ module _ {w : List ℕ} {i first event : ℕ} {f : Function} (x : FunctionIs w i
         both-true _ _ (lt-ltb (functionWord w i 0) (wordAt w 3) (omega arith))
         (both-true _ _ (lt-ltb (functionWord w i 1) (wordAt w 0) (omega arith))
         (both-true _ _ (lt-ltb (functionWord w i 2) (wordAt w 3) (omega arith))
-        (both-true _ _ (le-leb (functionWord w i 3) maxValues (omega (arith, g .values)))
-        (both-true _ _ (le-leb (functionWord w i 4) maxParameters (omega (arith, g .parameters)))
+        (both-true _ _ (le-leb (functionWord w i 3) maxValues (omega (arith, g .values-few)))
+        (both-true _ _ (le-leb (functionWord w i 4) maxParameters (omega (arith, g .parameters-few)))
         (both-true _ _ (name-ok (f .name) (g .name) (x .name))
         (both-true _ _ (eq-eqb (functionWord w i 5) (firstNode w i) (x .first-is ∙ sym d))
         (both-true _ _ (eq-eqb (functionWord w i 8) (firstEvent w i) (x .event-is ∙ sym e))
-        (ap (λ (z : Scope). functionNodesOk w z i) ((λ t. scopeAt w (x .values t) (x .parameters t)) ∙ scope-is h (f .values) (f .parameters))
+        (ap (λ (z : Scope). functionNodesOk w z i) ((λ t. scopeAt w (x .values t) (x .parameters t)) ∙ scope-is h (length (f .values)) (length (f .parameters)))
         ∙ function-nodes-ok))))))))
+
+parameters-ok : {w : List ℕ} {i first event : ℕ} {c : Contract} {f : Function} → FunctionIs w i first event f → FunctionStands w i first event f → FitsFunction c f → parametersOk w i ≡ true
+unfolding parametersOk
+parameters-ok {f = f} x s g =
+    both-true _ _ (packed-rows-ok (f .values) (g .values) (s .values) (x .values)) (packed-rows-ok (f .parameters) (g .parameters) (s .parameters) (x .parameters))
 
 -- ---- clauses
 
@@ -356,7 +377,7 @@ clause-ok {w} {c} i k h g s =
 -- ---- the whole
 
 abbrev noFunction : Function
-noFunction = record { state = 0; party = 0; name = []; values = 0; parameters = 0; precondition = omitted; body = none; events = []; last = 0 }
+noFunction = record { state = 0; party = 0; name = []; values = []; parameters = []; precondition = omitted; body = none; events = []; last = 0 }
 
 abbrev noClause : Clause
 noClause = record { party = 0; verb = set; fields = [] }
@@ -395,6 +416,13 @@ module _ (c : Contract) (h : FitsContract c) where
       (omega (arith, total-some functionSize fs (suc i))) (omega (arith, h .nodes-few)) (omega (arith, total-some eventCount fs (suc i), h .events-few))
       (first-node i (omega arith)) (first-event i (omega arith))
 
+  parameters-right : (i : ℕ) → i < wordAt (encode c) 6 → parametersOk (encode c) i ≡ true
+  parameters-right i l =
+      let o = head in
+      let fs = c .functions in
+      let q : i < length fs = omega arith in
+      parameters-ok (function-here i q) (function-stands c h i q noFunction) (fits-function c (getD fs i noFunction) (every-at (functionIn c) fs (h .functions) i q noFunction))
+
   head-right : headOk (encode c) ≡ true
   unfolding headOk
   head-right =
@@ -429,6 +457,17 @@ module _ (c : Contract) (h : FitsContract c) where
       clause-ok i (getD ks i noClause) o (fits-clause c (getD ks i noClause) (every-at (clauseIn c) ks (h .clauses) i q noClause))
       (joined-row clauseRow (clauseIn c) clauseWords (clause-long c) ks (h .clauses) (clauses-stand c h) i q noClause)
 
+  -- a party's clause
+  heard : (p : ℕ) → p < wordAt (encode c) 0 → clauseBelow (encode c) (wordAt (encode c) 5) p ≡ true
+  unfolding clauseRow
+  heard p l =
+      let o = head in
+      let ks = c .clauses in
+      has-at ks p noClause (below-at (hasClause ks) (length (c .parties)) (h .heard) p (omega arith)) λ i q e.
+      let s = joined-row clauseRow (clauseIn c) clauseWords (clause-long c) ks (h .clauses) (clauses-stand c h) i q noClause in
+      let a : clauseWord (encode c) i 0 ≡ getD ks i noClause .party = s .word 0 (omega arith) in
+      below-of (encode c) p (wordAt (encode c) 5) i (omega arith) (ap (λ (n : ℕ). eqb n p) a ∙ e)
+
   table-passes : passes (encode c) ≡ true
   unfolding passes
   table-passes =
@@ -439,12 +478,15 @@ module _ (c : Contract) (h : FitsContract c) where
       (both-true _ _ head-right
       (both-true _ _ names-right
       (both-true _ _ (all-below (clauseOk w) (wordAt w 5) clause-right)
+      (both-true _ _ (all-below (clauseBelow w (wordAt w 5)) (wordAt w 0) heard)
       (both-true _ _ (all-below (functionOk w) (wordAt w 6) function-right)
       (both-true _ _
       (eq-eqb (firstNode w (wordAt w 6)) (wordAt w 8)
       (ap (firstNode w) (head .functions) ∙ first-node (length fs) l ∙ ap (total functionSize) (take-length fs) ∙ sym (head .nodes)))
+      (both-true _ _
       (eq-eqb (firstEvent w (wordAt w 6)) (wordAt w 7)
-      (ap (firstEvent w) (head .functions) ∙ first-event (length fs) l ∙ ap (total eventCount) (take-length fs) ∙ sym (head .events))))))))
+      (ap (firstEvent w) (head .functions) ∙ first-event (length fs) l ∙ ap (total eventCount) (take-length fs) ∙ sym (head .events)))
+      (all-below (parametersOk w) (wordAt w 6) parameters-right))))))))
 
 pub passing : (c : Contract) → fits c ≡ true → passes (encode c) ≡ true
 passing c e = table-passes c (fits-contract c e)

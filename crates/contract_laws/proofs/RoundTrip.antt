@@ -10,16 +10,17 @@ use Rattle.laws.specs.Choice.{pick}
 use Rattle.contract.specs.Limits.{maxFields, maxStrings, maxName, maxString}
 use Rattle.contract.specs.Tree.{Word, Event, Function, Verb, set, ok, Clause, Contract}
 use Rattle.contract.specs.Sizes.{expressionSize, blockSize, preconditionSize, eventSize, functionSize}
-use Rattle.contract.specs.Fits.{Scope, total, isName, isString, expressionIn, blockIn, scopeOf, clauseIn, eventIn, functionIn, fits}
+use Rattle.contract.specs.Fits.{Scope, total, isName, isString, expressionIn, blockIn, scopeOf, scopeIn, clauseIn, eventIn, functionIn, fits}
 use Rattle.laws.proofs.Members.{every-at}
 use Rattle.laws.specs.Lists.{every}
-use Rattle.contract.specs.Table.{wordAt, argumentAt, eventWord, functionWord, nameWords, stringWords, clauseWords, functionWords, nameStart, functionsStart, eventsStart, eventKind}
-use Rattle.contract.specs.Encode.{zeros, padded, joined, expressionNodes, blockNodes, preconditionNodes, eventNodes, functionNodes, nameRow, stringRow, verbWord, clauseRow, functionRow, eventRows, headRow, encode}
-use Rattle.contract.specs.Decode.{eachFrom, expressionAt, blockBetween, preconditionAt, wordOf, eventAt, functionAt, clauseAt, contractOf}
+use Rattle.contract.specs.Table.{wordAt, argumentAt, eventWord, functionWord, nameWords, stringWords, clauseWords, functionWords, packedWords, valuesOf, parametersOf, nameStart, functionsStart, eventsStart, eventKind}
+use Rattle.contract.specs.Encode.{zeros, padded, joined, expressionNodes, blockNodes, preconditionNodes, eventNodes, functionNodes, nameRow, stringRow, packedRow, verbWord, clauseRow, functionRow, eventRows, headRow, encode}
+use Rattle.contract.specs.Decode.{eachFrom, expressionAt, blockBetween, preconditionAt, wordOf, packedWord, eventAt, functionAt, clauseAt, contractOf}
 use Rattle.contract_laws.proofs.Stands.{Stands, first-part, second-part, moved, first-word, next-words, taken}
 use Rattle.contract.proofs.Fitting.{FitsContract, fits-contract, fits-function, fits-event}
-use Rattle.contract_laws.proofs.Lengths.{length-nameRow, length-stringRow, length-expression, length-block, length-precondition, length-event}
+use Rattle.contract_laws.proofs.Lengths.{length-nameRow, length-packedRow, length-stringRow, length-expression, length-block, length-precondition, length-event}
 use Rattle.contract_laws.proofs.Sections.{read-rows, each-is, Nodes, nodes-after, joined-nodes, eventRow, event-row, eventsFirst, eventCount, clause-long, head-stands, name-stands, parties-stand, assets-stand, fields-stand, states-stand, strings-stand, clauses-stand, FunctionStands, function-stands}
+use Rattle.contract_laws.proofs.Packing.{packed-read}
 use Rattle.contract_laws.proofs.ReadBack.{parts, expression-read, block-read, precondition-read}
 
 module _ (w : List ℕ) where
@@ -99,6 +100,14 @@ module _ (w : List ℕ) where
 
 -- ---- functions
 
+-- rows whose count stands in the table
+rows-read : {A : Type 0} {w : List ℕ} {o : ℕ} (row : A → List ℕ) (right : A → Bool) (n : ℕ) → ((x : A) → right x ≡ true → length (row x) ≡ n)
+    → (read : ℕ → A) → ((x : A) (p : ℕ) → right x ≡ true → Stands w p (row x) → read p ≡ x)
+    → (l : List A) (count : ℕ) → count ≡ length l → every right l ≡ true → Stands w o (joined row l)
+    → eachFrom 0 count (λ i. read (o + i * n)) ≡ l
+rows-read {o = o} row right n f read g l count e h s =
+    ap (λ (m : ℕ). eachFrom 0 m (λ i. read (o + i * n))) e ∙ read-rows row right n f read g l h s
+
 few : (c : Contract) → FitsContract c → (v p : ℕ) → scopeOf c v p .strings ≤ maxStrings
 unfolding scopeOf
 few c h v p = h .strings-few
@@ -111,7 +120,7 @@ module _ (c : Contract) (h : FitsContract c) (w : List ℕ) where
       each-is (f .events) event (eventAt w) λ j l d.
       let e = getD (f .events) j d in
       let g = fits-event c f e (every-at (eventIn c f) (f .events) r j l d) in
-      event-read w (scopeOf c (f .values) (f .parameters)) (scopeOf c 0 0) (few c h (f .values) (f .parameters)) (few c h 0 0) (event + j)
+      event-read w (scopeIn c f) (scopeOf c 0 0) (few c h (length (f .values)) (length (f .parameters))) (few c h 0 0) (event + j)
       (first + total eventSize (take j (f .events))) e (g .guard) (g .handler)
       (moved (omega arith) (event-row first (f .events) s j l d))
       (joined-nodes first eventNodes eventSize length-event (f .events) n j l d)
@@ -120,8 +129,8 @@ module _ (c : Contract) (h : FitsContract c) (w : List ℕ) where
   unfolding functionAt functionRow functionNodes
   function-read i first event f r s =
       let g = fits-function c f r in
-      let v = scopeOf c (f .values) (f .parameters) in
-      let fv = few c h (f .values) (f .parameters) in
+      let v = scopeIn c f in
+      let fv = few c h (length (f .values)) (length (f .parameters)) in
       let m = preconditionSize (f .precondition) in
       let n = blockSize (f .body) in
       let rest = blockNodes (f .body) ++ joined eventNodes (f .events) in
@@ -138,8 +147,12 @@ module _ (c : Contract) (h : FitsContract c) (w : List ℕ) where
       let name : wordOf w (functionsStart + i * functionWords + 10) ≡ f .name =
       name-read w (f .name) (functionsStart + i * functionWords + 10) (g .name)
       (second-part
-      (f .state ∷ f .party ∷ f .last ∷ f .values ∷ f .parameters ∷ first ∷ m ∷ n ∷ event ∷ length (f .events) ∷ [])
+      (f .state ∷ f .party ∷ f .last ∷ length (f .values) ∷ length (f .parameters) ∷ first ∷ m ∷ n ∷ event ∷ length (f .events) ∷ [])
       (nameRow (f .name)) (s .row)) in
+      let values : eachFrom 0 (functionWord w i 3) (λ j. packedWord w (valuesOf i + j * packedWords)) ≡ f .values =
+      rows-read packedRow isName packedWords length-packedRow (packedWord w) packed-read (f .values) (functionWord w i 3) (word 3 (omega arith)) (g .values) (s .values) in
+      let parameters : eachFrom 0 (functionWord w i 4) (λ j. packedWord w (parametersOf i + j * packedWords)) ≡ f .parameters =
+      rows-read packedRow isName packedWords length-packedRow (packedWord w) packed-read (f .parameters) (functionWord w i 4) (word 4 (omega arith)) (g .parameters) (s .parameters) in
       let pre : preconditionAt w (functionWord w i 5) (functionWord w i 6) ≡ f .precondition =
       (λ t. preconditionAt w (first-is t) (pre-is t)) ∙ precondition-read w v fv (f .precondition) first (g .precondition) sp in
       let body : blockBetween w (functionWord w i 5 + functionWord w i 6) (functionWord w i 5 + functionWord w i 6 + functionWord w i 7) ≡ f .body =
@@ -151,8 +164,8 @@ module _ (c : Contract) (h : FitsContract c) (w : List ℕ) where
         state = word 0 (omega arith) t;
         party = word 1 (omega arith) t;
         name = name t;
-        values = word 3 (omega arith) t;
-        parameters = word 4 (omega arith) t;
+        values = values t;
+        parameters = parameters t;
         precondition = pre t;
         body = body t;
         events = events t;
@@ -160,14 +173,6 @@ module _ (c : Contract) (h : FitsContract c) (w : List ℕ) where
       }
 
 -- ---- the whole
-
--- rows whose count stands in the head
-rows-read : {A : Type 0} {w : List ℕ} {o : ℕ} (row : A → List ℕ) (right : A → Bool) (n : ℕ) → ((x : A) → right x ≡ true → length (row x) ≡ n)
-    → (read : ℕ → A) → ((x : A) (p : ℕ) → right x ≡ true → Stands w p (row x) → read p ≡ x)
-    → (l : List A) (count : ℕ) → count ≡ length l → every right l ≡ true → Stands w o (joined row l)
-    → eachFrom 0 count (λ i. read (o + i * n)) ≡ l
-rows-read {o = o} row right n f read g l count e h s =
-    ap (λ (m : ℕ). eachFrom 0 m (λ i. read (o + i * n))) e ∙ read-rows row right n f read g l h s
 
 names-read : {w : List ℕ} {o : ℕ} (l : List Word) (count : ℕ) → count ≡ length l → every isName l ≡ true → Stands w o (joined nameRow l)
     → eachFrom 0 count (λ i. wordOf w (o + i * nameWords)) ≡ l

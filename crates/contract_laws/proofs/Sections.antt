@@ -4,20 +4,20 @@ use mathlib.Core.Bool.{Bool, true}
 use mathlib.Core.List.{List, [], _∷_, _++_}
 use Prim.Native.Nat.{ℕ, zero, suc, _+_, _-_, _*_, _<_, _≤_}
 use native.Mathlib.Omega.{arith}
-use native.Mathlib.Nat.{suc-mul, zero-mul, mul-le-mul-right}
+use native.Mathlib.Nat.{suc-mul, zero-mul}
 use lib.ListN.{length, getD, take, length-append}
-use Rattle.contract.specs.Limits.{maxParties, maxAssets, maxFields, maxStates, maxStrings, maxClauses, maxFunctions, maxEvents, maxNodes}
+use Rattle.contract.specs.Limits.{maxParties, maxAssets, maxFields, maxStates, maxStrings, maxClauses, maxFunctions, maxEvents, maxNodes, maxValues, maxParameters}
 use Rattle.contract.specs.Tree.{Event, Function, Clause, Contract}
 use Rattle.contract.specs.Sizes.{blockSize, preconditionSize, eventSize, eventsSize, functionSize}
 use Rattle.contract.specs.Fits.{total, isName, isString, clauseIn, functionIn}
 use Rattle.laws.proofs.Members.{every-head, every-tail, every-at, every-so}
 use Rattle.laws.specs.Lists.{every}
-use Rattle.contract.specs.Table.{kindAt, argumentAt, sizeAt, nameWords, stringWords, clauseWords, functionWords, eventWords, nodeWords, headWords, nameStart, partiesStart, assetsStart, fieldsStart, statesStart, stringsStart, clausesStart, functionsStart, eventsStart, nodesStart, tableLength}
-use Rattle.contract.specs.Encode.{zeros, padded, joined, functionNodes, nameRow, stringRow, clauseRow, functionRow, functionRows, eventRows, allEventRows, headRow, encode}
+use Rattle.contract.specs.Table.{kindAt, argumentAt, sizeAt, nameWords, stringWords, clauseWords, functionWords, eventWords, nodeWords, packedWords, parameterWords, headWords, nameStart, partiesStart, assetsStart, fieldsStart, statesStart, stringsStart, clausesStart, functionsStart, eventsStart, nodesStart, parametersStart, tableLength, valuesOf, parametersOf}
+use Rattle.contract.specs.Encode.{zeros, padded, joined, functionNodes, nameRow, stringRow, packedRow, parameterRows, clauseRow, functionRow, functionRows, eventRows, allEventRows, headRow, encode}
 use Rattle.contract.specs.Decode.{eachFrom}
 use Rattle.contract_laws.proofs.Stands.{Stands, first-part, second-part, moved, same-words, whole, first-word}
 use Rattle.contract.proofs.Fitting.{FitsContract, fits-clause, fits-function}
-use Rattle.contract_laws.proofs.Lengths.{length-padded, length-nameRow, length-stringRow, length-clauseRow, length-functionRow, length-joined, length-functionRows, length-eventRows, length-allEventRows, length-function, length-functions}
+use Rattle.contract_laws.proofs.Lengths.{length-padded, rows-long, values-long, length-packedRow, length-parameterRows, length-nameRow, length-stringRow, length-clauseRow, length-functionRow, length-joined, length-functionRows, length-eventRows, length-allEventRows, length-function, length-functions}
 
 -- ---- rows
 
@@ -198,6 +198,7 @@ sections c =
     ∷ padded (maxFunctions * functionWords) (functionRows 0 0 (c .functions))
     ∷ padded (maxEvents * eventWords) (allEventRows 0 (c .functions))
     ∷ padded (maxNodes * nodeWords) (joined functionNodes (c .functions))
+    ∷ padded (maxFunctions * parameterWords) (joined parameterRows (c .functions))
     ∷ []
 
 -- the sections' lengths
@@ -213,15 +214,15 @@ record Long (c : Contract) : Type 0 where
   functions : length (padded (maxFunctions * functionWords) (functionRows 0 0 (c .functions))) ≡ maxFunctions * functionWords
   events : length (padded (maxEvents * eventWords) (allEventRows 0 (c .functions))) ≡ maxEvents * eventWords
   nodes : length (padded (maxNodes * nodeWords) (joined functionNodes (c .functions))) ≡ maxNodes * nodeWords
-
--- some rows of n words fit into room for m
-rows-long : {A : Type 0} (row : A → List ℕ) (right : A → Bool) (n m : ℕ) → ((x : A) → right x ≡ true → length (row x) ≡ n)
-    → (l : List A) → every right l ≡ true → length l ≤ m → length (padded (m * n) (joined row l)) ≡ m * n
-rows-long row right n m f l e h =
-    length-padded (m * n) (joined row l) (rw (length-joined row right n f l e) (mul-le-mul-right n h))
+  parameters : length (padded (maxFunctions * parameterWords) (joined parameterRows (c .functions))) ≡ maxFunctions * parameterWords
 
 pub clause-long : (c : Contract) (k : Clause) → clauseIn c k ≡ true → length (clauseRow k) ≡ clauseWords
 clause-long c k e = length-clauseRow k (fits-clause c k e .fields-few)
+
+parameters-long : (c : Contract) (f : Function) → functionIn c f ≡ true → length (parameterRows f) ≡ parameterWords
+parameters-long c f e =
+    let g = fits-function c f e in
+    length-parameterRows f (g .values) (g .values-few) (g .parameters) (g .parameters-few)
 
 pub function-names : (c : Contract) → FitsContract c → every (λ f. isName (f .name)) (c .functions) ≡ true
 function-names c h = every-so (functionIn c) (λ f. isName (f .name)) (λ f e. fits-function c f e .name) (c .functions) (h .functions)
@@ -247,10 +248,11 @@ long c h =
       nodes =
           length-padded (maxNodes * nodeWords) (joined functionNodes (c .functions))
           (omega (arith, length-functions (c .functions), h .nodes-few));
+      parameters = rows-long parameterRows (functionIn c) parameterWords maxFunctions (parameters-long c) (c .functions) (h .functions) (h .functions-few);
     }
 
 module _ (c : Contract) (h : FitsContract c) where
-  section : (i o : ℕ) → i < 11 → before i (sections c) ≡ o → Stands (encode c) o (getD (sections c) i [])
+  section : (i o : ℕ) → i < 12 → before i (sections c) ≡ o → Stands (encode c) o (getD (sections c) i [])
   unfolding encode
   section i o l e = moved (omega arith) (laid-at (sections c) i l (whole (laid (sections c))))
 
@@ -291,16 +293,34 @@ module _ (c : Contract) (h : FitsContract c) where
   pub nodes-stand : Stands (encode c) nodesStart (joined functionNodes (c .functions))
   nodes-stand = let l = long c h in unpadded _ _ (section 10 nodesStart (omega arith) (omega arith))
 
+  pub parameters-stand : Stands (encode c) parametersStart (joined parameterRows (c .functions))
+  parameters-stand = let l = long c h in unpadded _ _ (section 11 parametersStart (omega arith) (omega arith))
+
   pub length-encode : length (encode c) ≡ tableLength
   unfolding encode
   length-encode = let l = long c h in length-laid (sections c) ∙ omega arith
 
--- ---- a function's row, its events' rows and its nodes
+-- ---- a function's row, its events' rows, its nodes and its parameters
 
 pub record FunctionStands (w : List ℕ) (i first event : ℕ) (f : Function) : Type 0 where
   pub row : Stands w (functionsStart + i * functionWords) (functionRow first event f)
   pub events : Stands w (eventsStart + event * 3) (eventRows (eventsFirst first f) (f .events))
   pub nodes : Nodes w first (functionNodes f)
+  pub values : Stands w (valuesOf i) (joined packedRow (f .values))
+  pub parameters : Stands w (parametersOf i) (joined packedRow (f .parameters))
+
+-- the rows of its parameters
+rows-stand : {w : List ℕ} (i : ℕ) (c : Contract) (f : Function) → functionIn c f ≡ true → Stands w (valuesOf i) (parameterRows f)
+    → Stands w (valuesOf i) (joined packedRow (f .values)) × Stands w (parametersOf i) (joined packedRow (f .parameters))
+unfolding parameterRows padded
+rows-stand {w} i c f e s =
+    let g = fits-function c f e in
+    let v = joined packedRow (f .values) in
+    let p = joined packedRow (f .parameters) in
+    let n = values-long f (g .values) (g .values-few) in (
+      first-part v _ (first-part (padded (maxValues * packedWords) v) (padded (maxParameters * packedWords) p) s),
+      first-part p _ (moved (omega arith) (second-part (padded (maxValues * packedWords) v) (padded (maxParameters * packedWords) p) s)),
+    )
 
 pub function-stands : (c : Contract) → FitsContract c → (i : ℕ) → i < length (c .functions) → (d : Function)
     → FunctionStands (encode c) i (total functionSize (take i (c .functions))) (total eventCount (take i (c .functions))) (getD (c .functions) i d)
@@ -309,6 +329,9 @@ function-stands c h i l d =
     let f = getD fs i d in
     let n : 0 + total functionSize (take i fs) ≡ total functionSize (take i fs) = omega arith in
     let m : 0 + total eventCount (take i fs) ≡ total eventCount (take i fs) = omega arith in
+    let r =
+    rows-stand i c f (every-at (functionIn c) fs (h .functions) i l d)
+    (joined-row parameterRows (functionIn c) parameterWords (parameters-long c) fs (h .functions) (parameters-stand c h) i l d) in
     record {
       row =
           same-words (λ t. functionRow (n t) (m t) f)
@@ -317,4 +340,6 @@ function-stands c h i l d =
           same-words (λ t. eventRows (eventsFirst (n t) f) (f .events)) (event-rows 0 fs (events-stand c h) i l d);
       nodes =
           moved (omega arith) (joined-nodes 0 functionNodes functionSize length-function fs (moved (omega arith) (nodes-stand c h)) i l d);
+      values = r .0;
+      parameters = r .1;
     }

@@ -1,30 +1,32 @@
 -- A table that passes the check holds a contract that fits. Assumes nothing.
 use mathlib.Core.Path.{_≡_, refl, sym, ap, subst, _∙_}
-use mathlib.Core.Bool.{Bool, true, _&&_}
+use mathlib.Core.Bool.{Bool, true, false, _&&_}
 use mathlib.Core.List.{List, [], _∷_}
-use Prim.Native.Nat.{ℕ, suc, _+_, _-_, _*_, _<_, _≤_}
+use Prim.Native.Nat.{ℕ, zero, suc, _+_, _-_, _*_, _<_, _≤_}
 use native.Mathlib.Omega.{arith}
 use native.Mathlib.Nat.{zero-add}
 use lib.ListN.{length}
 use lib.Dec.{eqb, leb, ltb}
 use borrow.Author.Tests.{ltb-true, leb-true, eqb-true, eqb-false, lt-ltb, le-leb}
 use Rattle.laws.proofs.Choice.{pick-true, pick-false, true-false}
-use Rattle.contract.specs.Limits.{maxParties, maxAssets, maxFields, maxStates, maxStrings, maxClauses, maxFunctions, maxEvents, maxNodes, maxValues, maxParameters, maxStatements}
-use Rattle.contract.specs.Tree.{Word, Contract}
+use Rattle.contract.specs.Limits.{maxParties, maxAssets, maxFields, maxStates, maxStrings, maxClauses, maxFunctions, maxEvents, maxNodes, maxValues, maxParameters, maxStatements, maxName}
+use Rattle.contract.specs.Tree.{Word, Clause, Contract}
 use Rattle.contract.specs.Sizes.{expressionSize, blockSize, preconditionSize, eventSize, functionSize, statements}
-use Rattle.contract.specs.Fits.{total, isName, isString, Scope, expressionIn, blockIn, preconditionIn, scopeOf, eventIn, functionIn, clauseIn, wordsIn, fits}
+use Rattle.contract.specs.Fits.{total, isName, isString, Scope, expressionIn, blockIn, preconditionIn, scopeOf, scopeIn, eventIn, functionIn, clauseIn, wordsIn, hasClause, fits}
 use Rattle.laws.proofs.Truths.{link, both-left, both-right, both-true}
-use Rattle.laws.specs.Lists.{allBelow}
-use Rattle.contract.specs.Table.{wordAt, kindAt, argumentAt, sizeAt, functionWord, eventWord, clauseWord, nameWords, stringWords, clauseWords, functionWords, nameStart, partiesStart, assetsStart, fieldsStart, statesStart, stringsStart, clausesStart, functionsStart, tableLength, eventKind}
-use Rattle.contract.specs.Decode.{eachFrom, expressionAt, blockBetween, wordOf, eventAt, preconditionAt, functionAt, clauseAt, contractOf}
-use Rattle.contract.specs.Check.{nameOk, stringOk, expression, condition, isSort, blockOk, nodeOk, statementsIn, nodesOk, scopeAt, preconditionOk, bodyOk, eventNodesOk, eventOk, eventFirst, firstNode, firstEvent, functionNodesOk, functionOk, clauseOk, headOk, namesOk, passes}
+use Rattle.laws.specs.Lists.{every, allBelow}
+use Rattle.contract.specs.Table.{wordAt, kindAt, argumentAt, sizeAt, functionWord, eventWord, clauseWord, nameWords, stringWords, clauseWords, functionWords, packedWords, valuesOf, parametersOf, nameStart, partiesStart, assetsStart, fieldsStart, statesStart, stringsStart, clausesStart, functionsStart, tableLength, eventKind}
+use Rattle.contract.specs.Encode.{zeros}
+use Rattle.contract.specs.Decode.{eachFrom, expressionAt, blockBetween, wordOf, packedWord, eventAt, preconditionAt, functionAt, clauseAt, contractOf}
+use Rattle.contract.specs.Check.{nameOk, stringOk, packedOk, parametersOk, clauseBelow, expression, condition, isSort, blockOk, nodeOk, statementsIn, nodesOk, scopeAt, preconditionOk, bodyOk, eventNodesOk, eventOk, eventFirst, firstNode, firstEvent, functionNodesOk, functionOk, clauseOk, headOk, namesOk, passes}
 use Rattle.contract.proofs.Fitting.{FitsClause, FitsEvent, FitsFunction}
 use Rattle.contract_laws.proofs.Sections.{eventCount, events-total}
 use Rattle.contract_laws.proofs.Inversions.{by-test, of-either, block-of}
-use Rattle.laws.proofs.Members.{below-at}
+use Rattle.laws.proofs.Members.{below-at, all-below}
 use Rattle.contract_laws.proofs.Held.{Accepted, expression-held, condition-held}
 use Rattle.contract_laws.proofs.Blocks.{block-held}
-use Rattle.contract_laws.proofs.Members.{length-each, every-each, every-row, total-each, total-row, taken-few, every-taken, name-in, string-in}
+use Rattle.contract_laws.proofs.PartyClauses.{has-of, below-has}
+use Rattle.contract_laws.proofs.Members.{length-each, getD-each, every-each, every-row, total-each, total-row, taken-few, every-taken, name-in, string-in}
 
 -- ---- regions of nodes
 
@@ -167,9 +169,11 @@ pub record Passed (w : List ℕ) : Type 0 where
   pub head : HeadPassed w
   pub names : namesOk w ≡ true
   pub clauses : (i : ℕ) → i < wordAt w 5 → clauseOk w i ≡ true
+  pub heard : (p : ℕ) → p < wordAt w 0 → clauseBelow w (wordAt w 5) p ≡ true
   pub functions : (i : ℕ) → i < wordAt w 6 → functionOk w i ≡ true
   pub nodes : firstNode w (wordAt w 6) ≡ wordAt w 8
   pub events : firstEvent w (wordAt w 6) ≡ wordAt w 7
+  pub parameters : (i : ℕ) → i < wordAt w 6 → parametersOk w i ≡ true
 
 pub passed : (w : List ℕ) → passes w ≡ true → Passed w
 unfolding passes
@@ -180,9 +184,11 @@ passed w e =
     ∷ headOk w
     ∷ namesOk w
     ∷ allBelow (wordAt w 5) (clauseOk w)
+    ∷ allBelow (wordAt w 0) (clauseBelow w (wordAt w 5))
     ∷ allBelow (wordAt w 6) (functionOk w)
     ∷ eqb (firstNode w (wordAt w 6)) (wordAt w 8)
     ∷ eqb (firstEvent w (wordAt w 6)) (wordAt w 7)
+    ∷ allBelow (wordAt w 6) (parametersOk w)
     ∷ [])
     e in
     record {
@@ -190,9 +196,11 @@ passed w e =
       head = head-passed w (t 1);
       names = t 2;
       clauses = below-at (clauseOk w) (wordAt w 5) (t 3);
-      functions = below-at (functionOk w) (wordAt w 6) (t 4);
-      nodes = eqb-true (firstNode w (wordAt w 6)) (wordAt w 8) (t 5);
-      events = eqb-true (firstEvent w (wordAt w 6)) (wordAt w 7) (t 6);
+      heard = below-at (clauseBelow w (wordAt w 5)) (wordAt w 0) (t 4);
+      functions = below-at (functionOk w) (wordAt w 6) (t 5);
+      nodes = eqb-true (firstNode w (wordAt w 6)) (wordAt w 8) (t 6);
+      events = eqb-true (firstEvent w (wordAt w 6)) (wordAt w 7) (t 7);
+      parameters = below-at (parametersOk w) (wordAt w 6) (t 8);
     }
 
 record NodesPassed (w : List ℕ) (s : Scope) (i : ℕ) : Type 0 where
@@ -302,7 +310,39 @@ scope-is w v p =
     let c = counts w in
     λ i. record { parties = sym (c .parties) i; assets = sym (c .assets) i; fields = sym (c .fields) i; strings = sym (c .strings) i; values = v; parameters = p }
 
+-- how many parameters function i has, and what it may name
+pub values-count : (w : List ℕ) (i : ℕ) → length (functionAt w i .values) ≡ functionWord w i 3
+unfolding functionAt
+values-count w i = length-each 0 (functionWord w i 3) _
+
+pub parameters-count : (w : List ℕ) (i : ℕ) → length (functionAt w i .parameters) ≡ functionWord w i 4
+unfolding functionAt
+parameters-count w i = length-each 0 (functionWord w i 4) _
+
+scope-of : (w : List ℕ) (i : ℕ) → scopeIn (contractOf w) (functionAt w i) ≡ scopeAt w (functionWord w i 3) (functionWord w i 4)
+scope-of w i =
+    (λ t. scopeOf (contractOf w) (values-count w i t) (parameters-count w i t)) ∙ sym (scope-is w (functionWord w i 3) (functionWord w i 4))
+
 -- ---- functions and events: those of function i, and of its event j
+
+packed-in : (w : List ℕ) (o n : ℕ) → allBelow n (λ j. packedOk w (o + j * packedWords)) ≡ true
+    → every isName (eachFrom 0 n (λ j. packedWord w (o + j * packedWords))) ≡ true
+unfolding packedOk
+packed-in w o n e =
+    every-row isName n (λ j. packedWord w (o + j * packedWords)) λ j l.
+    both-right (leb (wordAt w (o + j * packedWords)) maxName) (isName (packedWord w (o + j * packedWords)))
+    (below-at (λ j. packedOk w (o + j * packedWords)) n e j l)
+
+names-few : (n : ℕ) (l : List Word) → every isName l ≡ true → length l ≤ n → wordsIn isName n l ≡ true
+unfolding wordsIn
+names-few n l e h = both-true _ _ e (le-leb _ _ h)
+
+parameters-in : (w : List ℕ) (i : ℕ) → parametersOk w i ≡ true → (every isName (functionAt w i .values) ≡ true) × (every isName (functionAt w i .parameters) ≡ true)
+unfolding parametersOk functionAt
+parameters-in w i e =
+    let v = allBelow (functionWord w i 3) (λ j. packedOk w (valuesOf i + j * packedWords)) in
+    let p = allBelow (functionWord w i 4) (λ j. packedOk w (parametersOf i + j * packedWords)) in
+    (packed-in w (valuesOf i) (functionWord w i 3) (both-left v p e), packed-in w (parametersOf i) (functionWord w i 4) (both-right v p e))
 
 module _ (w : List ℕ) (t : Passed w) (i : ℕ) (h : i < wordAt w 6) where
   right : FunctionPassed w i
@@ -328,7 +368,7 @@ module _ (w : List ℕ) (t : Passed w) (i : ℕ) (h : i < wordAt w 6) where
         let x = event-nodes in
         let c = counts w .states in
         record {
-          guard = ap (λ (s : Scope). expressionIn s (expressionAt w (k - argumentAt w k - 1))) (sym (scope-is w (functionWord w i 3) (functionWord w i 4))) ∙ x .guard;
+          guard = ap (λ (s : Scope). expressionIn s (expressionAt w (k - argumentAt w k - 1))) (scope-of w i) ∙ x .guard;
           state = omega (arith, e .state);
           handler = ap (λ (s : Scope). blockIn s (blockBetween w (k - argumentAt w k) k)) (sym (scope-is w 0 0)) ∙ x .handler .inside;
           handler-few = x .handler .few;
@@ -362,16 +402,19 @@ module _ (w : List ℕ) (t : Passed w) (i : ℕ) (h : i < wordAt w 6) where
   unfolding functionAt
   function-fits =
       let r = right in
+      let names = parameters-in w i (t .parameters i h) in
       let a = functionWord w i 5 in
       let p = functionWord w i 6 in
-      let d = sym (scope-is w (functionWord w i 3) (functionWord w i 4)) in
+      let d = scope-of w i in
       let c = counts w in
       record {
         state = omega (arith, r .state, c .states);
         party = omega (arith, r .party, c .parties);
         name = name-in w (functionsStart + i * functionWords + 10) (r .name);
-        values = r .values;
-        parameters = r .parameters;
+        values = names .0;
+        values-few = omega (arith, r .values, values-count w i);
+        parameters = names .1;
+        parameters-few = omega (arith, r .parameters, parameters-count w i);
         precondition = ap (λ (s : Scope). preconditionIn s (preconditionAt w a p)) d ∙ precondition-right .0;
         body = ap (λ (s : Scope). blockIn s (blockBetween w (a + p) (a + p + functionWord w i 7))) d ∙ body-right .inside;
         body-few = body-right .few;
@@ -386,8 +429,8 @@ module _ (w : List ℕ) (t : Passed w) (i : ℕ) (h : i < wordAt w 6) where
       both-true _ _ (lt-ltb _ _ (f .state))
       (both-true _ _ (lt-ltb _ _ (f .party))
       (both-true _ _ (f .name)
-      (both-true _ _ (le-leb _ _ (f .values))
-      (both-true _ _ (le-leb _ _ (f .parameters))
+      (both-true _ _ (names-few maxValues _ (f .values) (f .values-few))
+      (both-true _ _ (names-few maxParameters _ (f .parameters) (f .parameters-few))
       (both-true _ _ (f .precondition)
       (both-true _ _ (f .body)
       (both-true _ _ (le-leb _ _ (f .body-few))
@@ -434,7 +477,20 @@ clause-in w i e =
     let k = clause-fits w i e in
     both-true _ _ (lt-ltb _ _ (k .party)) (both-true _ _ (k .fields) (le-leb _ _ (k .fields-few)))
 
+party-heard : (w : List ℕ) (n p : ℕ) → clauseBelow w n p ≡ true → hasClause (eachFrom 0 n (clauseAt w)) p ≡ true
+unfolding clauseAt
+party-heard w n p e =
+    below-has w n p e λ i h g.
+    has-of (eachFrom 0 n (clauseAt w)) p i (omega (arith, length-each 0 n (clauseAt w))) (clauseAt w 0)
+    (ap (λ (k : Clause). eqb (k .party) p) (getD-each 0 n (clauseAt w) i (clauseAt w 0) h ∙ ap (clauseAt w) (zero-add i)) ∙ g)
+
 -- ---- the whole
+
+zero-at : (n i : ℕ) → wordAt (zeros n) i ≡ 0
+unfolding zeros
+zero-at zero i = refl
+zero-at (suc n) zero = refl
+zero-at (suc n) (suc i) = zero-at n i
 
 names-in : (w : List ℕ) (o n m : ℕ) → n ≤ m → allBelow n (λ i. nameOk w (o + i * nameWords)) ≡ true → wordsIn isName m (eachFrom 0 n (λ i. wordOf w (o + i * nameWords))) ≡ true
 unfolding wordsIn
@@ -484,11 +540,21 @@ module _ (w : List ℕ) (t : Passed w) where
       (both-true _ _ (strings-in w stringsStart (wordAt w 4) maxStrings (h .strings) (names 5))
       (both-true _ _ (every-row (clauseIn (contractOf w)) (wordAt w 5) (clauseAt w) (λ i l. clause-in w i (t .clauses i l)))
       (both-true _ _ (le-leb (length (contractOf w .clauses)) maxClauses (omega (arith, h .clauses, c .clauses)))
+      (both-true _ _
+      (all-below (hasClause (contractOf w .clauses)) (length (contractOf w .parties)) λ p l. party-heard w (wordAt w 5) p (t .heard p (omega (arith, c .parties))))
       (both-true _ _ (lt-ltb (wordAt w 9) (length (contractOf w .states)) (omega (arith, h .initial, c .states)))
       (both-true _ _ (every-row (functionIn (contractOf w)) (wordAt w 6) (functionAt w) (function-in w t))
       (both-true _ _ (le-leb (length (contractOf w .functions)) maxFunctions (omega (arith, h .functions, c .functions)))
       (both-true _ _ (le-leb (total eventCount (contractOf w .functions)) maxEvents (omega (arith, h .events, events-all)))
-      (le-leb (total functionSize (contractOf w .functions)) maxNodes (omega (arith, h .nodes, nodes-total))))))))))))))
+      (le-leb (total functionSize (contractOf w .functions)) maxNodes (omega (arith, h .nodes, nodes-total)))))))))))))))
 
 pub sound : (w : List ℕ) → passes w ≡ true → fits (contractOf w) ≡ true
 sound w e = contract-fits w (passed w e)
+
+-- a table of zeros, whatever its length, has no initial state
+pub zeros-fail : (n : ℕ) → passes (zeros n) ≡ false
+zeros-fail n =
+    by-test (passes (zeros n)) (λ t. absurd (none (passed (zeros n) t .head .initial))) λ t. t
+  where
+    none : wordAt (zeros n) 9 < wordAt (zeros n) 3 → ⊥
+    none h = omega (arith, zero-at n 9, zero-at n 3)

@@ -17,9 +17,6 @@ const NO_TOKEN: u8 = 203;
 
 pub const TEXT_END: u8 = 204;
 
-// Levels of parentheses.
-pub const LEVELS: usize = 16;
-
 // What each part is counted in, and how many values it has.
 const START: u64 = 256;
 

@@ -2,12 +2,20 @@
 // it, and at the end what each asset holds. Its arguments name the contract's file and choose what else is printed.
 use arguments::Asked;
 use contract::Contract;
+use diagnoses::Diagnosis;
 use libc::STDERR_FILENO;
 use libc::STDIN_FILENO;
 use libc::STDOUT_FILENO;
+use question_words::Sentence;
 use reading::Answer;
+use results::Report;
 use results::Written;
 use state::State;
+
+// The bytes of a session that are read at once, and the result lines that are told at once.
+const BLOCK: usize = 65536;
+
+const LINES: usize = 1024;
 
 // ---- files
 
@@ -114,7 +122,7 @@ fn explain(question: u8) -> bool {
     if question == 0 {
         return true;
     }
-    let mut words = [0u8; 64];
+    let mut words = [0u8; Sentence::BYTES];
     let n = question_words::words(question, &mut words);
     if print(b"  ") {
         if print(tokens::between(&words, 0, n)) {
@@ -224,10 +232,10 @@ fn tell(
 
 // A session on the contract in a table, then what each asset holds.
 fn run(table: &[u64], explained: bool) {
-    let mut bytes = [0u8; 65536];
-    let mut numbers = [0u64; 4096];
-    let mut integers = [0i64; 1024];
-    let mut out = [0u8; 131072];
+    let mut bytes = [0u8; BLOCK];
+    let mut numbers = [0u64; LINES * Report::WORDS];
+    let mut integers = [0i64; LINES];
+    let mut out = [0u8; LINES * Report::ROOM];
     let t = take_session(
         table,
         explained,
@@ -247,12 +255,12 @@ fn run(table: &[u64], explained: bool) {
 
 // A refused text: the question and the place, then where that is.
 fn refuse(name: &[u8], text: &[u8], number: u8, place: usize) {
-    let mut line = [0u8; 128];
+    let mut line = [0u8; Report::ROOM];
     let written = results::write_text_refusal(number, place, &mut line);
     if let Written::Wrote(n) = written {
         print(tokens::between(&line, 0, n));
     }
-    let mut out = [0u8; 2048];
+    let mut out = [0u8; Diagnosis::ROOM];
     let n = diagnoses::write(name, text, number, place, &mut out);
     say(tokens::between(&out, 0, n));
 }
@@ -260,7 +268,7 @@ fn refuse(name: &[u8], text: &[u8], number: u8, place: usize) {
 // A line for field x where a clause sets it and no clause agrees on it.
 fn review_field(table: &[u64], x: usize) -> bool {
     if reviews::never_agreed(table, x) {
-        let mut name = [0u8; 32];
+        let mut name = [0u8; Contract::NAME];
         let n = reviews::field_name(table, x, &mut name);
         if print(b"// never agreed: ") {
             if print(tokens::between(&name, 0, n)) {
@@ -301,7 +309,7 @@ fn begin(asked: Asked, name: &[u8], text: &[u8]) {
 
 // The contract's text from the file with a name. There is room for one byte more than a text may have, so that a longer one is refused.
 fn start(asked: Asked, name: &[u8]) {
-    let mut text = [0u8; 16385];
+    let mut text = [0u8; Answer::TEXT + 1];
     let file = os::open_read(name);
     let got = get_all(file, &mut text);
     libc::close(file);
@@ -328,7 +336,7 @@ fn get_argument(i: usize, buffer: &mut [u8]) -> usize {
 // What the arguments ask for. There is room for one byte more than an argument may have, so that a longer one is told.
 fn ask() -> Asked {
     let count = os::arg_count();
-    let mut argument = [0u8; 1025];
+    let mut argument = [0u8; Asked::ARGUMENT_BYTES + 1];
     let mut asked = Asked::nothing();
     let mut i: usize = 1;
     while i < count {
@@ -376,7 +384,7 @@ fn main() {
         start(asked, b"terms.stipula");
         return;
     }
-    let mut name = [0u8; 1025];
+    let mut name = [0u8; Asked::ARGUMENT_BYTES + 1];
     let n = get_argument(asked.file, &mut name);
     start(asked, tokens::between(&name, 0, n));
 }

@@ -8,10 +8,13 @@ ghost use Rattle.results.specs.Coded.{coded, codedAll};
 ghost use Rattle.results.specs.declared.Report.the-variants.{Held};
 ghost use Rattle.desk_lines.specs.Blocks.{kept, closedSize, closed, questionAt, holdings};
 ghost use Rattle.desk_lines.specs.Private.{keptOf};
+use contract::Contract;
+use lines::Line;
+use results::Report;
 use state::State;
 
 // The most bytes that are kept of a line: one more than it may have, so that a longer one is refused.
-const KEPT: usize = 513;
+const KEPT: usize = Line::BYTES + 1;
 
 // The place after n more, at most the size.
 pub fn past(at: usize, n: usize, size: usize) -> usize
@@ -77,7 +80,7 @@ pub fn question_of(numbers: &[u64], i: usize) -> u8
     if numbers.len() < i {
         return 0;
     }
-    let at = 4 * i;
+    let at = Report::WORDS * i;
     let which = contract::word(numbers, at);
     let question = contract::word(numbers, at + 1);
     if question < 256 {
@@ -103,7 +106,7 @@ fn put_held(numbers: &mut [u64], i: usize, amount: u64)
     requires { ⌜ i < 16 ⌝ }
     ensures { λ _. ⌜ now (numbers .exit) ≡ sets (now (numbers .entry)) (4 * i) (coded (Held i amount)) ⌝ }
 {
-    let at = 4 * i;
+    let at = Report::WORDS * i;
     put(numbers, at, 3);
     put(numbers, at + 1, i as u64);
     put(numbers, at + 2, amount);
@@ -119,7 +122,7 @@ pub fn held(table: &[u64], s: State, numbers: &mut [u64]) -> usize
     let count = c.assets;
     let amounts = s.assets;
     let mut i: usize = 0;
-    while i < 16 {
+    while i < Contract::ASSETS {
         if count <= i {
             return i;
         }

@@ -4,14 +4,22 @@ ghost use Prim.Native.Nat.{_≤_};
 ghost use lib.ListN.{length};
 ghost use Rattle.results.specs.Private.{Put};
 ghost use Rattle.diagnoses.specs.Diagnoses.{diagnosis, written, bufferAfter};
+use arguments::Asked;
 
 mod lines;
 mod pieces;
 
-// The most bytes of a file's name, and the bytes that a buffer must have.
-const NAME: usize = 1024;
+// What is said of a refused contract.
+pub struct Diagnosis {}
 
-const ROOM: usize = 2048;
+impl Diagnosis {
+    // The most bytes of a file's name, which is an argument, and the bytes that a buffer must have.
+    pub const FILE: usize = Asked::ARGUMENT_BYTES;
+
+    pub const ROOM: usize = 2048;
+    // The most bytes that are shown of a line.
+    pub const SHOWN: usize = 200;
+}
 
 // The diagnosis, where there is room for any.
 fn put_diagnosis(file: &[u8], text: &[u8], number: u8, place: usize, buffer: &mut [u8]) -> usize
@@ -34,7 +42,7 @@ pub fn write(file: &[u8], text: &[u8], number: u8, place: usize, buffer: &mut [u
     ensures { λ r. ⌜ r ≡ written (now (file .entry)) (now (text .entry)) number place (length (now (buffer .entry))) ⌝ }
     ensures { λ _. ⌜ now (buffer .exit) ≡ bufferAfter (now (file .entry)) (now (text .entry)) number place (now (buffer .entry)) ⌝ }
 {
-    if (file.len() <= NAME) & (ROOM <= buffer.len()) {
+    if (file.len() <= Diagnosis::FILE) & (Diagnosis::ROOM <= buffer.len()) {
         return put_diagnosis(file, text, number, place, buffer);
     }
     0

@@ -3,7 +3,7 @@ ghost use Prim.Native.Nat.{_+_, _≤_};
 ghost use lib.ListN.{length};
 ghost use Rattle.results.specs.Private.{Put};
 ghost use Rattle.diagnoses.specs.Diagnoses.{whereText, whatText, markUnder, sourceText};
-use crate::pieces::SHOWN;
+use crate::Diagnosis;
 use crate::pieces::put_byte;
 use crate::pieces::put_bytes;
 use crate::pieces::put_number;
@@ -44,7 +44,7 @@ fn put_mark(column: usize, buffer: &mut [u8], at: usize) -> usize
     requires { ⌜ 1 ≤ column ⌝ }
     ensures { λ r. ⌜ Put (now (buffer .entry)) at (markUnder column) r (now (buffer .exit)) ⌝ }
 {
-    if SHOWN < column {
+    if Diagnosis::SHOWN < column {
         return at;
     }
     let a = put_spaces(column - 1, buffer, at);

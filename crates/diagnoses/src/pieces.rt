@@ -7,9 +7,9 @@ ghost use Rattle.results.specs.Decimal.{decimal};
 ghost use Rattle.results.specs.Private.{Put};
 ghost use Rattle.question_words.specs.Words.{wordsOf};
 ghost use Rattle.diagnoses.specs.Diagnoses.{shown, shownLine, spaces};
-
-// The most bytes that are shown of a line.
-pub(crate) const SHOWN: usize = 200;
+use crate::Diagnosis;
+use question_words::Sentence;
+use tokens::Digits;
 
 pub(crate) fn put_byte(buffer: &mut [u8], at: usize, b: u8) -> usize
     requires { ⌜ at + 1 ≤ length (now buffer) ⌝ }
@@ -44,7 +44,7 @@ pub(crate) fn put_number(buffer: &mut [u8], at: usize, n: usize) -> usize
     requires { ⌜ at + length (decimal n) ≤ length (now buffer) ⌝ }
     ensures { λ r. ⌜ Put (now (buffer .entry)) at (decimal n) r (now (buffer .exit)) ⌝ }
 {
-    let mut digits = [0u8; 20];
+    let mut digits = [0u8; Digits::MOST];
     let k = io::decimal(n as u64, &mut digits);
     put_bytes(buffer, at, &digits[..k])
 }
@@ -54,7 +54,7 @@ pub(crate) fn put_words(number: u8, buffer: &mut [u8], at: usize) -> usize
     requires { ⌜ at + 64 ≤ length (now buffer) ⌝ }
     ensures { λ r. ⌜ Put (now (buffer .entry)) at (wordsOf number) r (now (buffer .exit)) ⌝ }
 {
-    let mut words = [0u8; 64];
+    let mut words = [0u8; Sentence::BYTES];
     let n = question_words::words(number, &mut words);
     put_bytes(buffer, at, &words[..n])
 }
@@ -76,7 +76,11 @@ fn show(b: u8) -> u8
 fn shown_count(n: usize) -> usize
     ensures { λ r. ⌜ r ≡ min 200 n ⌝ }
 {
-    if n < SHOWN { n } else { SHOWN }
+    if n < Diagnosis::SHOWN {
+        n
+    } else {
+        Diagnosis::SHOWN
+    }
 }
 
 // A line as it is shown.

@@ -9,15 +9,17 @@ use borrow.Author.Tests.{lt-ltb, le-ltb}
 use Rattle.laws.specs.Choice.{pick}
 use Rattle.laws.proofs.Choice.{pick-true, pick-false}
 use Rattle.tokens.specs.Tokens.{between}
-use Rattle.entries.specs.Draft.{Draft, note, limit, slotOf, sectionOf, widthOf, markOf, knownCount, found, rowed, slotted, entered, isDeclared, declaredIn, declare, mention, numberIn, amongIn}
+use Rattle.entries.specs.Draft.{Draft, note, limit, slotOf, sectionOf, widthOf, markOf, knownCount, found, functionCount, rowed, parameterPut, slotted, entered, isDeclared, declaredIn, declare, mention, numberIn, amongIn}
 
 -- ---- name i of a kind
 module _ (s t n : List ℕ) (k i a e : ℕ) (w : List ℕ) (f : w ≡ between s a e) where
   pub entered-table :
-      (t₁ : List ℕ) → t₁ ≡ pick (eqb (sectionOf k) 0) t (rowed t (sectionOf k + widthOf k * i) w) →
+      (t₁ : List ℕ) (j : ℕ) → j ≡ note n functionCount →
+      t₁ ≡ pick (eqb (sectionOf k) 0) (parameterPut j k i w t) (rowed t (sectionOf k + widthOf k * i) w) →
       t₁ ≡ (entered s k i a e (record { table = t; notes = n })) .table
   unfolding entered
-  entered-table t₁ g = g ∙ ap (λ (v : List ℕ). pick (eqb (sectionOf k) 0) t (rowed t (sectionOf k + widthOf k * i) v)) f
+  entered-table t₁ j h g =
+      g ∙ (λ x. pick (eqb (sectionOf k) 0) (parameterPut (h x) k i (f x) t) (rowed t (sectionOf k + widthOf k * i) (f x)))
 
   pub entered-notes :
       (n₁ n₂ : List ℕ) (j m : ℕ) → j ≡ slotOf k → m ≡ markOf w → n₁ ≡ slotted n (j + i) m a e → n₂ ≡ set n₁ k (i + 1) →

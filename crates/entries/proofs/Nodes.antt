@@ -24,7 +24,7 @@ three t t₁ t₂ t₃ o a b d h₁ h₂ h₃ =
     ∙ step t t₁ o o a (b ∷ d ∷ []) refl h₁
 
 -- a run after three words
-after : (t l : List ℕ) (o p a b d : ℕ) (vs : List ℕ) → p ≡ o + 3 → l ≡ sets t o (a ∷ b ∷ d ∷ []) → sets l p vs ≡ sets t o (a ∷ b ∷ d ∷ vs)
+pub after : (t l : List ℕ) (o p a b d : ℕ) (vs : List ℕ) → p ≡ o + 3 → l ≡ sets t o (a ∷ b ∷ d ∷ []) → sets l p vs ≡ sets t o (a ∷ b ∷ d ∷ vs)
 after t l o p a b d vs e h =
     let q : p ≡ suc (suc (suc o)) = omega (arith, e) in
     λ i. sets (h i) (q i) vs

@@ -11,7 +11,8 @@ use Rattle.laws.specs.Choice.{pick}
 use Rattle.laws.specs.Bytes.{sameBytes}
 use Rattle.tokens.specs.Tokens.{between}
 use Rattle.contract.specs.Limits.{maxParties, maxAssets, maxFields, maxStates, maxStrings, maxClauses, maxFunctions, maxEvents, maxNodes, maxValues, maxParameters, maxStatements}
-use Rattle.contract.specs.Table.{nameWords, stringWords, clauseWords, functionWords, eventWords, nodeWords, nameStart, partiesStart, assetsStart, fieldsStart, statesStart, stringsStart, clausesStart, functionsStart, eventsStart, nodesStart, fieldKind, assetKind, valueKind, parameterKind, partyKind}
+use Rattle.contract.specs.Encode.{packedRow}
+use Rattle.contract.specs.Table.{nameWords, stringWords, clauseWords, functionWords, eventWords, nodeWords, packedWords, nameStart, partiesStart, assetsStart, fieldsStart, statesStart, stringsStart, clausesStart, functionsStart, eventsStart, nodesStart, parametersStart, fieldKind, assetKind, valueKind, parameterKind, partyKind}
 use Rattle.entries.specs.declared.Known.{Known}
 
 pub record Draft : Type 0 where
@@ -146,18 +147,30 @@ slotted n j m a e = sets n (slotsStart + slotWords * j) (m ∷ a ∷ e ∷ [])
 unfoldable pub rowed : List ℕ → ℕ → List ℕ → List ℕ
 rowed t o w = sets t o (length w ∷ w)
 
--- where the row of name i of a kind stands; parameters have none
+-- where the rows of a kind of names start; 0 for parameters
 abbrev pub sectionOf : ℕ → ℕ
 sectionOf k = getD (partiesStart ∷ assetsStart ∷ fieldsStart ∷ 0 ∷ 0 ∷ statesStart ∷ stringsStart ∷ []) k 0
 
 abbrev pub widthOf : ℕ → ℕ
 widthOf k = pick (eqb k 6) stringWords nameWords
 
+-- the number of parameter i of a kind among the packed rows, for the last of n functions
+abbrev pub packedNumber : ℕ → ℕ → ℕ → ℕ
+packedNumber n k i = (maxValues + maxParameters) * (n - 1) + pick (eqb k 4) maxValues 0 + i
+
+-- the table after its name is put there
+unfoldable pub parameterPut : ℕ → ℕ → ℕ → List ℕ → List ℕ → List ℕ
+parameterPut n k i w t =
+    pick (ltb (n - 1) maxFunctions) (sets t (parametersStart + packedWords * packedNumber n k i) (packedRow w)) t
+
 -- name i of a kind, from a up to e in the text
 unfoldable pub entered : List ℕ → ℕ → ℕ → ℕ → ℕ → Draft → Draft
 entered s k i a e p =
     record {
-      table = pick (eqb (sectionOf k) 0) (p .table) (rowed (p .table) (sectionOf k + widthOf k * i) (between s a e));
+      table =
+          pick (eqb (sectionOf k) 0)
+          (parameterPut (note (p .notes) functionCount) k i (between s a e) (p .table))
+          (rowed (p .table) (sectionOf k + widthOf k * i) (between s a e));
       notes = set (slotted (p .notes) (slotOf k + i) (markOf (between s a e)) a e) k (i + 1);
     }
 

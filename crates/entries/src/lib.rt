@@ -4,13 +4,13 @@ ghost use mathlib.Core.Path.{_≡_};
 ghost use mathlib.Core.Bool.{true, false};
 ghost use mathlib.Core.List.{[], _∷_};
 ghost use Prim.Native.Nat.{_+_, _-_, _*_, _%_, _≤_, _<_};
-ghost use lib.ListN.{length, set};
+ghost use lib.ListN.{length, set, take, drop};
 ghost use lib.Seq.{sets};
 ghost use lib.Dec.{eqb};
 ghost use Rattle.laws.specs.Choice.{pick};
 ghost use Rattle.laws.specs.Bytes.{sameBytes};
 ghost use Rattle.tokens.specs.Tokens.{between};
-ghost use Rattle.contract.specs.Encode.{zeros};
+ghost use Rattle.contract.specs.Encode.{zeros, packed, packedRow};
 ghost use Rattle.entries.specs.Draft as draft;
 use contract::Clause;
 use contract::Contract;
@@ -54,18 +54,39 @@ pub const WRITTEN: usize = 14;
 
 pub const EXCESS: usize = 15;
 
-// Then a slot of three words for each name; those of functions are the last.
-const SLOTS: usize = 16;
+// The notes: the words above, then a slot for each name, then two words more.
+pub struct Notes {}
 
-const FUNCTION_SLOT: usize = 132;
+impl Notes {
+    // Where the slots start, and the words of one: a mark, where the name starts and where it ends.
+    const SLOTS: usize = EXCESS + 1;
 
-// Nodes of the body at hand, and events of the function at hand.
-pub const BODY: usize = 604;
+    const SLOT: usize = 3;
+    // The first slots of each kind of names; those of functions are the last.
+    const PARTIES: usize = 0;
 
-pub const HERE: usize = 605;
+    const ASSETS: usize = Notes::PARTIES + Contract::PARTIES;
 
-// The words of the notes.
-pub const NOTES: usize = 606;
+    const FIELDS: usize = Notes::ASSETS + Contract::ASSETS;
+
+    const VALUES: usize = Notes::FIELDS + Contract::FIELDS;
+
+    const PARAMETERS: usize = Notes::VALUES + Function::VALUES;
+
+    const STATES: usize = Notes::PARAMETERS + Function::PARAMETERS;
+
+    const STRINGS: usize = Notes::STATES + Contract::STATES;
+
+    const FUNCTIONS: usize = Notes::STRINGS + Contract::STRINGS;
+
+    const NAMES: usize = Notes::FUNCTIONS + Contract::FUNCTIONS;
+    // Nodes of the body at hand, and events of the function at hand.
+    pub const BODY: usize = Notes::SLOTS + Notes::SLOT * Notes::NAMES;
+
+    pub const HERE: usize = Notes::BODY + 1;
+    // The words of the notes.
+    pub const LENGTH: usize = Notes::HERE + 1;
+}
 
 // What a name stands for: the kind of its node and its number; kind 0 where it is unknown.
 pub struct Known {
@@ -176,7 +197,7 @@ fn slot_is(text: &[u8], notes: &[u64], slot: usize, mark: u64, word: &[u8]) -> b
     requires { ⌜ slot ≤ 5000 ⌝ }
     ensures { λ r. ⌜ r ≡ draft.slotIs (now (text .entry)) (now (notes .entry)) slot mark (now (word .entry)) ⌝ }
 {
-    let at = SLOTS + 3 * slot;
+    let at = Notes::SLOTS + Notes::SLOT * slot;
     if contract::word(notes, at) != mark {
         return false;
     }
@@ -196,23 +217,23 @@ fn find_mark(notes: &[u64], mark: u64, slot: usize, many: usize) -> usize
     requires { ⌜ (slot ≤ 132) × (many ≤ 4096) ⌝ }
     ensures { λ r. ⌜ draft.Skips (now (notes .entry)) mark slot 0 many r ⌝ }
 {
-    if notes.len() < SLOTS + 3 * (slot + many) {
+    if notes.len() < Notes::SLOTS + Notes::SLOT * (slot + many) {
         return 0;
     }
     let last = less_one(many);
     let mut i: usize = 0;
     while i < last {
-        let at = SLOTS + 3 * (slot + i);
+        let at = Notes::SLOTS + Notes::SLOT * (slot + i);
         if notes[at] == mark {
             return i;
         }
-        if notes[at + 3] == mark {
+        if notes[at + Notes::SLOT] == mark {
             return i + 1;
         }
         i += 2;
     }
     if i < many {
-        if notes[SLOTS + 3 * (slot + i)] == mark {
+        if notes[Notes::SLOTS + Notes::SLOT * (slot + i)] == mark {
             return i;
         }
     }
@@ -250,14 +271,14 @@ fn slot_of(kind: usize) -> usize
     ensures { λ r. ⌜ r ≤ 132 ⌝ }
 {
     match kind {
-        PARTY => 0,
-        ASSET => 8,
-        FIELD => 24,
-        VALUE => 56,
-        PARAMETER => 64,
-        STATE => 68,
-        STRING => 100,
-        _ => FUNCTION_SLOT,
+        PARTY => Notes::PARTIES,
+        ASSET => Notes::ASSETS,
+        FIELD => Notes::FIELDS,
+        VALUE => Notes::VALUES,
+        PARAMETER => Notes::PARAMETERS,
+        STATE => Notes::STATES,
+        STRING => Notes::STRINGS,
+        _ => Notes::FUNCTIONS,
     }
 }
 
@@ -327,7 +348,13 @@ fn write_slot(notes: &mut [u64], slot: usize, mark: u64, start: usize, end: usiz
     requires { ⌜ slot ≤ 5000 ⌝ }
     ensures { λ _. ⌜ now (notes .exit) ≡ draft.slotted (now (notes .entry)) slot mark start end ⌝ }
 {
-    store_three(notes, SLOTS + 3 * slot, mark, start as u64, end as u64);
+    store_three(
+        notes,
+        Notes::SLOTS + Notes::SLOT * slot,
+        mark,
+        start as u64,
+        end as u64,
+    );
 }
 
 // Where the rows of a kind of names stand; 0 where it has none.
@@ -357,15 +384,82 @@ fn width_of(kind: usize) -> usize
     }
 }
 
-// Row i of a kind, where it has rows.
-fn enter_row(table: &mut [u64], kind: usize, i: usize, word: &[u8])
+// Two bytes of a word from byte i on, the first lowest; then four and eight. A byte past its end is 0.
+fn two_bytes(word: &[u8], i: usize) -> u64
+    requires { ⌜ i ≤ 30 ⌝ }
+    ensures { λ r. ⌜ r ≡ packed (take 2 (drop i (now (word .entry)))) ⌝ }
+    ensures { λ r. ⌜ r < 65536 ⌝ }
+{
+    tokens::byte_at(word, i) as u64 + 256 * tokens::byte_at(word, i + 1) as u64
+}
+
+fn four_bytes(word: &[u8], i: usize) -> u64
+    requires { ⌜ i ≤ 28 ⌝ }
+    ensures { λ r. ⌜ r ≡ packed (take 4 (drop i (now (word .entry)))) ⌝ }
+    ensures { λ r. ⌜ r < 4294967296 ⌝ }
+{
+    two_bytes(word, i) + 65536 * two_bytes(word, i + 2)
+}
+
+fn eight_bytes(word: &[u8], i: usize) -> u64
+    requires { ⌜ i ≤ 24 ⌝ }
+    ensures { λ r. ⌜ r ≡ packed (take 8 (drop i (now (word .entry)))) ⌝ }
+{
+    four_bytes(word, i) + 4294967296 * four_bytes(word, i + 4)
+}
+
+// A word's length and its first 32 bytes, eight in a word of the table.
+fn write_packed(table: &mut [u64], at: usize, word: &[u8])
+    requires { ⌜ at ≤ 100000 ⌝ }
+    ensures { λ _. ⌜ now (table .exit) ≡ sets (now (table .entry)) at (packedRow (now (word .entry))) ⌝ }
+{
+    let a = eight_bytes(word, 0);
+    let b = eight_bytes(word, 8);
+    let c = eight_bytes(word, 16);
+    store_three(table, at, word.len() as u64, a, b);
+    store(table, at + 3, c);
+    store(table, at + 4, eight_bytes(word, 24));
+}
+
+// The first row of a kind of parameters among those of a function.
+fn first_row(kind: usize) -> usize
+    ensures { λ r. ⌜ r ≡ pick (eqb kind 4) 8 0 ⌝ }
+    ensures { λ r. ⌜ r ≤ 8 ⌝ }
+{
+    if kind == PARAMETER {
+        Function::VALUES
+    } else {
+        0
+    }
+}
+
+// Parameter i of a kind, of the last of so many functions.
+fn enter_parameter(table: &mut [u64], functions: usize, kind: usize, i: usize, word: &[u8])
     requires { ⌜ i < 4096 ⌝ }
-    ensures { λ _. ⌜ now (table .exit) ≡ pick (eqb (draft.sectionOf kind) 0) (now (table .entry)) (draft.rowed (now (table .entry)) (draft.sectionOf kind + draft.widthOf kind * i) (now (word .entry))) ⌝ }
+    ensures { λ _. ⌜ now (table .exit) ≡ draft.parameterPut functions kind i (now (word .entry)) (now (table .entry)) ⌝ }
+{
+    let function = less_one(functions);
+    let first = first_row(kind);
+    if function < Contract::FUNCTIONS {
+        let row = Function::NAMES * function + first + i;
+        write_packed(
+            table,
+            contract::PARAMETERS + contract::PACKED_WORDS * row,
+            word,
+        );
+    }
+}
+
+// Row i of a kind, of a parameter for the last of so many functions.
+fn enter_row(table: &mut [u64], functions: usize, kind: usize, i: usize, word: &[u8])
+    requires { ⌜ i < 4096 ⌝ }
+    ensures { λ _. ⌜ now (table .exit) ≡ pick (eqb (draft.sectionOf kind) 0) (draft.parameterPut functions kind i (now (word .entry)) (now (table .entry))) (draft.rowed (now (table .entry)) (draft.sectionOf kind + draft.widthOf kind * i) (now (word .entry))) ⌝ }
 {
     let section = section_of(kind);
-    let width = width_of(kind);
     if section != 0 {
-        write_row(table, section + width * i, word);
+        write_row(table, section + width_of(kind) * i, word);
+    } else {
+        enter_parameter(table, functions, kind, i, word);
     }
 }
 
@@ -384,7 +478,8 @@ fn enter(
     ensures { λ _. ⌜ now (notes .exit) ≡ (draft.entered (now (text .entry)) kind i start end (record { table = now (table .entry); notes = now (notes .entry) })) .notes ⌝ }
 {
     let word = tokens::between(text, start, end);
-    enter_row(table, kind, i, word);
+    let functions = contract::word(notes, FUNCTIONS) as usize;
+    enter_row(table, functions, kind, i, word);
     write_slot(notes, slot_of(kind) + i, mark(word), start, end);
     store(notes, kind, i as u64 + 1);
 }
@@ -701,7 +796,7 @@ fn field_at(table: &mut [u64], notes: &mut [u64], at: usize, j: u64, field: usiz
     ensures { λ _. ⌜ now (notes .exit) ≡ (draft.fieldAt at j field (record { table = now (table .entry); notes = now (notes .entry) })) .notes ⌝ }
 {
     if j < Contract::FIELDS as u64 {
-        store(table, at + 3 + j as usize, field as u64);
+        store(table, at + Clause::FIELDS + j as usize, field as u64);
         store(table, at + 2, j + 1);
     } else {
         store(notes, EXCESS, 1);
@@ -751,7 +846,7 @@ fn is_headed(text: &[u8], notes: &[u64], state: usize, party: usize, word: &[u8]
         Contract::FUNCTIONS
     };
     let mark = head_mark(state, party, word);
-    find_from(text, notes, mark, word, FUNCTION_SLOT, many) < many
+    find_from(text, notes, mark, word, Notes::FUNCTIONS, many) < many
 }
 
 // Question 11 where there are as many functions as can be.
@@ -802,10 +897,10 @@ fn write_head(
     let at = contract::FUNCTIONS + Function::WORDS * i;
     store(table, at, state as u64);
     store(table, at + 1, party as u64);
-    write_row(table, at + 10, word);
+    write_row(table, at + Function::NAME, word);
     write_slot(
         notes,
-        FUNCTION_SLOT + i,
+        Notes::FUNCTIONS + i,
         head_mark(state, party, word),
         start,
         end,
@@ -920,13 +1015,39 @@ pub fn write_counts(table: &mut [u64], notes: &[u64], initial: usize)
     store(table, 9, initial as u64);
 }
 
+// How many words are cleared at once, so that a table is cleared by wide stores.
+const CLEARED: usize = 128;
+
+fn clear_part(part: &mut [u64])
+    ensures { λ _. ⌜ now (part .exit) ≡ zeros (length (now (part .entry))) ⌝ }
+{
+    let mut i: usize = 0;
+    while i < part.len() {
+        part[i] = 0;
+        i += 1;
+    }
+}
+
+// Where the part from a place on ends, among so many words.
+fn part_end(size: usize, from: usize) -> usize
+    requires { ⌜ from < size ⌝ }
+    ensures { λ r. ⌜ (from < r) × (r ≤ size) ⌝ }
+{
+    if size - from < CLEARED {
+        size
+    } else {
+        from + CLEARED
+    }
+}
+
 // A table of zeros.
 pub fn clear(table: &mut [u64])
     ensures { λ _. ⌜ now (table .exit) ≡ zeros (length (now (table .entry))) ⌝ }
 {
     let mut i: usize = 0;
     while i < table.len() {
-        table[i] = 0;
-        i += 1;
+        let end = part_end(table.len(), i);
+        clear_part(&mut table[i..end]);
+        i = end;
     }
 }

@@ -21,7 +21,6 @@ use numbers::Comparison;
 use numbers::Operator;
 use numbers::Truth;
 use numbers::Value;
-use tokens::Token;
 
 // The amounts that expressions read: those of the assets, then those of the asset parameters.
 pub struct Holdings {}
@@ -74,7 +73,7 @@ fn comparison_of(kind: u64) -> Comparison
 fn constant(n: u64) -> Answer
     ensures { λ r. ⌜ r ≡ pick (leb n top) (inRange (pos n)) (Answer.Refused 3) ⌝ }
 {
-    if n <= Token::TOP {
+    if n <= Contract::TOP {
         return numbers::natural(n);
     }
     Answer::Refused(questions::TABLE_CHECK)

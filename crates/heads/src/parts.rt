@@ -6,6 +6,8 @@ ghost use lib.ListN.{length};
 ghost use Rattle.cursors.specs.Packed.{isStop, cursorIn, stepIn};
 ghost use Rattle.reading_laws.specs.Walk as walk;
 ghost use Rattle.reading_laws.specs.Walk.{AgreesWith, draft};
+use contract::Contract;
+use entries::Notes;
 use entries::Rest;
 
 // The names of a list of parameters, which may be empty, and its end.
@@ -67,7 +69,7 @@ fn precondition(text: &[u8], table: &mut [u64], notes: &mut [u64], c: u64) -> u6
             table,
             notes,
             cursors::lex(text, cursors::end_of(c)),
-            cursors::LEVELS,
+            Contract::LEVELS,
             false,
         );
         return cursors::close(text, inner);
@@ -178,8 +180,8 @@ fn function_end(
         return b;
     }
     let l = b;
-    let many = contract::word(notes, entries::BODY) as usize;
-    let events = contract::word(notes, entries::HERE) as usize;
+    let many = contract::word(notes, Notes::BODY) as usize;
+    let events = contract::word(notes, Notes::HERE) as usize;
     let last = cursors::mention_state(text, table, notes, l);
     let rest = Rest {
         last,

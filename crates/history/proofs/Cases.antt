@@ -56,8 +56,8 @@ pub record CallOk (c : Contract) (s : State) (i : Invocation) (n : ℕ) (f : Fun
   pub runs : choose c s i 0 (c .functions) ≡ chosen n f
   pub known : n < length (c .functions)
   pub function-is : getD (c .functions) n noFunction ≡ f
-  pub values : length (i .values) ≡ f .values
-  pub assets : length (i .assets) ≡ f .parameters
+  pub values : length (i .values) ≡ length (f .values)
+  pub assets : length (i .assets) ≡ length (f .parameters)
   pub deposits : every (leZ (pos 0)) (i .assets) ≡ true
   pub went : bodyRan s i f .refusal ≡ 0
   pub spent : every (λ a. eqb a 0) (drop maxAssets (bodyRan s i f .holdings)) ≡ true
@@ -98,7 +98,7 @@ agreement-came c s ps =
 
 module _ (c : Contract) (s : State) (i : Invocation) (e : s .agreed ≡ true) (d : dueIn c s ≡ due.Nothing) where
   module _ (n : ℕ) (f : Function) (k : choose c s i 0 (c .functions) ≡ chosen n f) (l : n < length (c .functions)) (g : getD (c .functions) n noFunction ≡ f)
-      (v : length (i .values) ≡ f .values) (a : length (i .assets) ≡ f .parameters) (z : every (leZ (pos 0)) (i .assets) ≡ true) where
+      (v : length (i .values) ≡ length (f .values)) (a : length (i .assets) ≡ length (f .parameters)) (z : every (leZ (pos 0)) (i .assets) ≡ true) where
     scheduled-came : bodyRan s i f .refusal ≡ 0 → every (λ a. eqb a 0) (drop maxAssets (bodyRan s i f .holdings)) ≡ true → (x : Scheduled)
         → schedule (memoryIn (i .values) (s .clock) (bodyRan s i f)) (s .clock) n 0 (f .events) ≡ x
         → ComesOut c s (call i) (withScheduled s (bodyRan s i f) (f .last) x)
@@ -143,8 +143,8 @@ module _ (c : Contract) (s : State) (i : Invocation) (e : s .agreed ≡ true) (d
       by-cases (ComesOut c s (call i)) _ _ _
       (λ v. by-cases (ComesOut c s (call i)) _ _ _
       (λ z. precondition-came n f k l g
-      (eqb-true _ _ (both-left (eqb (length (i .values)) (f .values)) (eqb (length (i .assets)) (f .parameters)) v))
-      (eqb-true _ _ (both-right (eqb (length (i .values)) (f .values)) (eqb (length (i .assets)) (f .parameters)) v))
+      (eqb-true _ _ (both-left (eqb (length (i .values)) (length (f .values))) (eqb (length (i .assets)) (length (f .parameters))) v))
+      (eqb-true _ _ (both-right (eqb (length (i .values)) (length (f .values))) (eqb (length (i .assets)) (length (f .parameters))) v))
       z
       (preconditionHolds (memoryIn (i .values) (s .clock) (begun s (amounts (i .assets)))) (f .precondition)))
       (λ _. refusal 28))

@@ -21,7 +21,7 @@ pub record BoundedEvent (c : Contract) (e : Event) : Type 0 where
   pub handler-in : blockIn (scopeOf c 0 0) (e .handler) ≡ true
 
 pub record BoundedFunction (c : Contract) (f : Function) : Type 0 where
-  pub parameters-few : f .parameters ≤ maxParameters
+  pub parameters-few : length (f .parameters) ≤ maxParameters
   pub body-few : statements (f .body) ≤ maxStatements
   pub events : (j : ℕ) → BoundedEvent c (getD (f .events) j noEvent)
 
@@ -53,7 +53,7 @@ bounded-function : (c : Contract) (f : Function) → functionIn c f ≡ true →
 bounded-function c f h =
     let t = fits-function c f h in
     record {
-      parameters-few = t .parameters;
+      parameters-few = t .parameters-few;
       body-few = t .body-few;
       events =
           anywhere (BoundedEvent c) noEvent (f .events) (no-event c)

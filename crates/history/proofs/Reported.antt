@@ -22,7 +22,7 @@ use Rattle.contract.specs.Check.{ranges}
 use Rattle.laws.proofs.Members.{every-head, every-tail, repeated-length}
 use Rattle.laws.proofs.Truths.{both-left, both-right, both-true, first-true, second-true}
 use Rattle.laws.specs.Lists.{every}
-use Rattle.contract.specs.Fits.{Scope, preconditionIn, scopeOf, eventIn, functionIn, fits}
+use Rattle.contract.specs.Fits.{Scope, preconditionIn, scopeOf, scopeIn, eventIn, functionIn, fits}
 use Rattle.contract.proofs.Fitting.{FitsFunction, FitsContract, fits-event, fits-function, fits-contract}
 use Rattle.evaluation.specs.Memory.{Memory}
 use Rattle.evaluation.specs.Meaning.{valueOf}
@@ -137,7 +137,7 @@ schedule-stops : (c : Contract) (f : Function) (m : Memory) (t n j : ℕ) (es : 
 unfolding schedule
 schedule-stops c f m t n j [] i = tt
 schedule-stops c f m t n j (e ∷ es) i =
-    scheduled-stops t n j (valueOf m (e .guard)) (value-stops (scopeOf c (f .values) (f .parameters)) m (e .guard) (fits-event c f e (every-head (eventIn c f) e es i) .guard))
+    scheduled-stops t n j (valueOf m (e .guard)) (value-stops (scopeIn c f) m (e .guard) (fits-event c f e (every-head (eventIn c f) e es i) .guard))
     (schedule m t n (suc j) es) (schedule-stops c f m t n (suc j) es (every-tail (eventIn c f) e es i))
 
 precondition-stops : (c : Scope) (m : Memory) (x : Precondition) → preconditionIn c x ≡ true → TruthStops (preconditionHolds m x)
@@ -207,8 +207,8 @@ module _ (c : Contract) (e : fits c ≡ true) where
 
         body-fair : every (leZ (pos 0)) (i .assets) ≡ true → Fair c (bodyRan s i f)
         body-fair p =
-            ran-fair c (scopeOf c (f .values) (f .parameters)) (inside (f .values) (f .parameters) (q .parameters)) (i .values) (values-in (i .values) v) (s .clock) (f .body) (q .body)
-            (begun-right g a (f .values) (f .parameters) (amounts (i .assets)) (amounts-most (i .assets) d p)) (begun-fair c s (amounts (i .assets)))
+            ran-fair c (scopeIn c f) (inside (length (f .values)) (length (f .parameters)) (q .parameters-few)) (i .values) (values-in (i .values) v) (s .clock) (f .body) (q .body)
+            (begun-right g a (length (f .values)) (length (f .parameters)) (amounts (i .assets)) (amounts-most (i .assets) d p)) (begun-fair c s (amounts (i .assets)))
 
         precondition-fine : every (leZ (pos 0)) (i .assets) ≡ true → (u : Truth) → TruthStops u → Once c (byPrecondition s n f (i .values) (begun s (amounts (i .assets))) u)
         unfolding refusal ranges
@@ -222,7 +222,7 @@ module _ (c : Contract) (e : fits c ≡ true) where
             let m = memoryIn (i .values) (s .clock) (begun s (amounts (i .assets))) in
             by-cases (Once c) _ _ _
             (λ _. by-cases (Once c) _ _ _
-            (λ p. precondition-fine p (preconditionHolds m (f .precondition)) (precondition-stops (scopeOf c (f .values) (f .parameters)) m (f .precondition) (q .precondition)))
+            (λ p. precondition-fine p (preconditionHolds m (f .precondition)) (precondition-stops (scopeIn c f) m (f .precondition) (q .precondition)))
             (λ _ _. refused-fine c s 28 refl))
             (λ _ _. refused-fine c s 27 refl)
 

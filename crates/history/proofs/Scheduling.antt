@@ -15,7 +15,7 @@ use Rattle.numbers.specs.declared.Answer.{Answer}
 use Rattle.numbers.specs.declared.Answer.the-variants as answer
 use Rattle.contract.specs.Limits.{top}
 use Rattle.contract.specs.Tree.{Event, Function, Contract}
-use Rattle.contract.specs.Fits.{scopeOf, eventIn}
+use Rattle.contract.specs.Fits.{scopeIn, eventIn}
 use Rattle.laws.proofs.Members.{every-head, every-tail}
 use Rattle.laws.proofs.Truths.{both-true}
 use Rattle.laws.specs.Lists.{every}
@@ -49,11 +49,11 @@ scheduled-in c strings t n j h k (answer.Is (Integer z)) i (no q) e = tt
 scheduled-in c strings t n j h k (answer.Is (Integer z)) i (times ps) e =
     by-cases (Each (λ p. pendingOk c t p ≡ true)) (leZ (pos t) z) _ _ (λ l. more (pending-in c t n j z h k i l) e) (λ _. e)
 
-pub schedule-in : (c : Contract) (f : Function) (n t : ℕ) (m : Memory) → MemoryIn (scopeOf c (f .values) (f .parameters)) m → n < length (c .functions)
+pub schedule-in : (c : Contract) (f : Function) (n t : ℕ) (m : Memory) → MemoryIn (scopeIn c f) m → n < length (c .functions)
     → (j : ℕ) (es : List Event) → j + length es ≡ length (getD (c .functions) n noFunction .events) → every (eventIn c f) es ≡ true → ScheduledIn c t (schedule m t n j es)
 unfolding schedule
 schedule-in c f n t m o h j [] k i = none
 schedule-in c f n t m o h j (e ∷ es) k i =
-    let q = scopeOf c (f .values) (f .parameters) in
+    let q = scopeIn c f in
     scheduled-in c (q .strings) t n j h (omega arith) (valueOf m (e .guard)) (value-in q m o (e .guard) (fits-event c f e (every-head (eventIn c f) e es i) .guard))
     (schedule m t n (suc j) es) (schedule-in c f n t m o h (suc j) es (omega arith) (every-tail (eventIn c f) e es i))

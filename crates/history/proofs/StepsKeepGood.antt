@@ -17,7 +17,7 @@ use Rattle.contract.specs.Check.{passes}
 use Rattle.laws.proofs.Members.{every-at, every-head, every-tail, keep-length}
 use Rattle.laws.proofs.Truths.{both-left, both-right}
 use Rattle.laws.specs.Lists.{every, keep}
-use Rattle.contract.specs.Fits.{blockIn, scopeOf, eventIn, functionIn}
+use Rattle.contract.specs.Fits.{blockIn, scopeOf, scopeIn, eventIn, functionIn}
 use Rattle.contract.proofs.Fitting.{FitsFunction, FitsContract, fits-event, fits-function, fits-contract}
 use Rattle.contract_laws.proofs.Sound.{sound}
 use Rattle.state.specs.declared.State.{State}
@@ -101,15 +101,15 @@ module _ (c : Contract) (t : FitsContract c) where
       call-good i n f ps o v d =
           let q : FitsFunction c f =
           subst (FitsFunction c) (o .function-is) (fits-function c (getD (c .functions) n noFunction) (every-at (functionIn c) (c .functions) (t .functions) n (o .known) noFunction)) in
-          let b = scopeOf c (f .values) (f .parameters) in
+          let b = scopeIn c f in
           let r : Right b (bodyRan s i f) =
           ran-right b (t .fields-few) (i .values) (values-in (i .values) v) (s .clock) (f .body) (q .body)
-          (begun-right g a (f .values) (f .parameters) (amounts (i .assets)) (amounts-most (i .assets) d (o .deposits))) in
+          (begun-right g a (length (f .values)) (length (f .parameters)) (amounts (i .assets)) (amounts-most (i .assets) d (o .deposits))) in
           let es : Each (λ p. pendingOk c (s .clock) p ≡ true) ps =
           subst (ScheduledIn c (s .clock)) (o .given)
           (schedule-in c f n (s .clock) (memoryIn (i .values) (s .clock) (bodyRan s i f)) (memory-in b (t .fields-few) (i .values) (values-in (i .values) v) (s .clock) r) (o .known)
           0 (f .events) (zero-add (length (f .events)) ∙ ap (λ (h : Function). length (h .events)) (sym (o .function-is))) (q .events)) in
-          ended-good g a (f .values) (f .parameters) (bodyRan s i f) r (t .assets-few) (f .last) (q .last) (live s ++ ps)
+          ended-good g a (length (f .values)) (length (f .parameters)) (bodyRan s i f) r (t .assets-few) (f .last) (q .last) (live s ++ ps)
           (omega (arith, length-append (live s) ps, o .room)) (each-append (live-ok c s (good-within g)) es)
 
       firing-good : (k : ℕ) → Good c (ended s (handlerRan c s k) (eventAt c s k .last) (live (removed s k)))

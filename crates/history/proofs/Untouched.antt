@@ -8,11 +8,12 @@ use lib.Seq.{sets}
 use lib.Dec.{leb, ltb}
 use lib.IntN.{ℤ}
 use Rattle.laws.specs.Choice.{pick}
-use Rattle.laws.proofs.Choice.{true-false}
+use Rattle.laws.proofs.Choice.{true-false, pick-false}
 use Rattle.contract.specs.Tree.{Contract}
 use Rattle.contract.specs.Decode.{contractOf}
 use Rattle.contract.specs.Check.{passes}
 use Rattle.contract.specs.Encode.{zeros}
+use Rattle.contract_laws.proofs.Sound.{zeros-fail}
 use Rattle.reading.specs.Reading.{refused, readText, tableOf}
 use Rattle.state.specs.declared.State.{State}
 use Rattle.state.specs.States.{stateOk}
@@ -20,8 +21,9 @@ use Rattle.statements.specs.declared.Label.{Label}
 use Rattle.results.specs.declared.Report.{Report}
 use Rattle.results.specs.Coded.{codedAll, integersOf}
 use Rattle.results.proofs.Refusals.{refused-writes-nothing}
+use Rattle.outcomes.specs.declared.Outcome.the-variants.{Refused}
 use Rattle.outcomes.specs.declared.Stepped.{Stepped}
-use Rattle.machine.specs.Steps.{Request}
+use Rattle.machine.specs.Steps.{Request, step}
 use Rattle.step_reports.specs.Reports.{maxTold}
 use Rattle.machine.specs.Sessions.{Session, session, notPlayed, played, reportsOf}
 use Rattle.steps.specs.Left.{copiedOf}
@@ -73,6 +75,15 @@ labels-same w s a e =
 table-zeros : (text : List ℕ) (words q p : ℕ) → readText text words ≡ refused q p → tableOf words (readText text words) ≡ zeros words
 table-zeros text words q p e = ap (tableOf words) e
 
+-- question 3 comes first
+step-unread : (w : List ℕ) (s : State) (a : Step) → passes w ≡ false → answerTo w s a .outcome ≡ Refused 3
+unfolding answerTo step
+step-unread w s a e = ap (λ (r : Stepped). r .outcome) (pick-false _ _ _ e)
+
+zeros-unread : (text : List ℕ) (words q p : ℕ) (s : State) (a : Step) → readText text words ≡ refused q p
+    → answerTo (tableOf words (readText text words)) s a .outcome ≡ Refused 3
+zeros-unread text words q p s a e = step-unread _ s a (ap passes (table-zeros text words q p e) ∙ zeros-fail words)
+
 -- ---- a session
 
 -- question 3, 4 or 20 has done nothing and told nothing
@@ -104,6 +115,7 @@ untouched =
       labels = labels-same;
       state = λ w s a. step-idle w s a .state-same;
       table = table-zeros;
+      unread-table = zeros-unread;
       results = refused-writes-nothing;
       line = λ c s n. refl;
       session-state = λ w s bytes room h. refused-session w s bytes room h .0;

@@ -12,7 +12,7 @@ use Rattle.laws.specs.Lists.{every, repeated, allBelow}
 use Rattle.tokens.specs.Classes.{within, isLetter, isNameByte, isStringByte}
 use Rattle.contract.specs.Tree.{Contract}
 use Rattle.contract.specs.Sizes.{statements, expressionSize, conditionSize, preconditionSize, actionSize, blockSize, eventSize, eventsSize, functionSize}
-use Rattle.contract.specs.Fits.{total, isName, isString, holderIn, expressionIn, conditionIn, actionIn, blockIn, preconditionIn, scopeOf, eventIn, functionIn, clauseIn, wordsIn, fits}
+use Rattle.contract.specs.Fits.{total, isName, isString, holderIn, expressionIn, conditionIn, actionIn, blockIn, preconditionIn, scopeOf, eventIn, functionIn, clauseIn, wordsIn, hasClause, fits}
 use Rattle.contract.specs.Encode.{encode}
 use Rattle.contract_laws.proofs.Passing.{passing}
 use Rattle.contract_laws.proofs.RoundTrip.{decode-encode}
@@ -66,7 +66,7 @@ all-direct (c ∷ cs) h = (λ i. case-direct c (every-head passed c cs h) i ∷ 
 
 all-passed : every passed cases ≡ true
 unfolding isLetter isNameByte isStringByte within statements expressionSize conditionSize preconditionSize actionSize blockSize eventSize eventsSize functionSize
-    total isName isString holderIn expressionIn conditionIn actionIn blockIn preconditionIn scopeOf eventIn functionIn clauseIn wordsIn fits
+    total isName isString holderIn expressionIn conditionIn actionIn blockIn preconditionIn scopeOf eventIn functionIn clauseIn wordsIn hasClause fits
     pick every allBelow repeated freshAt withPending fieldOk fieldSlotOk assetSlotOk pendingOk isBlank pendingSlotOk stateOk
 all-passed = refl
 

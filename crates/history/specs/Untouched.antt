@@ -32,6 +32,9 @@ pub record Untouched : Type 0 where
   pub state : (w : List ℕ) (s : State) (a : Step) → isRefused (answerTo w s a .outcome) ≡ true → answerTo w s a .state ≡ s
   -- a refused reading leaves a table of zeros, whatever its number
   pub table : (text : List ℕ) (words q p : ℕ) → readText text words ≡ refused q p → tableOf words (readText text words) ≡ zeros words
+  -- and every step on that table answers 3
+  pub unread-table : (text : List ℕ) (words q p : ℕ) (s : State) (a : Step) → readText text words ≡ refused q p
+      → answerTo (tableOf words (readText text words)) s a .outcome ≡ Refused 3
   -- a refused writing of result lines leaves the bytes that were lent for them
   pub results : RefusedWritesNothing
   -- a session line that questions 50 and 51 refuse leaves the state

@@ -13,6 +13,7 @@ ghost use Rattle.tokens.specs.Tokens.{between};
 ghost use Rattle.lines.specs.Lines.{asked, skipped, mark, end, name, digits, integer, verb, field, list, items, names, lists, part, parts, tickLine, agreementLine, orRefused};
 ghost use Rattle.lines.specs.Answers.{plain, lineOf, agreementOf, partsOf};
 ghost use Rattle.lines.specs.Private.{placeOf, isDone, nameOf, verbOf, wholeOf, pairOf, namesOf, Stored, StoredCall, StoredFields, StoredPart, StoredParts};
+use numbers::Value;
 
 // What a session line asks for.
 pub enum Request {
@@ -161,27 +162,24 @@ fn name(line: &[u8], at: usize) -> Found
     Found::Nothing
 }
 
-// 2 ^ 63.
-const LIMIT: u64 = 9223372036854775808;
-
-// A number from 0 on that ends at `end`, if it is below LIMIT.
+// A number from 0 on that ends at `end`, if it is below 2 ^ 63.
 fn natural(n: u64, end: usize) -> Whole
     ensures { λ r. ⌜ r ≡ pick (inside (pos n)) (Whole.Is (pos n) end) Whole.Nothing ⌝ }
 {
-    if LIMIT <= n {
+    if Value::LIMIT <= n {
         return Whole::Nothing;
     }
     Whole::Is(n as i64, end)
 }
 
-// A number up to 0 by its distance from zero, if that is at most LIMIT.
+// A number up to 0 by its distance from zero, if that is at most 2 ^ 63.
 fn negative(n: u64, end: usize) -> Whole
     ensures { λ r. ⌜ r ≡ pick (inside (negℤ (pos n))) (Whole.Is (negℤ (pos n)) end) Whole.Nothing ⌝ }
 {
     if n == 0 {
         return Whole::Is(0, end);
     }
-    if LIMIT < n {
+    if Value::LIMIT < n {
         return Whole::Nothing;
     }
     Whole::Is(-1 - ((n - 1) as i64), end)

@@ -56,19 +56,19 @@ module _ (s : State) (n : ℕ) (f : Function) (v : List ℤ) (w : Work) where
 
 -- ---- the arguments
 module _ (s : State) (v a : List ℤ) (n : ℕ) (f : Function) where
-  pub wrong-values : (length v ≡ f .values → ⊥) → refused s 27 ≡ invoked s (arguments v a) n f
+  pub wrong-values : (length v ≡ length (f .values) → ⊥) → refused s 27 ≡ invoked s (arguments v a) n f
   unfolding invoked
-  wrong-values h = sym (pick-false _ _ _ (rw (ne-eqb (length v) (f .values) h)))
+  wrong-values h = sym (pick-false _ _ _ (rw (ne-eqb (length v) (length (f .values)) h)))
 
-  module _ (l : length v ≡ f .values) where
-    pub wrong-assets : (length a ≡ f .parameters → ⊥) → refused s 27 ≡ invoked s (arguments v a) n f
+  module _ (l : length v ≡ length (f .values)) where
+    pub wrong-assets : (length a ≡ length (f .parameters) → ⊥) → refused s 27 ≡ invoked s (arguments v a) n f
     unfolding invoked
-    wrong-assets h = sym (pick-false _ _ _ (rw (eq-eqb (length v) (f .values) l) (ne-eqb (length a) (f .parameters) h)))
+    wrong-assets h = sym (pick-false _ _ _ (rw (eq-eqb (length v) (length (f .values)) l) (ne-eqb (length a) (length (f .parameters)) h)))
 
-    module _ (k : length a ≡ f .parameters) where
+    module _ (k : length a ≡ length (f .parameters)) where
       counted : invoked s (arguments v a) n f ≡ pick (every (leZ (pos 0)) a) (byPrecondition s n f v (begun s (amounts a)) (preconditionHolds (memoryIn v (s .clock) (begun s (amounts a))) (f .precondition))) (refused s 28)
       unfolding invoked
-      counted = pick-true _ _ _ (rw (eq-eqb (length v) (f .values) l) (eq-eqb (length a) (f .parameters) k))
+      counted = pick-true _ _ _ (rw (eq-eqb (length v) (length (f .values)) l) (eq-eqb (length a) (length (f .parameters)) k))
 
       pub negative-asset : every (leZ (pos 0)) a ≡ false → refused s 28 ≡ invoked s (arguments v a) n f
       negative-asset h = sym (counted ∙ pick-false _ _ _ h)

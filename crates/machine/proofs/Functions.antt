@@ -19,7 +19,7 @@ use Rattle.contract.specs.Rows.{functionRowOf}
 use Rattle.contract.specs.declared.Function as rows
 use Rattle.contract.specs.Decode.{eachFrom, wordOf, preconditionAt, blockBetween, eventAt, functionAt, contractOf}
 use Rattle.contract.specs.Check.{nameOk, scopeAt, preconditionOk, bodyOk, eventOk, eventFirst, firstNode, firstEvent, functionNodesOk, functionOk, passes}
-use Rattle.contract_laws.proofs.Sound.{passed}
+use Rattle.contract_laws.proofs.Sound.{passed, values-count, parameters-count}
 use Rattle.state.specs.declared.State.{State}
 use Rattle.state.specs.States.{noEvent}
 use Rattle.state.proofs.Decoded.{each-length, each-at}
@@ -155,13 +155,11 @@ choose-named c s m n (f ∷ fs) = ap (pick (answersTo c s m f) (chosen n f)) (ch
 
 -- ---- a function's row, and what stands there
 module _ (w : List ℕ) (n : ℕ) (row : rows.Function) (r : row ≡ functionRowOf w n) where
-  pub row-values : row .values ≡ functionAt w n .values
-  unfolding functionAt
-  row-values = ap (λ (x : rows.Function). x .values) r
+  pub row-values : row .values ≡ length (functionAt w n .values)
+  row-values = ap (λ (x : rows.Function). x .values) r ∙ sym (values-count w n)
 
-  pub row-parameters : row .parameters ≡ functionAt w n .parameters
-  unfolding functionAt
-  row-parameters = ap (λ (x : rows.Function). x .parameters) r
+  pub row-parameters : row .parameters ≡ length (functionAt w n .parameters)
+  row-parameters = ap (λ (x : rows.Function). x .parameters) r ∙ sym (parameters-count w n)
 
   pub row-last : row .last ≡ functionAt w n .last
   unfolding functionAt

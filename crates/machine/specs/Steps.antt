@@ -130,7 +130,7 @@ byPrecondition s n f v w (truth.Holds true) = finished s n f v (ran v (s .clock)
 -- 27 and 28, then the precondition
 unfoldable pub invoked : State → Invocation → ℕ → Function → Stepped
 invoked s i n f =
-    pick (eqb (length (i .values)) (f .values) && eqb (length (i .assets)) (f .parameters))
+    pick (eqb (length (i .values)) (length (f .values)) && eqb (length (i .assets)) (length (f .parameters)))
     (pick (every (leZ (pos 0)) (i .assets))
     (let w = begun s (amounts (i .assets)) in
     byPrecondition s n f (i .values) w (preconditionHolds (memoryIn (i .values) (s .clock) w) (f .precondition)))

@@ -42,9 +42,6 @@ use statements::Ran;
 
 mod turns;
 
-// At which of the words of a function's row its name stands.
-const FUNCTION_NAME: usize = Function::WORDS - contract::NAME_WORDS;
-
 // What came of a session: the question that refused it or 0, the state after it, how many bytes were taken, and how many result lines
 // there are. `many` 0 with question 0 means that nothing is due and no line is whole.
 pub struct Played {
@@ -302,7 +299,7 @@ fn answers_to(table: &[u64], i: usize, state: usize, caller: &[u8], function: &[
     ) {
         return table_names::same_name(
             table,
-            contract::FUNCTIONS + i * Function::WORDS + FUNCTION_NAME,
+            contract::FUNCTIONS + i * Function::WORDS + Function::NAME,
             function,
         );
     }

@@ -3,17 +3,19 @@ ghost use mathlib.Core.Path.{_≡_};
 ghost use lib.IntN.{pos, natAbs, negℤ, _+ℤ_, _-ℤ_, _*ℤ_};
 ghost use Rattle.numbers.specs.Numbers.{inRange, divided, applied, integers, strings, compared};
 
-const LEAST: i64 = -9223372036854775808;
-
-const TOP: i64 = 9223372036854775807;
-
-// 2 ^ 63: the magnitude of the least integer, and one past the top.
-const LIMIT: u64 = 9223372036854775808;
-
 // A value of a field, a parameter or an expression: an integer, or a string by its number.
 pub enum Value {
     Integer(i64),
     Text(u8),
+}
+
+impl Value {
+    // The greatest integer, and the least.
+    pub const TOP: i64 = 9223372036854775807;
+
+    pub const LEAST: i64 = -1 - Value::TOP;
+    // 2 ^ 63: the magnitude of the least integer, and one past the top.
+    pub const LIMIT: u64 = Value::TOP as u64 + 1;
 }
 
 // What working out an expression gives: a value, or the number of the question that refused.
@@ -60,7 +62,7 @@ pub fn magnitude(a: i64) -> u64
 pub fn natural(n: u64) -> Answer
     ensures { λ r. ⌜ r ≡ inRange (pos n) ⌝ }
 {
-    if LIMIT <= n {
+    if Value::LIMIT <= n {
         return Answer::Refused(questions::RESULT_RANGE);
     }
     Answer::Is(Value::Integer(n as i64))
@@ -73,7 +75,7 @@ fn negative(n: u64) -> Answer
     if n == 0 {
         return Answer::Is(Value::Integer(0));
     }
-    if LIMIT < n {
+    if Value::LIMIT < n {
         return Answer::Refused(questions::RESULT_RANGE);
     }
     Answer::Is(Value::Integer(-1 - ((n - 1) as i64)))
@@ -83,12 +85,12 @@ fn add(a: i64, b: i64) -> Answer
     ensures { λ r. ⌜ r ≡ inRange (a +ℤ b) ⌝ }
 {
     if a < 0 {
-        if b < LEAST - a {
+        if b < Value::LEAST - a {
             return Answer::Refused(questions::RESULT_RANGE);
         }
         Answer::Is(Value::Integer(a + b))
     } else {
-        if TOP - a < b {
+        if Value::TOP - a < b {
             return Answer::Refused(questions::RESULT_RANGE);
         }
         Answer::Is(Value::Integer(a + b))
@@ -99,7 +101,7 @@ fn add(a: i64, b: i64) -> Answer
 fn sub(a: i64, b: i64) -> Answer
     ensures { λ r. ⌜ r ≡ inRange (a -ℤ b) ⌝ }
 {
-    if LEAST < b {
+    if Value::LEAST < b {
         return add(a, 0 - b);
     }
     if a < 0 {
@@ -117,7 +119,7 @@ fn mul(a: i64, b: i64) -> Answer
     if m == 0 {
         return Answer::Is(Value::Integer(0));
     }
-    if LIMIT / m < n {
+    if Value::LIMIT / m < n {
         return Answer::Refused(questions::RESULT_RANGE);
     }
     if (a < 0) == (b < 0) {

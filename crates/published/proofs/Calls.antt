@@ -14,7 +14,7 @@ use Rattle.numbers.specs.declared.Truth.{Truth}
 use Rattle.numbers.specs.declared.Truth.the-variants as truth
 use Rattle.contract.specs.Limits.{maxAssets}
 use Rattle.contract.specs.Tree.{Function, Contract}
-use Rattle.contract.specs.Fits.{scopeOf, functionIn}
+use Rattle.contract.specs.Fits.{scopeOf, scopeIn, functionIn}
 use Rattle.laws.proofs.Members.{every-head, every-tail}
 use Rattle.laws.proofs.Truths.{both-left, both-right, both-true}
 use Rattle.laws.specs.Lists.{every}
@@ -80,8 +80,8 @@ module _ (c : Contract) (fit : FitsContract c) (s : State) (i : Invocation) wher
   body-fit {f = f} h =
       let g = fits-function c f (first-every (functionIn c) h (fit .functions)) in
       record {
-        scope = scopeOf c (f .values) (f .parameters);
-        limited = record { parties = fit .parties-few; assets = fit .assets-few; parameters = g .parameters };
+        scope = scopeIn c f;
+        limited = record { parties = fit .parties-few; assets = fit .assets-few; parameters = g .parameters-few };
         inside = g .body;
         few = omega (arith, g .body-few);
       }
@@ -98,7 +98,7 @@ module _ (c : Contract) (fit : FitsContract c) (s : State) (i : Invocation) wher
   refused-derives n ls C o = let z : _≡_ {A = ℕ} 0 1 = cc (o .outcome-is) in absurd (omega arith)
 
   module _ (a : s .agreed ≡ true) (d : dueIn c s ≡ due.Nothing) {n : ℕ} {f : Function} (h : First (Called c (s .state) i) n f (c .functions)) where
-    module _ (v : length (i .values) ≡ f .values) (l : length (i .assets) ≡ f .parameters) (p : every (leZ (pos 0)) (i .assets) ≡ true) where
+    module _ (v : length (i .values) ≡ length (f .values)) (l : length (i .assets) ≡ length (f .parameters)) (p : every (leZ (pos 0)) (i .assets) ≡ true) where
       module _ (q : preconditionHolds (bound (memoryAt s) (i .values) (amounts (i .assets))) (f .precondition) ≡ truth.Holds true) where
         scheduled-derives : bodyRan s i f .refusal ≡ 0 → every (λ a. eqb a 0) (drop maxAssets (bodyRan s i f .holdings)) ≡ true → (z : Scheduled)
             → schedule (memoryIn (i .values) (s .clock) (bodyRan s i f)) (s .clock) n 0 (f .events) ≡ z
@@ -134,8 +134,8 @@ module _ (c : Contract) (fit : FitsContract c) (s : State) (i : Invocation) wher
         by-cases Derives _ _ _
         (λ v. by-cases Derives _ _ _
         (λ p. precondition-derives
-        (eqb-true _ _ (both-left (eqb (length (i .values)) (f .values)) (eqb (length (i .assets)) (f .parameters)) v))
-        (eqb-true _ _ (both-right (eqb (length (i .values)) (f .values)) (eqb (length (i .assets)) (f .parameters)) v))
+        (eqb-true _ _ (both-left (eqb (length (i .values)) (length (f .values))) (eqb (length (i .assets)) (length (f .parameters))) v))
+        (eqb-true _ _ (both-right (eqb (length (i .values)) (length (f .values))) (eqb (length (i .assets)) (length (f .parameters))) v))
         p (preconditionHolds (memoryIn (i .values) (s .clock) (begun s (amounts (i .assets)))) (f .precondition)) refl)
         (λ _. refused-derives 28))
         (λ _. refused-derives 27)
@@ -161,7 +161,7 @@ module _ (c : Contract) (fit : FitsContract c) (s : State) (i : Invocation) wher
   -- ---- from the rules to the machine
 
   module _ {n : ℕ} (f : Function) {ps : List Pending}
-      (v : length (i .values) ≡ f .values) (l : length (i .assets) ≡ f .parameters) (p : every (leZ (pos 0)) (i .assets) ≡ true)
+      (v : length (i .values) ≡ length (f .values)) (l : length (i .assets) ≡ length (f .parameters)) (p : every (leZ (pos 0)) (i .assets) ≡ true)
       (q : preconditionHolds (bound (memoryAt s) (i .values) (amounts (i .assets))) (f .precondition) ≡ truth.Holds true)
       (w : bodyRan s i f .refusal ≡ 0) (e : every (λ a. eqb a 0) (drop maxAssets (bodyRan s i f .holdings)) ≡ true)
       (t : Times (memoryIn (i .values) (s .clock) (bodyRan s i f)) n 0 (f .events) ps) (r : length (live s) + length ps ≤ maxPending) where
@@ -176,7 +176,7 @@ module _ (c : Contract) (fit : FitsContract c) (s : State) (i : Invocation) wher
     invoked-is : invoked s i n f ≡ accepted Call (ended s (bodyRan s i f) (f .last) (live s ++ ps)) (bodyRan s i f)
     unfolding invoked
     invoked-is =
-        pick-true _ _ _ (both-true _ _ (eq-eqb (length (i .values)) (f .values) v) (eq-eqb (length (i .assets)) (f .parameters) l))
+        pick-true _ _ _ (both-true _ _ (eq-eqb (length (i .values)) (length (f .values)) v) (eq-eqb (length (i .assets)) (length (f .parameters)) l))
         ∙ pick-true _ _ _ p
         ∙ ap (byPrecondition s n f (i .values) (begun s (amounts (i .assets)))) q
         ∙ finished-is

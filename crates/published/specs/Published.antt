@@ -307,8 +307,8 @@ pub data Table2 (c : Contract) : Configuration → Mark → Configuration → Ty
   function : {q n : ℕ} {f : Function} {m : Memory} {Ψ : List Pending} {i : Invocation} (vs : List ℕ)
       → First (Called c q i) n f (c .functions)
       → NothingReady c q m Ψ
-      → length (i .values) ≡ f .values
-      → length vs ≡ f .parameters
+      → length (i .values) ≡ length (f .values)
+      → length vs ≡ length (f .parameters)
       → i .assets ≡ integers vs
       → preconditionHolds (bound m (i .values) vs) (f .precondition) ≡ Holds true
       → Table2 c (runtime (inState q) m nothing Ψ) (call i)

@@ -6,6 +6,14 @@ ghost use lib.Seq.{sets};
 ghost use Rattle.question_words.specs.Words.{wordsOf};
 ghost use Rattle.question_words.specs.Private.{firstLine, lineIn, Said};
 
+// The words of a question.
+pub struct Sentence {}
+
+impl Sentence {
+    // The most bytes of one.
+    pub const BYTES: usize = 64;
+}
+
 // Where the line with a number starts, the first with 0; the text's end where it has no such line.
 fn line_start(text: &[u8], number: u8) -> usize
     ensures { λ r. ⌜ firstLine (drop r (now (text .entry))) ≡ lineIn number (now (text .entry)) ⌝ }
@@ -27,7 +35,7 @@ fn line_start(text: &[u8], number: u8) -> usize
 }
 
 // Puts what a line has from a place on at the front of the buffer; answers how many bytes that is.
-fn put_rest(text: &[u8], from: usize, buffer: &mut [u8; 64]) -> usize
+fn put_rest(text: &[u8], from: usize, buffer: &mut [u8; Sentence::BYTES]) -> usize
     requires { ⌜ length (firstLine (drop from (now text))) ≤ 64 ⌝ }
     ensures { λ r. ⌜ Said (now (buffer .entry)) (firstLine (drop from (now (text .entry)))) r (now (buffer .exit)) ⌝ }
 {
@@ -46,7 +54,7 @@ fn put_rest(text: &[u8], from: usize, buffer: &mut [u8; 64]) -> usize
 }
 
 // The line of a text with a number.
-fn put(text: &[u8], number: u8, buffer: &mut [u8; 64]) -> usize
+fn put(text: &[u8], number: u8, buffer: &mut [u8; Sentence::BYTES]) -> usize
     requires { ⌜ length (lineIn number (now text)) ≤ 64 ⌝ }
     ensures { λ r. ⌜ Said (now (buffer .entry)) (lineIn number (now (text .entry))) r (now (buffer .exit)) ⌝ }
 {
@@ -55,7 +63,7 @@ fn put(text: &[u8], number: u8, buffer: &mut [u8; 64]) -> usize
 }
 
 // Reading, a table and a state: 1 to 15.
-fn of_reading(number: u8, buffer: &mut [u8; 64]) -> usize
+fn of_reading(number: u8, buffer: &mut [u8; Sentence::BYTES]) -> usize
     requires { ⌜ number < 20 ⌝ }
     ensures { λ r. ⌜ Said (now (buffer .entry)) (wordsOf number) r (now (buffer .exit)) ⌝ }
 {
@@ -83,7 +91,7 @@ fn of_reading(number: u8, buffer: &mut [u8; 64]) -> usize
 }
 
 // Steps and working out: 20 to 41, without 38.
-fn of_steps(number: u8, buffer: &mut [u8; 64]) -> usize
+fn of_steps(number: u8, buffer: &mut [u8; Sentence::BYTES]) -> usize
     requires { ⌜ 20 ≤ number ⌝ }
     requires { ⌜ number < 50 ⌝ }
     ensures { λ r. ⌜ Said (now (buffer .entry)) (wordsOf number) r (now (buffer .exit)) ⌝ }
@@ -118,7 +126,7 @@ fn of_steps(number: u8, buffer: &mut [u8; 64]) -> usize
 }
 
 // Lines: 50 to 53.
-fn of_lines(number: u8, buffer: &mut [u8; 64]) -> usize
+fn of_lines(number: u8, buffer: &mut [u8; Sentence::BYTES]) -> usize
     requires { ⌜ 50 ≤ number ⌝ }
     ensures { λ r. ⌜ Said (now (buffer .entry)) (wordsOf number) r (now (buffer .exit)) ⌝ }
 {
@@ -134,7 +142,7 @@ fn of_lines(number: u8, buffer: &mut [u8; 64]) -> usize
 }
 
 // The words of a question come to the front of the buffer; answers how many bytes they have. A number without words has none.
-pub fn words(number: u8, buffer: &mut [u8; 64]) -> usize
+pub fn words(number: u8, buffer: &mut [u8; Sentence::BYTES]) -> usize
     ensures { λ r. ⌜ r ≡ length (wordsOf number) ⌝ }
     ensures { λ _. ⌜ now (buffer .exit) ≡ sets (now (buffer .entry)) 0 (wordsOf number) ⌝ }
 {

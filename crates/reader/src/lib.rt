@@ -10,6 +10,8 @@ ghost use Rattle.cursors.specs.Packed.{isStop, cursorIn, stepIn};
 ghost use Rattle.reading_laws.specs.Walk as walk;
 ghost use Rattle.reading_laws.specs.Walk.{AgreesWith, draft};
 ghost use Rattle.reading.specs.Reading.{readText, answerOf, tableOf};
+use contract::Contract;
+use entries::Notes;
 use reading::Answer;
 use tokens::Token;
 
@@ -201,7 +203,7 @@ fn pass_over(text: &[u8], table: &mut [u64]) -> Answer
     requires { ⌜ length (now text) ≤ 16384 ⌝ }
     ensures { λ r. ⌜ walk.Ends (walk.walk (now (text .entry)) (draft (now (table .entry)) (zeros 606))) r (now (table .exit)) ⌝ }
 {
-    let mut notes: [u64; entries::NOTES] = [0; entries::NOTES];
+    let mut notes: [u64; Notes::LENGTH] = [0; Notes::LENGTH];
     let r = contract_text(text, table, &mut notes);
     if cursors::stops(r) {
         return Answer::Refused(cursors::kind_of(r), cursors::start_of(r));
@@ -218,7 +220,7 @@ pub fn read(text: &[u8], table: &mut [u64]) -> Answer
     if Answer::TEXT < text.len() {
         return Answer::Refused(questions::TEXT_LENGTH, 0);
     }
-    if table.len() != contract::Contract::TABLE {
+    if table.len() != Contract::TABLE {
         return Answer::Refused(questions::TABLE_LENGTH, 0);
     }
     let answer = pass_over(text, table);

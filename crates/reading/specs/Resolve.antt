@@ -1,7 +1,6 @@
 -- The contract of a text that keeps the rules: names become the numbers of what they name.
 use Prim.Native.Nat.{ℕ}
 use mathlib.Core.List.{List, [], _∷_}
-use lib.ListN.{length}
 use lib.Dec.{eqb}
 use Rattle.laws.specs.Choice.{pick}
 use Rattle.words.specs.Words.{nowWord, trueWord, equal, unequal, atMost, less, greater, andMark, orMark, plusMark, minusMark, timesMark}
@@ -132,8 +131,8 @@ module _ (s : List ℕ) where
         state = stateOf n (f .state);
         party = numberOf (word s (f .party)) (n .parties);
         name = word s (f .name);
-        values = length (f .values);
-        parameters = length (f .parameters);
+        values = n .values;
+        parameters = n .parameters;
         precondition = preconditionOf n (f .precondition);
         body = blockOf n (f .body .statements);
         events = eachOf (eventOf n) (f .body .events);

@@ -10,6 +10,7 @@ use lib.Dec.{eqb, leb, ltb}
 use borrow.Author.Tests.{ltb-true, le-leb, eq-eqb, ne-eqb, eqb-true}
 use Rattle.laws.specs.Choice.{pick}
 use Rattle.laws.proofs.Choice.{by-cases, true-false, pick-true, pick-false}
+use Rattle.contract.proofs.Zeros.{length-zeros}
 use Rattle.contract.specs.Tree.{Word, Clause}
 use Rattle.laws.proofs.Members.{every-head, every-tail}
 use Rattle.laws.proofs.Truths.{both-left, both-true}
@@ -27,7 +28,6 @@ use Rattle.reading_laws.specs.Walk.{closed}
 use Rattle.reading_laws.proofs.NotesKept.{Spared, keeps-then, clauseCount-spared, excess-spared, names-keep}
 use Rattle.reading_laws.proofs.Run.{fresh, findingOf, runNames, runClauses, runInitial, runNamesOf, runContract}
 use Rattle.reading_laws.proofs.NotesSay.{Noted}
-use Rattle.contract_laws.proofs.Lengths.{length-zeros}
 use Rattle.accepted.proofs.Known.{known-few}
 use Rattle.accepted.proofs.Judged.{latest-append}
 use Rattle.reading.proofs.TokenKinds.{Each}
@@ -84,7 +84,7 @@ question-low n f e h = go (eqb (note n 12) 0) refl
 -- ---- words of a table that are not written yet
 
 pub record Zeroed (t : List ℕ) : Type 0 where
-  pub long : length t ≡ 20819
+  pub long : length t ≡ 24659
   pub none : (i : ℕ) → 5027 ≤ i → i < 5587 → getD t i 0 ≡ 0
 
 sets-zeroed : (t : List ℕ) (o : ℕ) (l : List ℕ) → o + length l ≤ 5027 → Zeroed t → Zeroed (sets t o l)
@@ -114,6 +114,12 @@ row-low (suc zero) i h l = omega arith
 row-low (suc (suc zero)) i h l = omega arith
 row-low (suc (suc (suc k))) i h l = absurd (omega arith)
 
+has-section : (k : ℕ) → k < 3 → eqb (sectionOf k) 0 ≡ false
+has-section zero h = refl
+has-section (suc zero) h = refl
+has-section (suc (suc zero)) h = refl
+has-section (suc (suc (suc k))) h = absurd (omega arith)
+
 keeps-room : (n : ℕ) (ks : List Clause) → room ks ≡ false → keepsRules n ks ≡ false
 unfolding keepsRules
 keeps-room n ks e = go (keepsRules n ks) refl
@@ -138,8 +144,8 @@ module _ (s : List ℕ) where
         finding = pick-true (eqb (note (zeros 606) 12) 0) fine (breaks (note (zeros 606) 12) (note (zeros 606) 13)) (eq-eqb _ 0 (zero-word 606 12));
       }
 
-  pub fresh-zeroed : Zeroed (zeros 20819)
-  fresh-zeroed = record { long = length-zeros 20819; none = λ i a b. zero-word 20819 i }
+  pub fresh-zeroed : Zeroed (zeros 24659)
+  fresh-zeroed = record { long = length-zeros 24659; none = λ i a b. zero-word 24659 i }
 
   pub title-zeroed : (x : Span) (t : List ℕ) → isNamed s x ≡ true → Zeroed t → Zeroed (title s (x .start) (x .end) t)
   unfolding title rowed
@@ -154,8 +160,8 @@ module _ (s : List ℕ) where
   entered-zeroed k i x p h b e z =
       let l : length (word s x) ≤ 32 = name-length (word s x) e in
       let r : sectionOf k + widthOf k * i + 33 ≤ 5027 = row-low k i h b in
-      by-cases Zeroed (eqb (sectionOf k) 0) (p .table) (sets (p .table) (sectionOf k + widthOf k * i) (length (word s x) ∷ word s x)) (λ _. z)
-      (λ _. sets-zeroed (p .table) (sectionOf k + widthOf k * i) (length (word s x) ∷ word s x) (omega (arith, r, l)) z)
+      subst Zeroed (sym (pick-false _ _ _ (has-section k h)))
+      (sets-zeroed (p .table) (sectionOf k + widthOf k * i) (length (word s x) ∷ word s x) (omega (arith, r, l)) z)
 
   declare-zeroed : (k : ℕ) (x : Span) (p : Draft) → k < 3 → isNamed s x ≡ true → Zeroed (p .table) → Zeroed (declare s k (x .start) (x .end) p .table)
   unfolding declare
@@ -264,7 +270,7 @@ module _ (s : List ℕ) where
       let p2 = runNames s 2 (c .fields) p1 in
       names-zeroed 0 (c .parties) p2 (omega arith) (h .parties)
       (names-zeroed 2 (c .fields) p1 (omega arith) (h .fields)
-      (names-zeroed 1 (c .assets) p0 (omega arith) (h .assets) (title-zeroed (c .name) (zeros 20819) (h .name) fresh-zeroed)))
+      (names-zeroed 1 (c .assets) p0 (omega arith) (h .assets) (title-zeroed (c .name) (zeros 24659) (h .name) fresh-zeroed)))
 
   names-of-keep : (c : Syntax) (i : ℕ) → Spared i → note (runNamesOf s c fresh .notes) i ≡ 0
   names-of-keep c i x =

@@ -107,7 +107,7 @@ row-many a v fs = refl
 
 -- t has these words in its clause rows, and is u apart from them
 pub record Words (u t : List ℕ) (W : ℕ → ℕ → ℕ) : Type 0 where
-  pub long : length t ≡ 20819
+  pub long : length t ≡ 24659
   pub word : (i j : ℕ) → i < 16 → j < 35 → getD t (5027 + 35 * i + j) 0 ≡ W i j
   pub early : (i : ℕ) → i < 5027 → getD t i 0 ≡ getD u i 0
   pub late : (i : ℕ) → 5587 ≤ i → getD t i 0 ≡ getD u i 0
@@ -129,7 +129,7 @@ places i j m l P f g = go (eqb i m) refl (eqb j l) refl
 pub set-word : (u t : List ℕ) (W Z : ℕ → ℕ → ℕ) (m l o v : ℕ) → Words u t W → m < 16 → l < 35 → o ≡ 5027 + 35 * m + l
     → Z m l ≡ v → ((i j : ℕ) → (i ≡ m → j ≡ l → ⊥) → Z i j ≡ W i j) → Words u (set t o v) Z
 set-word u t W Z m l o v w a b e here other =
-    let z : length t ≡ 20819 = w .long in
+    let z : length t ≡ 24659 = w .long in
     record {
       long = length-set t o v ∙ w .long;
       word = λ i j c d. places i j m l (getD (set t o v) (5027 + 35 * i + j) 0 ≡ Z i j)
@@ -202,7 +202,7 @@ stands-both t o a b f g =
             ap (λ (x : ℕ). getD t x 0) p ∙ g .word (j - length a) (omega (arith, l, h, c)) ∙ sym (getD-append-add a b (j - length a) 0)
             ∙ ap (λ (x : ℕ). getD (a ++ b) x 0) e
 
-rows-from : (t : List ℕ) (ks : List Clause) (i : ℕ) → length t ≡ 20819 → i + length ks ≤ 16 → every (λ k. leb (length (k .fields)) 32) ks ≡ true
+rows-from : (t : List ℕ) (ks : List Clause) (i : ℕ) → length t ≡ 24659 → i + length ks ≤ 16 → every (λ k. leb (length (k .fields)) 32) ks ≡ true
     → ((l j : ℕ) → l < length ks → j < 35 → getD t (5027 + 35 * (i + l) + j) 0 ≡ rowWord ks l j) → Stands t (5027 + 35 * i) (joined clauseRow ks)
 unfolding joined rowWord shortFields
 rows-from t [] i z h e f = record { word = λ j b. absurd (omega arith); ends = omega arith }

@@ -4,7 +4,7 @@ use mathlib.Core.Bool.{true}
 use mathlib.Core.List.{List, [], _∷_, _++_}
 use Prim.Native.Nat.{ℕ, zero, suc, _+_, _-_, _*_, _/_, _%_, _<_, _≤_}
 use native.Mathlib.Omega.{arith}
-use lib.ListN.{length, getD, set, length-append, List·getD-append}
+use lib.ListN.{length, getD, set, take, length-append, List·getD-append}
 use lib.Seq.{getD-append-add, ext-getD}
 use lib.Dec.{leb}
 use borrow.Author.Tests.{leb-true}
@@ -13,7 +13,7 @@ use Rattle.contract.specs.Encode.{padded, joined, clauseRow}
 use Rattle.laws.proofs.Members.{every-head, every-tail}
 use Rattle.laws.specs.Lists.{every}
 use Rattle.contract_laws.proofs.Lengths.{length-padded, length-clauseRow, length-joined}
-use Rattle.reading_laws.proofs.TableSections.{Sections, clauses, widths, lengths, whole, before, after, split, split-set, ten, wide, starts}
+use Rattle.reading_laws.proofs.TableSections.{Sections, clauses, widths, lengths, whole, tableFrom, parameters, before, after, split, split-set, ten, wide, first-starts, first-is, first-set}
 use Rattle.reading_laws.proofs.NotesInvariant.{in-order}
 use Rattle.reading_laws.proofs.NotedRows.{rowWord, padded-word, Words}
 
@@ -40,7 +40,7 @@ middle a c d i h = getD-append-add a (c ++ d) i 0 ∙ List·getD-append c d 0 i 
 after-both : (a c d : List ℕ) (i : ℕ) → getD (a ++ (c ++ d)) (length a + (length c + i)) 0 ≡ getD d i 0
 after-both a c d i = getD-append-add a (c ++ d) (length c + i) 0 ∙ getD-append-add c d i 0
 
-module _ (a c d w : List ℕ) (ks : List Clause) (first : length a ≡ 5027) (size : length c ≡ 560) (long : length (a ++ (c ++ d)) ≡ 20819)
+module _ (a c d w : List ℕ) (ks : List Clause) (first : length a ≡ 5027) (size : length c ≡ 560) (long : length (a ++ (c ++ d)) ≡ 24659)
     (h : Words (a ++ (c ++ d)) w (rowWord ks)) (few : length ks ≤ 16) (short : every (λ k. leb (length (k .fields)) 32) ks ≡ true) where
   rows-long : length (padded 560 (joined clauseRow ks)) ≡ 560
   rows-long =
@@ -84,17 +84,20 @@ module _ (a c d w : List ℕ) (ks : List Clause) (first : length a ≡ 5027) (si
       let l2 : length (padded 560 (joined clauseRow ks) ++ d) ≡ length (padded 560 (joined clauseRow ks)) + length d = length-append (padded 560 (joined clauseRow ks)) d in
       let l3 : length (a ++ (c ++ d)) ≡ length a + length (c ++ d) = length-append a (c ++ d) in
       let l4 : length (c ++ d) ≡ length c + length d = length-append c d in
-      let l5 : length w ≡ 20819 = h .long in
+      let l5 : length w ≡ 24659 = h .long in
       ext-getD 0 w (a ++ (padded 560 (joined clauseRow ks) ++ d)) (omega (arith, n, l1, l2, l3, l4, l5, long, size)) at-place
 
 -- ---- in a table of all its sections
 
 -- a table that had these sections has the clause rows in theirs
-pub rows-whole : (t : Sections) (n u w : List ℕ) (ks : List Clause) → lengths t ≡ widths → u ≡ whole t n → length u ≡ 20819 → Words u w (rowWord ks) → length ks ≤ 16
-    → every (λ k. leb (length (k .fields)) 32) ks ≡ true → w ≡ whole (set t clauses (padded 560 (joined clauseRow ks))) n
+pub rows-whole : (t : Sections) (n u w : List ℕ) (ks : List Clause) → lengths t ≡ widths → u ≡ tableFrom t n → length u ≡ 24659 → Words u w (rowWord ks) → length ks ≤ 16
+    → every (λ k. leb (length (k .fields)) 32) ks ≡ true → w ≡ tableFrom (set t clauses (padded 560 (joined clauseRow ks))) n
 rows-whole t n u w ks z e l h few short =
+    let v = take parameters t in
+    let r = n ++ getD t parameters [] in
     let f = ten t z in
-    let g = e ∙ split t n clauses (omega arith) in
-    section-is (before t clauses) (getD t clauses []) (after t clauses n) w ks (starts t clauses z) (wide t clauses z) (ap length (sym g) ∙ l)
-    (subst (λ (x : List ℕ). Words x w (rowWord ks)) g h) few short
-    ∙ sym (split-set t n clauses (padded 560 (joined clauseRow ks)) (omega arith))
+    let g = e ∙ split v r clauses (omega arith) in
+    section-is (before v clauses) (getD v clauses []) (after v clauses r) w ks (first-starts t clauses z (omega arith)) (ap length (first-is t clauses (omega arith)) ∙ wide t clauses z)
+    (ap length (sym g) ∙ l) (subst (λ (x : List ℕ). Words x w (rowWord ks)) g h) few short
+    ∙ sym (split-set v r clauses (padded 560 (joined clauseRow ks)) (omega arith))
+    ∙ first-set t n clauses (padded 560 (joined clauseRow ks)) (omega arith)

@@ -52,6 +52,9 @@ written-spared = record { low = refl; first = refl; second = refl; outside = ref
 pub clauseCount-spared : Spared clauseCount
 clauseCount-spared = record { low = refl; first = refl; second = refl; outside = refl }
 
+pub functionCount-spared : Spared functionCount
+functionCount-spared = record { low = refl; first = refl; second = refl; outside = refl }
+
 pub excess-spared : Spared excess
 excess-spared = record { low = refl; first = refl; second = refl; outside = refl }
 
@@ -127,7 +130,7 @@ module _ (j : ℕ) (x : Spared j) where
     entered-keeps k i a e p u v =
         keeps-then (slotted-keeps (p .notes) (slotOf k + i) (markOf (between s a e)) a e (slots-end k i u v)) (set-apart j _ k (i + 1) (low-apart k (omega arith)))
 
-    declared-keeps : (k a e : ℕ) (n : List ℕ) → Keeps j n (declaredIn s k a e n)
+    pub declared-keeps : (k a e : ℕ) (n : List ℕ) → Keeps j n (declaredIn s k a e n)
     unfolding declaredIn
     declared-keeps k a e n =
         by-cases (Keeps j n) _ _ _

@@ -25,7 +25,7 @@ use Rattle.reading_laws.proofs.Run.{fresh, findingOf, walked, runContra
 -- what the answer says of the table
 pub record Reads (d : Reading) (r : Answer) (t : List ℕ) : Type 0 where
   pub answer : r ≡ answerOf d
-  pub table : r ≡ Accepted → t ≡ tableOf 20819 d
+  pub table : r ≡ Accepted → t ≡ tableOf 24659 d
 
 abbrev answerFor : Finding → Answer
 answerFor fine = Accepted
@@ -59,7 +59,7 @@ settled-table n t e = go (eqb (note n question) 0) refl
     go true f = pick-true _ _ _ f
     go false f = let z : _≡_ {A = ℕ} 0 1 = ap fineness (sym e ∙ pick-false _ _ _ f) in absurd (omega (arith, z))
 
-whole-text : (s : List ℕ) → length s ≤ 16384 → readText s 20819 ≡ parsed s (parse s)
+whole-text : (s : List ℕ) → length s ≤ 16384 → readText s 24659 ≡ parsed s (parse s)
 unfolding readText
 whole-text s h = pick-true _ _ _ (le-leb (length s) 16384 h) ∙ pick-true _ _ _ refl
 
@@ -95,7 +95,7 @@ module _
           table = λ x. let z : _≡_ {A = ℕ} 0 1 = ap acceptance (sym x ∙ a) in absurd (omega (arith, z));
         }
 
-    pub reads : length s ≤ 16384 → (r : Answer) (t : List ℕ) → Ends (walk s fresh) r t → Reads (readText s 20819) r t
+    pub reads : length s ≤ 16384 → (r : Answer) (t : List ℕ) → Ends (walk s fresh) r t → Reads (readText s 24659) r t
     reads h r t e =
         subst (λ (d : Reading). Reads d r t) (sym (whole-text s h))
         (reads-parse (parse s) refl r t (subst (λ (w : Walk). Ends w r t) walk-run e))

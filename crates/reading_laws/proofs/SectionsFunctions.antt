@@ -8,12 +8,12 @@ use lib.Seq.{sets}
 use borrow.Author.Tests.{lt-ltb}
 use Rattle.laws.proofs.Choice.{pick-true, by-cases}
 use Rattle.tokens.specs.Tokens.{between}
+use Rattle.contract.proofs.Zeros.{length-zeros}
 use Rattle.contract.specs.Tree.{Word, Function}
 use Rattle.contract.specs.Limits.{maxFunctions, maxEvents, maxNodes, maxName}
 use Rattle.contract.specs.Sizes.{blockSize, preconditionSize}
 use Rattle.contract.specs.Table.{functionWords, eventWords, functionsStart, eventsStart, eventKind}
 use Rattle.contract.specs.Encode.{zeros, padded, node, nameRow, functionRow}
-use Rattle.contract_laws.proofs.Lengths.{length-zeros}
 use Rattle.entries.specs.Draft.{Draft, note, withTable, rowed, headed, head, functionRest, eventRow, put, functionCount, written}
 use Rattle.reading_laws.specs.Walk.{nodes, eventWritten}
 use Rattle.reading_laws.proofs.TableSections.{Sections, stored, stored-again}
@@ -87,7 +87,7 @@ rest-is i last first condition body event events p h = ap (λ (q : Draft). q .ta
 
 -- the row of a function
 row-is-function : (first event : ℕ) (f : Function) {q a last values parameters condition body events : ℕ} {w : Word}
-    → q ≡ f .state → a ≡ f .party → last ≡ f .last → values ≡ f .values → parameters ≡ f .parameters → condition ≡ preconditionSize (f .precondition)
+    → q ≡ f .state → a ≡ f .party → last ≡ f .last → values ≡ length (f .values) → parameters ≡ length (f .parameters) → condition ≡ preconditionSize (f .precondition)
     → body ≡ blockSize (f .body) → events ≡ length (f .events) → w ≡ f .name
     → (q ∷ a ∷ last ∷ values ∷ parameters ∷ first ∷ condition ∷ body ∷ event ∷ events ∷ nameRow w) ≡ functionRow first event f
 unfolding functionRow
@@ -98,7 +98,7 @@ row-is-function first event f a b c d e g h i j =
 pub rest-writes : {t : Sections} {ns : List ℕ} {p : Draft} (l : List ℕ) (w : Word) (f : Function) (q a i last first condition body event events : ℕ)
     → Writing t ns p
     → getD t section.functions [] ≡ functionSection (l ++ begunRow q a w) → length l ≡ i * functionWords → i < maxFunctions
-    → q ≡ f .state → a ≡ f .party → last ≡ f .last → note (p .notes) 3 ≡ f .values → note (p .notes) 4 ≡ f .parameters
+    → q ≡ f .state → a ≡ f .party → last ≡ f .last → note (p .notes) 3 ≡ length (f .values) → note (p .notes) 4 ≡ length (f .parameters)
     → condition ≡ preconditionSize (f .precondition) → body ≡ blockSize (f .body) → events ≡ length (f .events) → w ≡ f .name
     → Writing (set t section.functions (functionSection (l ++ functionRow first event f))) ns (functionRest i last first condition body event events p)
 unfolding functionRest

@@ -1,27 +1,30 @@
 -- What a declared or mentioned name does to the rows of its section. Assumes nothing.
 use mathlib.Core.Path.{_≡_, refl, sym, ap, subst, _∙_}
 use mathlib.Core.Bool.{true, false}
-use mathlib.Core.List.{List, [], _∷_, _++_}
+use mathlib.Core.List.{List, [], _∷_, _++_, append-assoc}
 use Prim.Native.Nat.{ℕ, suc, _+_, _-_, _*_, _≤_, _<_}
 use native.Mathlib.Omega.{arith}
 use native.Mathlib.Nat.{suc-mul, mul-comm, mul-le-mul-right}
-use lib.ListN.{length, getD, set}
+use lib.ListN.{length, getD, set, length-append}
 use lib.Seq.{sets, set-getD}
 use lib.Dec.{eqb, ltb}
-use borrow.Author.Tests.{ltb-true}
+use borrow.Author.Tests.{ltb-true, lt-ltb}
 use Rattle.laws.specs.Choice.{pick}
 use Rattle.laws.proofs.Choice.{pick-true, pick-false, by-cases}
 use Rattle.tokens.specs.Tokens.{between}
 use Rattle.contract.specs.Tree.{Word}
-use Rattle.contract.specs.Limits.{maxParties, maxAssets, maxFields, maxStates, maxStrings, maxNodes, maxName, maxString}
-use Rattle.contract.specs.Table.{nameWords, nodeWords}
-use Rattle.contract.specs.Encode.{zeros, padded, joined, nameRow, stringRow}
-use Rattle.entries.specs.Draft.{Draft, note, limit, sectionOf, widthOf, found, rowed, entered, declaredIn, declare, mention, amongIn, written}
+use Rattle.contract.specs.Fits.{isName}
+use Rattle.laws.specs.Lists.{every}
+use Rattle.contract.specs.Limits.{maxParties, maxAssets, maxFields, maxStates, maxStrings, maxFunctions, maxNodes, maxValues, maxParameters, maxName, maxString}
+use Rattle.contract.specs.Table.{nameWords, nodeWords, packedWords, parameterWords, parametersStart}
+use Rattle.contract.specs.Encode.{zeros, padded, joined, nameRow, stringRow, packedRow}
+use Rattle.contract_laws.proofs.Lengths.{length-packs}
+use Rattle.entries.specs.Draft.{Draft, note, limit, sectionOf, widthOf, found, functionCount, withNotes, rowed, parameterPut, entered, declaredIn, declare, mention, amongIn, written}
 use Rattle.reading.specs.Rules.{listed}
-use Rattle.reading_laws.proofs.TableSections.{Sections, widths, startOf, Holds, unmoved, noted, described, stored}
+use Rattle.reading_laws.proofs.TableSections.{Sections, widths, startOf, Holds, noted, described, stored, parameter-stored}
 use Rattle.reading_laws.proofs.TableSections as section
-use Rattle.reading_laws.proofs.SectionsRows.{padded-written, joined-snoc, nameRow-front, stringRow-front}
-use Rattle.reading_laws.proofs.NotesKept.{written-spared, declare-keeps, mention-keeps}
+use Rattle.reading_laws.proofs.SectionsRows.{padded-more, padded-zeros, padded-written, joined-snoc, packed-long, nameRow-front, stringRow-front}
+use Rattle.reading_laws.proofs.NotesKept.{written-spared, functionCount-spared, declared-keeps, declare-keeps, mention-keeps}
 use Rattle.reading_laws.proofs.SectionsNodes.{Writing, writing-held}
 
 -- ---- one more row
@@ -92,6 +95,21 @@ abbrev pub stringRows : Rows 6
 stringRows =
     record { number = section.strings; most = maxStrings; long = maxString; row = stringRow; front = stringRow-front; place = refl; width = pick-true _ _ _ refl; rowed = refl; room = refl; limited = refl; below = omega arith; named = omega arith }
 
+-- the rows of parameters, filled up
+abbrev pub parameterSection : List ℕ → List ℕ
+parameterSection l = padded (maxFunctions * parameterWords) l
+
+-- a part of them, filled up
+pub section-filled : (n : ℕ) (l k : List ℕ) → length k ≤ n → length l + n ≤ maxFunctions * parameterWords → parameterSection (l ++ k) ≡ parameterSection (l ++ padded n k)
+unfolding padded
+section-filled n l k h b =
+    let a = length-append l k in
+    sym (padded-zeros (maxFunctions * parameterWords) (l ++ k) (n - length k) (omega arith)) ∙ ap parameterSection (append-assoc l k (zeros (n - length k)))
+
+row-size : (w : Word) → length (packedRow w) ≡ packedWords
+unfolding packedRow
+row-size w = ap suc (length-packs 4 w)
+
 module _ (s : List ℕ) where
   module _ {k : ℕ} (K : Rows k) where
     -- its section with these names
@@ -144,12 +162,46 @@ module _ (s : List ℕ) where
         (one-more p _ xs (note (p .notes) k) a e c r l f (w .holds) (noted (found 11 o (p .notes)) (w .holds)))))
         (mention-keeps written written-spared s k a e o p (K .named)) w
 
-  -- ---- values and parameters have no rows
+  -- ---- parameters
 
-  pub rowless-writes : {t : Sections} {ns : List ℕ} {p : Draft} (k a e : ℕ) → eqb (sectionOf k) 0 ≡ true → k < 7 → Writing t ns p → Writing t ns (declare s k a e p)
-  unfolding declare entered
-  rowless-writes {t} {ns} {p} k a e z h w =
-      writing-held (declare s k a e p) (unmoved (declare s k a e p) same (w .holds)) (declare-keeps written written-spared s k a e p h) w
+  -- the table after one more parameter of function i: the rows before its kind's are l, x of them for this function
+  parameter-entered : (k i x j a e : ℕ) (l : List ℕ) (xs : List Word) (p : Draft) → eqb (sectionOf k) 0 ≡ true → pick (eqb k 4) maxValues 0 ≡ x → note (p .notes) functionCount ≡ i + 1 → i < maxFunctions
+      → length l ≡ parameterWords * i + packedWords * x → length (joined packedRow xs) ≡ length xs * packedWords → j ≡ length xs
+      → entered s k j a e p .table ≡ sets (p .table) (parametersStart + length (l ++ joined packedRow xs)) (packedRow (between s a e))
+  unfolding entered parameterPut
+  parameter-entered k i x j a e l xs p z y c m n o q =
+      let b = length-append l (joined packedRow xs) in
+      let d : note (p .notes) functionCount - 1 ≡ i = omega (arith, c) in
+      let g : parametersStart + packedWords * ((maxValues + maxParameters) * (note (p .notes) functionCount - 1) + pick (eqb k 4) maxValues 0 + j) ≡ parametersStart + length (l ++ joined packedRow xs) =
+      omega (arith, y, n, o, q, b, d) in
+      pick-true _ _ _ z ∙ pick-true _ _ _ (lt-ltb (note (p .notes) functionCount - 1) maxFunctions (omega (arith, d, m))) ∙ ap (λ (r : ℕ). sets (p .table) r (packedRow (between s a e))) g
+
+  pub parameter-writes : {t : Sections} {ns : List ℕ} {p : Draft} (k i x : ℕ) (l : List ℕ) (xs : List Word) (a e : ℕ) → Writing t ns p → eqb (sectionOf k) 0 ≡ true → k < 7 → pick (eqb k 4) maxValues 0 ≡ x
+      → x + limit k ≤ maxValues + maxParameters → note (p .notes) functionCount ≡ i + 1 → i < maxFunctions → length l ≡ parameterWords * i + packedWords * x → every isName xs ≡ true
+      → getD t section.parameters [] ≡ parameterSection (l ++ joined packedRow xs) → note (p .notes) k ≡ length xs
+      → Writing (set t section.parameters (parameterSection (l ++ joined packedRow (listed k (between s a e) xs)))) ns (declare s k a e p)
+  unfolding declare
+  parameter-writes {t} {ns} {p} k i x l xs a e w z u y v c m n f r d =
+      writing-held (declare s k a e p)
+      (by-cases (λ (q : Draft). Holds (set t section.parameters (parameterSection (l ++ joined packedRow (listed k (between s a e) xs)))) (padded (maxNodes * nodeWords) ns) q) _ _ _
+      (λ b.
+      let g : ltb (length xs) (limit k) ≡ true = ap (λ (i : ℕ). ltb i (limit k)) (sym d) ∙ b in
+      let o : length xs < limit k = ltb-true (length xs) (limit k) g in
+      let j = length-append l (joined packedRow xs) in
+      let long : length (joined packedRow xs) ≡ length xs * packedWords = packed-long xs f in
+      parameter-stored (entered s k (note (p .notes) k) a e q) (length (l ++ joined packedRow xs)) (packedRow (between s a e))
+      (parameter-entered k i x (note (p .notes) k) a e l xs q z y (declared-keeps functionCount functionCount-spared s k a e (p .notes) .same ∙ c) m n long d)
+      (ap (λ (b : List ℕ). sets b (length (l ++ joined packedRow xs)) (packedRow (between s a e))) r
+      ∙ padded-more (maxFunctions * parameterWords) (l ++ joined packedRow xs) (packedRow (between s a e)) (omega (arith, row-size (between s a e), j, long, n, m, o, v))
+      ∙ ap parameterSection (append-assoc l (joined packedRow xs) (packedRow (between s a e)) ∙ ap (λ (b : List ℕ). l ++ b) (sym (joined-snoc packedRow xs (between s a e)) ∙ ap (joined packedRow) (sym (listed-one k (between s a e) xs g)))))
+      h)
+      (λ b.
+      let g : ltb (length xs) (limit k) ≡ false = ap (λ (i : ℕ). ltb i (limit k)) (sym d) ∙ b in
+      described (sym (set-getD t section.parameters []) ∙ ap (set t section.parameters) (r ∙ ap (λ (ys : List Word). parameterSection (l ++ joined packedRow ys)) (sym (listed-none k (between s a e) xs g)))) h))
+      (declare-keeps written written-spared s k a e p u) w
     where
-      same : declare s k a e p .table ≡ p .table
-      same = by-cases (λ (q : Draft). q .table ≡ p .table) _ _ _ (λ _. pick-true _ _ _ z) (λ _. refl)
+      q : Draft
+      q = withNotes p (declaredIn s k a e (p .notes))
+
+      h : Holds t (padded (maxNodes * nodeWords) ns) q
+      h = noted (declaredIn s k a e (p .notes)) (w .holds)

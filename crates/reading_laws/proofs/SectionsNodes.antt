@@ -67,7 +67,7 @@ put-writes {t} {ns} {p} kind argument before w h =
     record {
       holds =
           subst (λ (l : List ℕ). Holds t l (put kind argument before p)) same
-          (node-stored (put kind argument before p) (3 * nodes p) (node kind argument (nodes p - before + 1)) (ap (λ (q : Draft). q .table) r) (w .holds));
+          (node-stored (put kind argument before p) (3 * nodes p) (node kind argument (nodes p - before + 1)) (omega arith) (ap (λ (q : Draft). q .table) r) (w .holds));
       long = omega (arith, w .long);
       size = ap (λ (q : Draft). length (q .notes)) r ∙ length-set (p .notes) written (nodes p + 1) ∙ w .size;
     }

@@ -7,21 +7,17 @@ use native.Mathlib.Omega.{arith}
 use native.Mathlib.Nat.{zero-add, suc-add, sub-zero, suc-sub-suc, zero-sub, add-zero}
 use lib.ListN.{length, getD, drop, length-append}
 use lib.Seq.{sets, sets-eq, length-sets}
+use Rattle.contract.proofs.Zeros.{length-zeros, zeros-more}
 use Rattle.contract.specs.Tree.{Word}
 use Rattle.contract.specs.Limits.{maxName, maxString}
 use Rattle.contract.specs.Fits.{isName, isString}
 use Rattle.laws.specs.Lists.{every}
-use Rattle.contract.specs.Table.{nameWords, stringWords}
-use Rattle.contract.specs.Encode.{zeros, padded, joined, nameRow, stringRow}
-use Rattle.contract_laws.proofs.Lengths.{length-zeros, length-padded, length-nameRow, length-stringRow, length-joined}
+use Rattle.contract.specs.Table.{nameWords, stringWords, packedWords}
+use Rattle.contract.specs.Encode.{zeros, padded, joined, nameRow, stringRow, packedRow}
+use Rattle.contract_laws.proofs.Lengths.{length-padded, length-nameRow, length-stringRow, length-packedRow, length-joined}
 use Rattle.reading_laws.proofs.TableSections.{sets-past, sets-front}
 
 -- ---- zeros
-
-pub zeros-more : (n m : ℕ) → zeros (n + m) ≡ zeros n ++ zeros m
-unfolding zeros
-zeros-more zero m = ap zeros (zero-add m)
-zeros-more (suc n) m = ap zeros (suc-add n m) ∙ ap (λ (r : List ℕ). 0 ∷ r) (zeros-more n m)
 
 pub zero-word : (n j : ℕ) → getD (zeros n) j 0 ≡ 0
 unfolding zeros
@@ -106,6 +102,9 @@ name-long xs e = length-joined nameRow isName nameWords length-nameRow xs e
 
 pub string-long : (xs : List Word) → every isString xs ≡ true → length (joined stringRow xs) ≡ length xs * stringWords
 string-long xs e = length-joined stringRow isString stringWords length-stringRow xs e
+
+pub packed-long : (xs : List Word) → every isName xs ≡ true → length (joined packedRow xs) ≡ length xs * packedWords
+packed-long xs e = length-joined packedRow isName packedWords length-packedRow xs e
 
 -- a row is its front and zeros
 pub nameRow-front : (w : Word) → nameRow w ≡ (length w ∷ w) ++ zeros (maxName - length w)

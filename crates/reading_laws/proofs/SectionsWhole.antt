@@ -4,20 +4,21 @@ use mathlib.Core.List.{List, [], _∷_, _++_}
 use Prim.Native.Nat.{ℕ, suc, _+_, _-_, _*_, _≤_}
 use native.Mathlib.Omega.{arith}
 use native.Mathlib.Nat.{zero-add}
-use lib.ListN.{length, getD, set, drop-of-length-le}
+use lib.ListN.{length, getD, set, take, drop-of-length-le}
 use lib.Seq.{sets, sets-eq}
 use Rattle.laws.proofs.Choice.{by-cases}
 use Rattle.tokens.specs.Tokens.{between}
-use Rattle.contract.specs.Limits.{maxNodes, maxName}
-use Rattle.contract.specs.Table.{nameWords, nodeWords, nameStart}
+use Rattle.contract.proofs.Zeros.{length-zeros, zeros-more}
+use Rattle.contract.specs.Limits.{maxFunctions, maxNodes, maxName}
+use Rattle.contract.specs.Table.{nameWords, nodeWords, parameterWords, nameStart}
 use Rattle.contract.specs.Encode.{zeros, padded, joined, nameRow}
-use Rattle.contract_laws.proofs.Lengths.{length-zeros}
+use Rattle.contract_laws.proofs.Lengths.{length-padded}
 use Rattle.entries.specs.Draft.{Draft, note, withNotes, withTable, rowed, title, counts, partyUsed, written, clauseCount, functionCount, notesLength, bodyNodes, eventsHere}
 use Rattle.reading_laws.specs.Walk.{closed, oneMore, begun}
 use Rattle.reading_laws.proofs.Run.{fresh}
-use Rattle.reading_laws.proofs.TableSections.{Sections, widths, whole, lengths, startOf, Holds, unmoved, wide, stored}
+use Rattle.reading_laws.proofs.TableSections.{Sections, widths, tableFrom, whole, lengths, startOf, Holds, unmoved, wide, stored}
 use Rattle.reading_laws.proofs.TableSections as section
-use Rattle.reading_laws.proofs.SectionsRows.{zeros-more, zero-word, sets-zeros, padded-none, nameRow-front}
+use Rattle.reading_laws.proofs.SectionsRows.{zero-word, sets-zeros, padded-none, nameRow-front}
 use Rattle.reading_laws.proofs.NotesKept.{Keeps, keeps-all, set-keeps, written-spared, closed-keeps, party-keeps}
 use Rattle.reading_laws.proofs.SectionsNodes.{Writing, writing-held, writing-noted, noting-writes}
 
@@ -60,7 +61,7 @@ all-over l vs e =
 
 pub counts-whole : {t : Sections} {ns : List ℕ} {p : Draft} (v : ℕ) (n : List ℕ) → Holds t ns p
     → counts v n (p .table)
-    ≡ whole (set t section.head (note n 0 ∷ note n 1 ∷ note n 2 ∷ note n 5 ∷ note n 6 ∷ note n clauseCount ∷ note n functionCount ∷ note n 7 ∷ note n written ∷ v ∷ [])) ns
+    ≡ tableFrom (set t section.head (note n 0 ∷ note n 1 ∷ note n 2 ∷ note n 5 ∷ note n 6 ∷ note n clauseCount ∷ note n functionCount ∷ note n 7 ∷ note n written ∷ v ∷ [])) ns
 unfolding counts head-words
 counts-whole {t} {ns} {p} v n h =
     stored (withTable p (counts v n (p .table))) section.head 0 0 (head-words n v) (omega arith) refl (omega arith) refl
@@ -94,7 +95,13 @@ zeroed-lengths (n ∷ ns) = λ i. length-zeros n i ∷ zeroed-lengths ns i
 pub fresh-writes : Writing (zeroed widths) [] fresh
 fresh-writes =
     record {
-      holds = record { table = zeroed-whole widths (maxNodes * nodeWords) ∙ ap (whole (zeroed widths)) (no-words (maxNodes * nodeWords)); sized = zeroed-lengths widths };
+      holds = record {
+        table = zeroed-whole (take section.parameters widths) (maxNodes * nodeWords + maxFunctions * parameterWords)
+            ∙ ap (whole (zeroed (take section.parameters widths)))
+            (zeros-more (maxNodes * nodeWords) (maxFunctions * parameterWords) ∙ ap (λ (l : List ℕ). l ++ zeros (maxFunctions * parameterWords)) (no-words (maxNodes * nodeWords)));
+        sized = zeroed-lengths widths;
+        long = length-padded (maxNodes * nodeWords) [] (omega arith);
+      };
       long = ap (λ (k : ℕ). 3 * k) (sym (zero-word notesLength written));
       size = length-zeros notesLength;
     }

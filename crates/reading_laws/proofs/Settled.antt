@@ -64,16 +64,16 @@ module _ (s : List ℕ) (l : ℕ) where
   unfolding readText
   too-long h = pick-false _ _ _ (lt-leb (length s) 16384 h)
 
-  pub wrong-table : length s ≤ 16384 → (l ≡ 20819 → ⊥) → readText s l ≡ refused 2 0
+  pub wrong-table : length s ≤ 16384 → (l ≡ 24659 → ⊥) → readText s l ≡ refused 2 0
   unfolding readText
-  wrong-table h k = pick-true _ _ _ (le-leb (length s) 16384 h) ∙ pick-false _ _ _ (ne-eqb l 20819 k)
+  wrong-table h k = pick-true _ _ _ (le-leb (length s) 16384 h) ∙ pick-false _ _ _ (ne-eqb l 24659 k)
 
 -- a refused reading leaves zeros
 pub refused-zeros : (d : Reading) (l q p : ℕ) → answerOf d ≡ Refused q p → tableOf l d ≡ zeros l
 refused-zeros (accepted c) l q p e = let z : _≡_ {A = ℕ} 0 1 = ap isAccepted e in absurd (omega (arith, z))
 refused-zeros (refused x y) l q p e = refl
 
-module _ (s t₀ t₁ : List ℕ) (l : ℕ) (z : t₀ ≡ zeros l) (h : length s ≤ 16384) (f : l ≡ 20819) (r : Answer) (e : Ends (walk s (draft t₀ (zeros 606))) r t₁) where
+module _ (s t₀ t₁ : List ℕ) (l : ℕ) (z : t₀ ≡ zeros l) (h : length s ≤ 16384) (f : l ≡ 24659) (r : Answer) (e : Ends (walk s (draft t₀ (zeros 606))) r t₁) where
   ended : Reads (readText s l) r t₁
   ended =
       subst (λ (k : ℕ). Reads (readText s k) r t₁) (sym f)

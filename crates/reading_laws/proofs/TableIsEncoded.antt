@@ -12,9 +12,9 @@ use Rattle.contract.specs.Fits.{total}
 use Rattle.laws.proofs.Members.{every-append}
 use Rattle.laws.specs.Lists.{every}
 use Rattle.contract.specs.Limits.{maxParties, maxAssets, maxFields, maxStates, maxStrings, maxClauses, maxFunctions, maxEvents, maxNodes}
-use Rattle.contract.specs.Table.{nameWords, stringWords, clauseWords, functionWords, eventWords, nodeWords}
+use Rattle.contract.specs.Table.{nameWords, stringWords, clauseWords, functionWords, eventWords, nodeWords, parameterWords}
 use Rattle.contract.specs.Sizes.{functionSize}
-use Rattle.contract.specs.Encode.{zeros, padded, joined, nameRow, stringRow, clauseRow, headRow, functionRows, allEventRows, functionNodes, encode}
+use Rattle.contract.specs.Encode.{zeros, padded, joined, nameRow, stringRow, clauseRow, headRow, functionRows, allEventRows, functionNodes, parameterRows, encode}
 use Rattle.contract_laws.proofs.Lengths.{length-functions}
 use Rattle.entries.specs.Draft.{note, limit, written, clauseCount, functionCount, counts}
 use Rattle.reading.specs.Syntax.{Span, Function, Syntax}
@@ -29,18 +29,18 @@ use Rattle.accepted.proofs.Judged.{Clean, judged-clean, clean-first, clean-seco
 use Rattle.accepted.proofs.Counts.{tally, headsIn, tally-append, heads-append, count-latest, count-few, always-on}
 use Rattle.accepted.proofs.CodeItems.{plain-heads, declared-tally, declared-heads, functions-nodes, functions-events, length-each}
 use Rattle.accepted.proofs.FunctionsFit.{clauses-plain}
-use Rattle.reading_laws.proofs.TableSections.{whole, head-load, encode-whole}
+use Rattle.reading_laws.proofs.TableSections.{tableFrom, head-load, encode-whole}
 use Rattle.reading_laws.proofs.Run.{fresh, runNamesOf, runClauses, runContract}
 use Rattle.reading_laws.proofs.NotedContract.{namesItems}
 use Rattle.reading_laws.proofs.NotesKept.{clauseCount-spared, functions-keep}
-use Rattle.reading_laws.proofs.SectionsFunctions.{functionSection, eventSection}
 use Rattle.reading_laws.proofs.SectionsWhole.{no-words, counts-whole}
 use Rattle.reading.proofs.TokenKinds.{Each}
 use Rattle.accepted.proofs.Sorted.{FunctionSorted, SyntaxSorted, parse-sorted}
-use Rattle.reading_laws.proofs.TablesGiven.{prefix-same, settled, plain-late, late-settled, Differ, differ-items, differ-none}
-use Rattle.reading_laws.proofs.TablesTabled.{Mid, withFunctionRows, withEventRows, nodes-after, Tabled}
+use Rattle.accepted.proofs.Late.{plain-late, functions-late}
+use Rattle.reading_laws.proofs.TablesGiven.{prefix-same, settled, late-settled, Differ, differ-items, differ-none}
+use Rattle.reading_laws.proofs.TablesTabled.{Mid, nodes-after, Tabled}
 use Rattle.reading_laws.proofs.TablesDeclared.{headers-kept}
-use Rattle.reading_laws.proofs.TablesFunctions.{Shared, shared-back, functions-late, headers-after, state-shared, functions-tabled}
+use Rattle.reading_laws.proofs.TablesFunctions.{functionsMid, Shared, shared-back, headers-after, state-shared, functions-tabled}
 use Rattle.reading_laws.proofs.TablesStart.{begunWith, namesPlace, clausesPlace, startPlace, clausesOf, startPass, startState, closed-tabled, start-tabled, clause-count}
 
 module _ (s : List ℕ) where
@@ -211,9 +211,7 @@ module _ (s : List ℕ) where
       startNodes = let w = start-tabled s c h (parted l .closing) .writing .long in omega arith
 
       endMid : Mid
-      endMid =
-          withEventRows (withFunctionRows (begunWith (word s (c .name)) (clausesOf s c) (startState s c)) (functionSection ([] ++ functionRows (nodes (startPass s c)) (count 7 (startPlace s c)) Fs)))
-          (eventSection ([] ++ allEventRows (nodes (startPass s c)) Fs))
+      endMid = functionsMid (begunWith (word s (c .name)) (clausesOf s c) (startState s c)) [] [] [] (nodes (startPass s c)) (count 7 (startPlace s c)) Fs
 
       end-tabled : Tabled s functionsEnd endMid ([] ++ joined functionNodes Fs) (runContract s c fresh)
       unfolding functionsEnd Fs endMid runContract startPass
@@ -223,8 +221,8 @@ module _ (s : List ℕ) where
           let f : count 7 (startPlace s c) ≡ 0 = start-count in
           let n : nodes (startPass s c) ≡ 0 = startNodes in
           let b : total functionSize Fs ≤ maxNodes = few-nodes in
-          functions-tabled s N (c .functions) (startPlace s c) (begunWith (word s (c .name)) (clausesOf s c) (startState s c)) [] [] [] (startPass s c)
-          (no-words 2752) (omega arith) (no-words 192) (omega arith) (omega arith) (h .functions) (r .functions) shared-end (start-differ r) (omega arith) (start-tabled s c h (r .closing))
+          functions-tabled s N (c .functions) (startPlace s c) (begunWith (word s (c .name)) (clausesOf s c) (startState s c)) [] [] [] [] (startPass s c)
+          (no-words 2752) (omega arith) (no-words 192) (omega arith) (omega arith) (no-words 3840) (omega arith) (h .functions) (r .functions) shared-end (start-differ r) (omega arith) (start-tabled s c h (r .closing))
 
       clauses-same : clausesOf s c ≡ clausesIn s (N .parties) (N .fields) (c .clauses)
       unfolding clausesOf startPlace known pick
@@ -283,7 +281,7 @@ module _ (s : List ℕ) where
           let nn : nodes (startPass s c) ≡ 0 = startNodes in
           let cc : count 7 (startPlace s c) ≡ 0 = start-count in
           counts-whole (getD (runContract s c fresh .table) 9 0) n (end-tabled .writing .holds)
-          ∙ (λ i. whole
+          ∙ (λ i. tableFrom
           ((names-many 0 (omega arith) i ∷ names-many 1 (omega arith) i ∷ names-many 2 (omega arith) i ∷ names-many 5 (omega arith) i ∷ names-many 6 (omega arith) i
           ∷ clauses-many i ∷ functions-many i ∷ events-many i ∷ nodes-many i ∷ initial-is i ∷ [])
           ∷ nameRow (word s (c .name))
@@ -295,6 +293,7 @@ module _ (s : List ℕ) where
           ∷ padded (maxClauses * clauseWords) (joined clauseRow (clauses-same i))
           ∷ padded (maxFunctions * functionWords) (functionRows (nn i) (cc i) Fs)
           ∷ padded (maxEvents * eventWords) (allEventRows (nn i) Fs)
+          ∷ padded (maxFunctions * parameterWords) (joined parameterRows Fs)
           ∷ []) (padded (maxNodes * nodeWords) (joined functionNodes Fs)))
           ∙ sym (encode-whole (resolve s c))
 

@@ -22,6 +22,7 @@ use Rattle.reading.specs.Rules.{most, numberOf, isAmong, listed, fine, orBreaks
 use Rattle.reading.specs.Resolve.{latestFirst, Names, within}
 use Rattle.contract_laws.proofs.Inversions.{by-test}
 use Rattle.accepted.proofs.Judged.{Clean, test-holds, lesser-right}
+use Rattle.accepted.proofs.Late.{late}
 use Rattle.accepted.proofs.Known.{plain, stays, mention-known, plain-known, plain-all}
 use Rattle.accepted.proofs.CodeInScope.{atSite}
 
@@ -96,16 +97,6 @@ none-among : (w : Word) → isAmong w [] ≡ false
 unfolding numberOf
 none-among w = refl
 
--- items that declare none of the names that all functions share
-abbrev pub late : Item → Bool
-late (declares j x) = ltb 2 j
-late (mentions j x p) = ltb 4 j
-late (uses ks x) = true
-late (counts j p) = true
-late opens = true
-late (heads p q a f) = true
-late (closes p cs) = true
-
 -- items that mention no declared name
 abbrev pub settled : Item → Bool
 settled (declares j x) = true
@@ -116,15 +107,6 @@ settled opens = true
 settled (heads p q a f) = true
 settled (closes p cs) = true
 
-plain-late-one : (i : Item) → plain i ≡ true → late i ≡ true
-plain-late-one (declares j x) e = true-false (sym e)
-plain-late-one (mentions j x p) e = both-left (ltb 4 j) (ltb j 7) e
-plain-late-one (uses ks x) e = refl
-plain-late-one (counts j p) e = refl
-plain-late-one opens e = refl
-plain-late-one (heads p q a f) e = refl
-plain-late-one (closes p cs) e = refl
-
 late-settled-one : (i : Item) → late i ≡ true → settled i ≡ true
 late-settled-one (declares j x) e = refl
 late-settled-one (mentions j x p) e = e
@@ -133,11 +115,6 @@ late-settled-one (counts j p) e = refl
 late-settled-one opens e = refl
 late-settled-one (heads p q a f) e = refl
 late-settled-one (closes p cs) e = refl
-
-pub plain-late : (is : List Item) → every plain is ≡ true → every late is ≡ true
-unfolding every
-plain-late [] e = refl
-plain-late (i ∷ is) e = both-true _ _ (plain-late-one i (both-left (plain i) (every plain is) e)) (plain-late is (both-right (plain i) (every plain is) e))
 
 pub late-settled : (is : List Item) → every late is ≡ true → every settled is ≡ true
 unfolding every
@@ -164,36 +141,6 @@ module _ (s : List ℕ) where
   unfolding latestFirst every
   prefix-items k [] b t = prefix-same (known s k b)
   prefix-items k (i ∷ is) b t = prefix-more (prefix-item k i b (both-left (stays k i) (every (stays k) is) t)) (prefix-items k is (i ∷ b) (both-right (stays k i) (every (stays k) is) t))
-
-  -- ---- late items bring no shared name
-
-  late-item : (k : ℕ) (i : Item) (b : List Item) → k ≤ 2 → late i ≡ true → known s k (i ∷ b) ≡ known s k b
-  unfolding known isOneOf
-  late-item k (declares j x) b h e = pick-false _ _ _ (differ (eqb j k) refl)
-    where
-      differ : (t : Bool) → eqb j k ≡ t → t ≡ false
-      differ true q = let z : 2 < j = ltb-true _ _ e in let y : j ≡ k = eqb-true _ _ q in absurd (omega arith)
-      differ false q = refl
-  late-item k (mentions j x p) b h e = pick-false _ _ _ (differ (eqb j k) refl)
-    where
-      differ : (t : Bool) → eqb j k ≡ t → t ≡ false
-      differ true q = let z : 4 < j = ltb-true _ _ e in let y : j ≡ k = eqb-true _ _ q in absurd (omega arith)
-      differ false q = refl
-  late-item k (uses ks x) b h e = refl
-  late-item k (counts j p) b h e = refl
-  late-item k opens b h e = refl
-  late-item k (heads p q a f) b h e =
-      pick-false _ _ _ (pick-false _ _ _ (differ (eqb k 3) 3 refl (omega arith)) ∙ pick-false _ _ _ (differ (eqb k 4) 4 refl (omega arith)))
-    where
-      differ : (t : Bool) (m : ℕ) → eqb k m ≡ t → 2 < m → t ≡ false
-      differ true m q z = let y : k ≡ m = eqb-true _ _ q in absurd (omega arith)
-      differ false m q z = refl
-  late-item k (closes p cs) b h e = refl
-
-  pub late-known : (k : ℕ) (is b : List Item) → k ≤ 2 → every late is ≡ true → known s k (latestFirst b is) ≡ known s k b
-  unfolding latestFirst every
-  late-known k [] b h e = refl
-  late-known k (i ∷ is) b h e = late-known k is (i ∷ b) h (both-right (late i) (every late is) e) ∙ late-item k i b h (both-left (late i) (every late is) e)
 
   -- ---- declared names differ
 

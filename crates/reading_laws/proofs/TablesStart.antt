@@ -41,11 +41,11 @@ use Rattle.reading_laws.proofs.TablesDeclared.{names-tabled}
 
 -- the sections of an empty table
 abbrev pub none : Mid
-none = record { head = zeros headWords; title = zeros nameWords; clauses = zeros (maxClauses * clauseWords); functions = zeros 2752; events = zeros 192 }
+none = record { head = zeros headWords; title = zeros nameWords; clauses = zeros (maxClauses * clauseWords); functions = zeros 2752; events = zeros 192; parameters = zeros 3840 }
 
 -- with the contract's name
 abbrev pub entitled : Word → Mid
-entitled w = record { head = zeros headWords; title = nameRow w; clauses = zeros (maxClauses * clauseWords); functions = zeros 2752; events = zeros 192 }
+entitled w = record { head = zeros headWords; title = nameRow w; clauses = zeros (maxClauses * clauseWords); functions = zeros 2752; events = zeros 192; parameters = zeros 3840 }
 
 -- and with its clauses
 abbrev pub agreed : Word → List Clause → Mid
@@ -54,7 +54,7 @@ agreed w ks = withClauseRows (entitled w) (padded (maxClauses * clauseWords) (jo
 -- and with its initial state
 abbrev pub begunWith : Word → List Clause → ℕ → Mid
 begunWith w ks v =
-    record { head = set (zeros headWords) 9 v; title = nameRow w; clauses = padded (maxClauses * clauseWords) (joined clauseRow ks); functions = zeros 2752; events = zeros 192 }
+    record { head = set (zeros headWords) 9 v; title = nameRow w; clauses = padded (maxClauses * clauseWords) (joined clauseRow ks); functions = zeros 2752; events = zeros 192; parameters = zeros 3840 }
 
 rules-room : (n : ℕ) (ks : List Clause) → keepsRules n ks ≡ true → room ks ≡ true
 unfolding keepsRules
@@ -73,7 +73,7 @@ module _ (s : List ℕ) where
         writing = writing-described
             (λ i.
             zeros headWords ∷ zeros nameWords ∷ no-rows (maxParties * nameWords) nameRow i ∷ no-rows (maxAssets * nameWords) nameRow i ∷ no-rows (maxFields * nameWords) nameRow i
-            ∷ no-rows (maxStates * nameWords) nameRow i ∷ no-rows (maxStrings * stringWords) stringRow i ∷ zeros (maxClauses * clauseWords) ∷ zeros 2752 ∷ zeros 192 ∷ [])
+            ∷ no-rows (maxStates * nameWords) nameRow i ∷ no-rows (maxStrings * stringWords) stringRow i ∷ zeros (maxClauses * clauseWords) ∷ zeros 2752 ∷ zeros 192 ∷ zeros 3840 ∷ [])
             fresh-writes;
       }
 
@@ -98,7 +98,7 @@ module _ (s : List ℕ) where
   -- ---- clauses
 
   -- rows in the clauses' section
-  rows-written : (t : Sections) (ks : List Clause) (p q : Draft) → Writing t [] p → length (p .table) ≡ 20819 → Good s (p .table) ks q → note (q .notes) written ≡ note (p .notes) written → length (q .notes) ≡ notesLength
+  rows-written : (t : Sections) (ks : List Clause) (p q : Draft) → Writing t [] p → length (p .table) ≡ 24659 → Good s (p .table) ks q → note (q .notes) written ≡ note (p .notes) written → length (q .notes) ≡ notesLength
       → Writing (set t clauses (padded (maxClauses * clauseWords) (joined clauseRow ks))) [] q
   rows-written t ks p q w long g n z =
       let h = w .holds in
@@ -108,6 +108,7 @@ module _ (s : List ℕ) where
         holds = record {
           table = rows-whole t (padded (maxNodes * nodeWords) []) (p .table) (q .table) ks (h .sized) (h .table) long (g .words) f (g .short);
           sized = replaced t clauses (padded (maxClauses * clauseWords) (joined clauseRow ks)) (h .sized) (length-padded (maxClauses * clauseWords) (joined clauseRow ks) (omega arith));
+          long = h .long;
         };
         long = w .long ∙ ap (λ (k : ℕ). 3 * k) (sym n);
         size = z;
@@ -170,7 +171,7 @@ module _ (s : List ℕ) where
               zeros headWords ∷ nameRow (word s (c .name)) ∷ padded (maxParties * nameWords) (joined nameRow (e 0 (omega arith) i))
               ∷ padded (maxAssets * nameWords) (joined nameRow (e 1 (omega arith) i)) ∷ padded (maxFields * nameWords) (joined nameRow (e 2 (omega arith) i))
               ∷ padded (maxStates * nameWords) (joined nameRow (e 5 (omega arith) i)) ∷ padded (maxStrings * stringWords) (joined stringRow (e 6 (omega arith) i))
-              ∷ padded (maxClauses * clauseWords) (joined clauseRow (clausesOf c)) ∷ zeros 2752 ∷ zeros 192 ∷ []) w;
+              ∷ padded (maxClauses * clauseWords) (joined clauseRow (clausesOf c)) ∷ zeros 2752 ∷ zeros 192 ∷ zeros 3840 ∷ []) w;
         }
 
     pub closed-tabled : judge s (clausesPlace c) (closes (c .closing) (c .clauses)) ≡ fine

@@ -27,22 +27,26 @@ use Rattle.reading_laws.proofs.SectionsNodes.{Writing, writing-same, wr
 use Rattle.reading_laws.proofs.SectionsNames.{stateRows, stringRows, rowsOf, mention-writes}
 use Rattle.reading_laws.proofs.TablesNames.{Looks}
 
--- the sections that no name brings
+-- the sections that no name of the whole contract brings
 pub record Mid : Type 0 where
   pub head : List ℕ
   pub title : List ℕ
   pub clauses : List ℕ
   pub functions : List ℕ
   pub events : List ℕ
+  pub parameters : List ℕ
 
 abbrev pub withClauseRows : Mid → List ℕ → Mid
-withClauseRows m l = record { head = m .head; title = m .title; clauses = l; functions = m .functions; events = m .events }
+withClauseRows m l = record { head = m .head; title = m .title; clauses = l; functions = m .functions; events = m .events; parameters = m .parameters }
 
 abbrev pub withFunctionRows : Mid → List ℕ → Mid
-withFunctionRows m l = record { head = m .head; title = m .title; clauses = m .clauses; functions = l; events = m .events }
+withFunctionRows m l = record { head = m .head; title = m .title; clauses = m .clauses; functions = l; events = m .events; parameters = m .parameters }
 
 abbrev pub withEventRows : Mid → List ℕ → Mid
-withEventRows m l = record { head = m .head; title = m .title; clauses = m .clauses; functions = m .functions; events = l }
+withEventRows m l = record { head = m .head; title = m .title; clauses = m .clauses; functions = m .functions; events = l; parameters = m .parameters }
+
+abbrev pub withParameterRows : Mid → List ℕ → Mid
+withParameterRows m l = record { head = m .head; title = m .title; clauses = m .clauses; functions = m .functions; events = m .events; parameters = l }
 
 -- ---- nodes
 
@@ -89,12 +93,17 @@ module _ (s : List ℕ) where
       ∷ m .clauses
       ∷ m .functions
       ∷ m .events
+      ∷ m .parameters
       ∷ []
 
   pub record Tabled (b : List Item) (m : Mid) (ns : List ℕ) (p : Draft) : Type 0 where
     pub tells : Tells b (p .notes)
     pub right : every (rightItem s) b ≡ true
     pub writing : Writing (sectionsAt b m) ns p
+
+  -- its parameters' rows, said in another way
+  pub reparametered : {b : List Item} {m : Mid} {ns : List ℕ} {p : Draft} {l : List ℕ} → m .parameters ≡ l → Tabled b m ns p → Tabled b (withParameterRows m l) ns p
+  reparametered {b} {m} e t = record { tells = t .tells; right = t .right; writing = writing-described (λ i. sectionsAt b (withParameterRows m (e i))) (t .writing) }
 
   -- ---- strings and states
 

@@ -8,8 +8,8 @@ use lib.ListN.{length}
 use Rattle.laws.specs.Choice.{pick}
 use Rattle.words.specs.Words.{legalContract, assets as assetsWord, fields as fieldsWord, agreement as agreementWord, stateArrow, openParen, closeParen, openBrace, closeBrace, openBracket, closeBracket, colon, atSign}
 use Rattle.tokens.specs.Tokens.{name as nameKind}
+use Rattle.contract.proofs.Zeros.{length-zeros}
 use Rattle.contract.specs.Encode.{zeros}
-use Rattle.contract_laws.proofs.Lengths.{length-zeros}
 use Rattle.entries.specs.Draft.{Draft, note, withTable, functionCount, eventsHere, title, notesLength}
 use Rattle.reading.specs.Syntax.{Span, none, Precondition, omitted, given, Function}
 use Rattle.reading.specs.Grammar.{andThen, give, isOneOf, maxLevels, tokenIn, place, repeated, parse}

@@ -11,5 +11,5 @@ use Rattle.reading_laws.proofs.NotedPlaces.{run-found, run-question}
 use Rattle.reading_laws.proofs.TableIsEncoded.{run-table}
 use Rattle.reading_laws.proofs.ReadIs.{Reads, reads}
 
-pub reads-whole : (s : List ℕ) → length s ≤ 16384 → (r : Answer) (t : List ℕ) → Ends (walk s fresh) r t → Reads (readText s 20819) r t
+pub reads-whole : (s : List ℕ) → length s ≤ 16384 → (r : Answer) (t : List ℕ) → Ends (walk s fresh) r t → Reads (readText s 24659) r t
 reads-whole s h r t e = reads s (walk-fresh s) (run-found s) (run-question s) (run-table s) h r t e

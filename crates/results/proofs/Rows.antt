@@ -11,7 +11,7 @@ use lib.Dec.{ltb, leb}
 use borrow.Author.Tests.{ltb-true, ltb-false, le-leb, lt-leb, ne-eqb, leb-true}
 use Rattle.laws.specs.Choice.{pick}
 use Rattle.laws.proofs.Choice.{true-false}
-use Rattle.tokens.specs.Classes.{within, isLetter, isDigit, isNameByte, isPrintable, isStringByte}
+use Rattle.tokens.specs.Classes.{within, isLetter, isNameByte, isPrintable, isStringByte}
 use Rattle.contract.specs.Table.{wordAt}
 use Rattle.contract.specs.Decode.{wordOf, contractOf}
 use Rattle.contract.specs.Check.{ranges, nameOk, stringOk, namesOk, passes}
@@ -20,16 +20,12 @@ use Rattle.laws.specs.Lists.{allBelow}
 use Rattle.contract_laws.proofs.Inversions.{by-test, ranges-of}
 use Rattle.laws.proofs.Members.{below-at}
 use Rattle.contract_laws.proofs.Members.{getD-each}
+use Rattle.contract_laws.proofs.Packing.{no-name-byte}
 use Rattle.contract_laws.proofs.Sound.{passed, counts}
 use Rattle.results.specs.Private.{Put, NameAt}
 use Rattle.results.proofs.Puts.{store-next, stored}
 
 -- ---- bytes
-
-no-name-byte : (b : ℕ) → 256 ≤ b → isNameByte b ≡ false
-unfolding isNameByte isLetter isDigit within pick
-no-name-byte b h =
-    simp (le-leb 97 b (omega arith), lt-leb b 122 (omega arith), le-leb 65 b (omega arith), lt-leb b 90 (omega arith), le-leb 48 b (omega arith), lt-leb b 57 (omega arith), ne-eqb b 95 (λ e. omega arith))
 
 no-letter : (b : ℕ) → 256 ≤ b → isLetter b ≡ false
 unfolding isLetter within pick
@@ -83,7 +79,7 @@ pub record Row (w : List ℕ) (names : List (List ℕ)) (i o most : ℕ) : Type 
   pub word : NameAt w o
   pub few : wordAt w o ≤ most
   pub name : getD names i [] ≡ wordOf w o
-  pub low : o ≤ 20819
+  pub low : o ≤ 24659
 
 pub word-long : (w : List ℕ) (o : ℕ) → NameAt w o → length (wordOf w o) ≡ wordAt w o
 word-long w o h = simp (length-take, length-drop) (omega (arith, h .whole))
@@ -125,10 +121,10 @@ names w e =
     record { parties = t 1; assets = t 2; states = t 4; strings = t 5 }
 
 module _ (w : List ℕ) (e : passes w ≡ true) (i : ℕ) where
-  row-of : (n start limit : ℕ) → allBelow n (λ i. nameOk w (start + i * 33)) ≡ true → n ≤ limit → start + limit * 33 ≤ 20819 → i < n
+  row-of : (n start limit : ℕ) → allBelow n (λ i. nameOk w (start + i * 33)) ≡ true → n ≤ limit → start + limit * 33 ≤ 24659 → i < n
       → (l : List (List ℕ)) → getD l i [] ≡ wordOf w (start + i * 33) → Row w l i (start + i * 33) 32
   row-of n start limit a b c h l q =
-      let long : length w ≡ 20819 = passed w e .long in
+      let long : length w ≡ 24659 = passed w e .long in
       let r = name-word w (start + i * 33) (below-at (λ i. nameOk w (start + i * 33)) n a i h) (omega arith) in
       record { word = r .0; few = r .1; name = q; low = omega arith }
 
@@ -157,7 +153,7 @@ module _ (w : List ℕ) (e : passes w ≡ true) (i : ℕ) where
   unfolding contractOf
   string-row h =
       let k : i < wordAt w 4 = omega (arith, counts w .strings) in
-      let long : length w ≡ 20819 = passed w e .long in
+      let long : length w ≡ 24659 = passed w e .long in
       let few : wordAt w 4 ≤ 32 = passed w e .head .strings in
       let r = string-word w (2947 + i * 65) (below-at (λ i. stringOk w (2947 + i * 65)) (wordAt w 4) (names w (passed w e .names) .strings) i k) (omega arith) in
       record {

@@ -27,6 +27,8 @@ pub enum Report {
 impl Report {
     // The bytes that a buffer must have for a line.
     pub const ROOM: usize = 128;
+    // The numbers of a coded report, beside its integer.
+    pub const WORDS: usize = 4;
 }
 
 // How many bytes were written, or the number of the question that refused; then nothing was.

@@ -44,7 +44,7 @@ fn report_at(numbers: &[u64], integers: &[i64], i: usize) -> Report
     requires { ⌜ i < wholeOf (now numbers) (now integers) ⌝ }
     ensures { λ r. ⌜ r ≡ reportAt (now (numbers .entry)) (now (integers .entry)) i ⌝ }
 {
-    let at = 4 * i;
+    let at = Report::WORDS * i;
     report_of(
         numbers[at],
         numbers[at + 1],
@@ -58,7 +58,7 @@ fn report_at(numbers: &[u64], integers: &[i64], i: usize) -> Report
 fn all_whole(numbers: &[u64], integers: &[i64], from: usize, to: usize) -> bool
     ensures { λ r. ⌜ r ≡ allWhole (now (numbers .entry)) (now (integers .entry)) from to ⌝ }
 {
-    (to <= from) | ((to <= numbers.len() / 4) & (to <= integers.len()))
+    (to <= from) | ((to <= numbers.len() / Report::WORDS) & (to <= integers.len()))
 }
 
 // The number after the last of the reports from `from` up to, not including, `to` whose lines surely fit into so many bytes.

@@ -18,9 +18,7 @@ use crate::pieces::put_name;
 use crate::pieces::put_number;
 use crate::pieces::put_refused;
 use crate::pieces::put_word;
-
-// The greatest amount and clock.
-const TOP: u64 = 9223372036854775807;
+use contract::Contract;
 
 fn between(lo: u8, n: u8, hi: u8) -> bool
     ensures { λ r. ⌜ r ≡ ranges lo n hi ⌝ }
@@ -66,14 +64,14 @@ pub(crate) fn report_ok(table: &[u64], report: Report) -> bool
 {
     match report {
         Report::Ruled(rule, state, clock) => {
-            (rule <= 3) & (((state as u64) < contract::word(table, 3)) & (clock <= TOP))
+            (rule <= 3) & (((state as u64) < contract::word(table, 3)) & (clock <= Contract::TOP))
         }
         Report::Sent(kind, party, value) => {
             between(1, kind, 3)
                 & (((party as u64) < contract::word(table, 0)) & value_ok(table, kind, value))
         }
         Report::Held(asset, amount) => ((asset as u64) < contract::word(table, 1))
-            & (amount <= TOP),
+            & (amount <= Contract::TOP),
         Report::Refused(n) => is_refusal(n),
         Report::Failed(n) => between(questions::FIELD_VALUE, n, questions::SUM_FITS),
     }

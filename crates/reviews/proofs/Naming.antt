@@ -78,7 +78,7 @@ module _ (w : List ℕ) (e : passes w ≡ true) (x : ℕ) where
 
   pub field-there : x < wordAt w 2 → NameAt w (835 + x * 33) × (wordAt w (835 + x * 33) ≤ 32)
   field-there h =
-      let long : length w ≡ 20819 = passed w e .long in
+      let long : length w ≡ 24659 = passed w e .long in
       let few : wordAt w 2 ≤ 32 = passed w e .head .fields in
       name-there w (835 + x * 33) (below-at (λ i. nameOk w (835 + i * 33)) (wordAt w 2) names-pass x h) (omega arith)
 

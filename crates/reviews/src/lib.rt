@@ -12,6 +12,7 @@ ghost use Rattle.agreements.specs.Private.{verbOf};
 ghost use Rattle.results.specs.Private.{NameAt};
 ghost use Rattle.reviews.specs.Reviews.{isIn, names, neverAgreed, fieldName};
 ghost use Rattle.reviews.specs.Private.{Said};
+use contract::Contract;
 
 // Whether clause i names field x.
 fn clause_names(table: &[u64], i: usize, x: usize) -> bool
@@ -69,7 +70,7 @@ pub fn never_agreed(table: &[u64], x: usize) -> bool
 }
 
 // The name whose length stands at o comes to the front of the buffer; answers how many bytes it has.
-fn put_name(table: &[u64], o: usize, buffer: &mut [u8; 32]) -> usize
+fn put_name(table: &[u64], o: usize, buffer: &mut [u8; Contract::NAME]) -> usize
     requires { ⌜ NameAt (now table) o ⌝ }
     requires { ⌜ wordAt (now table) o ≤ 32 ⌝ }
     ensures { λ r. ⌜ Said (now (buffer .entry)) (wordOf (now (table .entry)) o) r (now (buffer .exit)) ⌝ }
@@ -85,7 +86,7 @@ fn put_name(table: &[u64], o: usize, buffer: &mut [u8; 32]) -> usize
 
 // The name of field x comes to the front of the buffer; answers how many bytes it has. There is none for a table that does not pass, or
 // past the last field.
-pub fn field_name(table: &[u64], x: usize, buffer: &mut [u8; 32]) -> usize
+pub fn field_name(table: &[u64], x: usize, buffer: &mut [u8; Contract::NAME]) -> usize
     ensures { λ r. ⌜ r ≡ length (fieldName (now (table .entry)) x) ⌝ }
     ensures { λ _. ⌜ now (buffer .exit) ≡ sets (now (buffer .entry)) 0 (fieldName (now (table .entry)) x) ⌝ }
 {

@@ -42,7 +42,7 @@ freshAt clock =
 -- what no function of a contract is, and no event
 abbrev pub noFunction : Function
 noFunction =
-    record { state = 0; party = 0; name = []; values = 0; parameters = 0; precondition = omitted; body = none; events = []; last = 0 }
+    record { state = 0; party = 0; name = []; values = []; parameters = []; precondition = omitted; body = none; events = []; last = 0 }
 
 abbrev pub noEvent : Event
 noEvent = record { guard = brokenExpression; state = 0; handler = none; last = 0 }

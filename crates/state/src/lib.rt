@@ -53,7 +53,7 @@ impl State {
     // Pending events.
     pub const PENDING: usize = 64;
     // The greatest clock value and amount.
-    pub const TOP: u64 = 9223372036854775807;
+    pub const TOP: u64 = Contract::TOP;
 
     // The fresh state at a clock.
     pub fn fresh(clock: u64) -> State

@@ -60,9 +60,6 @@ pub struct Ran {
     pub refusal: u8,
 }
 
-// The greatest amount.
-const TOP: u64 = 9223372036854775807;
-
 // The difference, or 0 where it would fall below.
 fn minus(a: usize, b: usize) -> usize
     ensures { λ r. ⌜ r ≡ a - b ⌝ }
@@ -244,10 +241,10 @@ fn move_amount(holdings: &mut [u64; Holdings::MOST], i: usize, j: usize, n: u64)
         return 0;
     }
     let target = amount(holdings, j);
-    if TOP < target {
+    if Contract::TOP < target {
         return questions::SUM_FITS;
     }
-    if TOP - target < n {
+    if Contract::TOP - target < n {
         return questions::SUM_FITS;
     }
     set_amount(holdings, i, source - n);

@@ -11,6 +11,7 @@ ghost use Rattle.step_reports.specs.Reports.{ruleNumber, reportOf, sent,
 use outcomes::Outcome;
 use outcomes::Rule;
 use outcomes::Stepped;
+use results::Report;
 use statements::Label;
 
 // Result line n is told: its four numbers and its integer.
@@ -28,7 +29,7 @@ fn tell(
     ensures { λ _. ⌜ now (numbers .exit) ≡ sets (now (numbers .entry)) (4 * n) (which ∷ a ∷ b ∷ c ∷ []) ⌝ }
     ensures { λ _. ⌜ now (integers .exit) ≡ sets (now (integers .entry)) n (value ∷ []) ⌝ }
 {
-    let at = 4 * n;
+    let at = Report::WORDS * n;
     numbers[at] = which;
     numbers[at + 1] = a;
     numbers[at + 2] = b;
@@ -116,7 +117,7 @@ fn labels_told(count: usize) -> usize
 pub fn room_in(numbers: &[u64], integers: &[i64]) -> usize
     ensures { λ r. ⌜ r ≡ roomIn (length (now (numbers .entry))) (length (now (integers .entry))) ⌝ }
 {
-    let a = numbers.len() / 4;
+    let a = numbers.len() / Report::WORDS;
     let b = integers.len();
     if a < b { a } else { b }
 }

@@ -1,10 +1,11 @@
 -- Nodes, clauses, the head and the names, as the code finds them. Assumes nothing.
-use mathlib.Core.Path.{_≡_, sym, subst, _∙_}
+use mathlib.Core.Path.{_≡_, refl, sym, ap, subst, _∙_}
 use mathlib.Core.Bool.{Bool, true, false, _&&_}
 use mathlib.Core.List.{List, [], _∷_}
 use Prim.Native.Nat.{ℕ, suc, _+_, _*_, _≤_}
 use native.Mathlib.Omega.{arith}
 use native.Mathlib.Numerals.{add-one}
+use lib.ListN.{length}
 use lib.Dec.{eqb, ltb, leb}
 use borrow.Author.Tests.{leb-true}
 use Rattle.laws.specs.Choice.{pick}
@@ -17,7 +18,7 @@ use Rattle.laws.specs.Lists.{allBelow}
 use Rattle.contract.specs.declared.Node.{Node}
 use Rattle.contract.specs.declared.Clause.{Clause}
 use Rattle.contract.specs.declared.TableHead.{TableHead}
-use Rattle.contract.specs.Check.{isSort, statement, isLeaf, leafOk, wholeOk, nodeOk, statementsIn, clauseOk, headOk, nameOk, stringOk, namesOk}
+use Rattle.contract.specs.Check.{isSort, statement, isLeaf, leafOk, wholeOk, nodeOk, statementsIn, clauseOk, headOk, nameOk, stringOk, namesOk, clauseBelow, functionOk, firstNode, firstEvent, parametersOk, passes}
 
 module _ (w : List ℕ) (c : Scope) (from k : ℕ) (n : Node) (e : n ≡ nodeOf w k) {t : Bool} (l : t ≡ isLeaf (n .kind)) where
   node-as : pick (isLeaf (n .kind)) (leafOk c (n .kind) (n .argument) && eqb (n .size) 1) (wholeOk w from k (n .kind)) ≡ nodeOk w c from k
@@ -84,6 +85,29 @@ limits w h e f =
       functions = leb-true _ _ (t 6);
       nodes = leb-true _ _ (t 8);
     })
+
+pub and-assoc : (a b c : Bool) → (a && (b && c)) ≡ ((a && b) && c)
+and-assoc true b c = refl
+and-assoc false b c = refl
+
+-- the answers of the parts in a row
+pub passes-as : (w : List ℕ) {h n a b p : Bool} → h ≡ headOk w → n ≡ namesOk w
+    → a ≡ (allBelow (wordAt w 5) (clauseOk w) && allBelow (wordAt w 0) (clauseBelow w (wordAt w 5)))
+    → b ≡ (allBelow (wordAt w 6) (functionOk w) && (eqb (firstNode w (wordAt w 6)) (wordAt w 8) && eqb (firstEvent w (wordAt w 6)) (wordAt w 7)))
+    → p ≡ allBelow (wordAt w 6) (parametersOk w)
+    → (eqb (length w) 24659 && (h && (n && (a && (b && p))))) ≡ passes w
+unfolding passes
+passes-as w h n a b p =
+    let k = allBelow (wordAt w 5) (clauseOk w) in
+    let l = allBelow (wordAt w 0) (clauseBelow w (wordAt w 5)) in
+    let f = allBelow (wordAt w 6) (functionOk w) in
+    let x = eqb (firstNode w (wordAt w 6)) (wordAt w 8) in
+    let y = eqb (firstEvent w (wordAt w 6)) (wordAt w 7) in
+    let z = allBelow (wordAt w 6) (parametersOk w) in
+    let e : ((f && (x && y)) && z) ≡ (f && (x && (y && z))) = sym (and-assoc f (x && y) z) ∙ ap (λ (r : Bool). f && r) (sym (and-assoc x y z)) in
+    let g : ((k && l) && ((f && (x && y)) && z)) ≡ (k && (l && (f && (x && (y && z))))) = ap (λ (r : Bool). (k && l) && r) e ∙ sym (and-assoc k l _) in
+    (λ t. eqb (length w) 24659 && (h t && (n t && (a t && (b t && p t)))))
+    ∙ ap (λ (r : Bool). eqb (length w) 24659 && (headOk w && (namesOk w && r))) g
 
 pub names-as : (w : List ℕ) (h : TableHead) → h ≡ headOf w
     → (nameOk w 10

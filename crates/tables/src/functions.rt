@@ -1,15 +1,16 @@
 // Functions and events of a table: each one's nodes and events follow those of the one before.
 ghost use mathlib.Core.Path.{_≡_};
-ghost use mathlib.Core.Bool.{_&&_};
-ghost use Prim.Native.Nat.{_+_, _≤_, _<_};
+ghost use mathlib.Core.Bool.{true, _&&_};
+ghost use Prim.Native.Nat.{_+_, _*_, _≤_, _<_};
 ghost use lib.ListN.{length};
 ghost use lib.Dec.{eqb};
-ghost use Rattle.contract.specs.Table.{wordAt, functionWord};
+ghost use Rattle.contract.specs.Table.{wordAt, functionWord, parametersStart};
 ghost use Rattle.contract.specs.Rows.{functionRowOf};
 ghost use Rattle.tables.specs.Private.{eventPasses, guardedOk, sizesOk, rowOk};
-ghost use Rattle.contract.specs.Check.{scopeAt, preconditionOk, bodyOk, eventNodesOk, eventOk, eventFirst, firstNode, firstEvent, functionNodesOk, functionOk};
+ghost use Rattle.contract.specs.Check.{scopeAt, preconditionOk, bodyOk, eventNodesOk, eventOk, eventFirst, firstNode, firstEvent, functionNodesOk, functionOk, packedOk, parametersOk};
 ghost use Rattle.laws.specs.Lists.{allBelow};
 use crate::names::name_ok;
+use crate::names::packed_ok;
 use crate::nodes::Sort;
 use crate::nodes::block_ok;
 use crate::nodes::is_sort;
@@ -24,7 +25,7 @@ use contract::word;
 
 // A precondition in the n nodes from `first` on: none, or a condition that counts them all.
 fn precondition_ok(table: &[u64], values: usize, parameters: usize, first: usize, n: usize) -> bool
-    requires { ⌜ length (now table) ≡ 20819 ⌝ }
+    requires { ⌜ length (now table) ≡ 24659 ⌝ }
     requires { ⌜ first + n ≤ 4096 ⌝ }
     ensures { λ r. ⌜ r ≡ preconditionOk (now (table .entry)) (scopeAt (now (table .entry)) values parameters) first n ⌝ }
 {
@@ -42,7 +43,7 @@ fn precondition_ok(table: &[u64], values: usize, parameters: usize, first: usize
 
 // The statements in the n nodes from `first` on.
 fn body_ok(table: &[u64], values: usize, parameters: usize, first: usize, n: usize) -> bool
-    requires { ⌜ length (now table) ≡ 20819 ⌝ }
+    requires { ⌜ length (now table) ≡ 24659 ⌝ }
     requires { ⌜ first + n ≤ 4096 ⌝ }
     ensures { λ r. ⌜ r ≡ bodyOk (now (table .entry)) (scopeAt (now (table .entry)) values parameters) first n ⌝ }
 {
@@ -62,7 +63,7 @@ fn guarded_ok(
     start: usize,
     handler: usize,
 ) -> bool
-    requires { ⌜ length (now table) ≡ 20819 ⌝ }
+    requires { ⌜ length (now table) ≡ 24659 ⌝ }
     requires { ⌜ (first < start) × (start + handler ≤ 4096) ⌝ }
     ensures { λ r. ⌜ r ≡ guardedOk (now (table .entry)) (scopeAt (now (table .entry)) values parameters) first start handler ⌝ }
 {
@@ -79,7 +80,7 @@ fn guarded_ok(
 
 // An event whose guard starts at node `first`; its own node k stands after its guard and its handler.
 fn event_nodes_ok(table: &[u64], values: usize, parameters: usize, first: usize, k: usize) -> bool
-    requires { ⌜ length (now table) ≡ 20819 ⌝ }
+    requires { ⌜ length (now table) ≡ 24659 ⌝ }
     requires { ⌜ wordAt (now table) 8 ≤ 4096 ⌝ }
     ensures { λ r. ⌜ r ≡ eventNodesOk (now (table .entry)) (scopeAt (now (table .entry)) values parameters) first k ⌝ }
 {
@@ -107,7 +108,7 @@ fn event_nodes_ok(table: &[u64], values: usize, parameters: usize, first: usize,
 }
 
 fn event_ok(table: &[u64], values: usize, parameters: usize, first: usize, i: usize) -> bool
-    requires { ⌜ length (now table) ≡ 20819 ⌝ }
+    requires { ⌜ length (now table) ≡ 24659 ⌝ }
     requires { ⌜ wordAt (now table) 8 ≤ 4096 ⌝ }
     ensures { λ r. ⌜ r ≡ eventOk (now (table .entry)) (scopeAt (now (table .entry)) values parameters) first i ⌝ }
 {
@@ -123,7 +124,7 @@ fn event_ok(table: &[u64], values: usize, parameters: usize, first: usize, i: us
 
 // The events of function i, one after the other.
 fn events_ok(table: &[u64], i: usize, f: Function) -> bool
-    requires { ⌜ length (now table) ≡ 20819 ⌝ }
+    requires { ⌜ length (now table) ≡ 24659 ⌝ }
     requires { ⌜ f ≡ functionRowOf (now table) i ⌝ }
     requires { ⌜ (wordAt (now table) 8 ≤ 4096) × (f .first + f .precondition + f .body ≤ 4096) × (f .event ≤ 4096) × (f .events ≤ 64) ⌝ }
     ensures { λ r. ⌜ r ≡ allBelow (f .events) (eventPasses (now (table .entry)) i) ⌝ }
@@ -151,7 +152,7 @@ fn sizes_ok(f: Function) -> bool
 }
 
 fn function_nodes_ok(table: &[u64], i: usize, f: Function) -> bool
-    requires { ⌜ length (now table) ≡ 20819 ⌝ }
+    requires { ⌜ length (now table) ≡ 24659 ⌝ }
     requires { ⌜ f ≡ functionRowOf (now table) i ⌝ }
     requires { ⌜ (wordAt (now table) 8 ≤ 4096) × (f .first ≤ 4096) × (f .event ≤ 4096) ⌝ }
     ensures { λ r. ⌜ r ≡ functionNodesOk (now (table .entry)) (scopeAt (now (table .entry)) (functionWord (now (table .entry)) i 3) (functionWord (now (table .entry)) i 4)) i ⌝ }
@@ -182,14 +183,17 @@ fn row_ok(table: &[u64], f: Function) -> bool
 
 // Function i, whose nodes start at `node` and whose events at `event`.
 fn function_ok(table: &[u64], i: usize, f: Function, node: usize, event: usize) -> bool
-    requires { ⌜ length (now table) ≡ 20819 ⌝ }
+    requires { ⌜ length (now table) ≡ 24659 ⌝ }
     requires { ⌜ f ≡ functionRowOf (now table) i ⌝ }
     requires { ⌜ (i < 64) × (wordAt (now table) 8 ≤ 4096) × (node ≤ 4096) × (event ≤ 4096) ⌝ }
     requires { ⌜ (node ≡ firstNode (now table) i) × (event ≡ firstEvent (now table) i) ⌝ }
     ensures { λ r. ⌜ r ≡ functionOk (now (table .entry)) i ⌝ }
 {
     if row_ok(table, f) {
-        if name_ok(table, contract::FUNCTIONS + i * Function::WORDS + 10) {
+        if name_ok(
+            table,
+            contract::FUNCTIONS + i * Function::WORDS + Function::NAME,
+        ) {
             if f.first == node {
                 if f.event == event {
                     return function_nodes_ok(table, i, f);
@@ -214,7 +218,7 @@ fn function_end(table: &[u64], i: usize, f: Function) -> usize
 
 // The functions, their nodes and events in a row, and no more of either.
 pub(crate) fn functions_ok(table: &[u64]) -> bool
-    requires { ⌜ length (now table) ≡ 20819 ⌝ }
+    requires { ⌜ length (now table) ≡ 24659 ⌝ }
     requires { ⌜ (wordAt (now table) 6 ≤ 64) × (wordAt (now table) 8 ≤ 4096) ⌝ }
     ensures { λ r. ⌜ r ≡ (allBelow (wordAt (now (table .entry)) 6) (functionOk (now (table .entry))) && (eqb (firstNode (now (table .entry)) (wordAt (now (table .entry)) 6)) (wordAt (now (table .entry)) 8) && eqb (firstEvent (now (table .entry)) (wordAt (now (table .entry)) 6)) (wordAt (now (table .entry)) 7))) ⌝ }
 {
@@ -233,4 +237,51 @@ pub(crate) fn functions_ok(table: &[u64]) -> bool
         }
     }
     (node == word(table, 8) as usize) & (event == word(table, 7) as usize)
+}
+
+// The names in the n rows of the parameters from row `first` on.
+fn packed_rows_ok(table: &[u64], first: usize, n: usize) -> bool
+    requires { ⌜ (first ≤ 4096) × (n ≤ 64) ⌝ }
+    ensures { λ r. ⌜ r ≡ allBelow n (λ j. packedOk (now (table .entry)) (parametersStart + (first + j) * 5)) ⌝ }
+{
+    let mut j: usize = 0;
+    while j < n {
+        if packed_ok(table, first + j) {
+            j += 1;
+        } else {
+            return false;
+        }
+    }
+    true
+}
+
+// The names of function i's value parameters and asset parameters.
+fn parameters_ok(table: &[u64], i: usize) -> bool
+    requires { ⌜ (i < 64) × (functionOk (now table) i ≡ true) ⌝ }
+    ensures { λ r. ⌜ r ≡ parametersOk (now (table .entry)) i ⌝ }
+{
+    let f = function_at(table, i);
+    let first = i * Function::NAMES;
+    if packed_rows_ok(table, first, f.values) {
+        packed_rows_ok(table, first + Function::VALUES, f.parameters)
+    } else {
+        false
+    }
+}
+
+// The names of all functions' parameters.
+pub(crate) fn all_parameters_ok(table: &[u64]) -> bool
+    requires { ⌜ (wordAt (now table) 6 ≤ 64) × (allBelow (wordAt (now table) 6) (functionOk (now table)) ≡ true) ⌝ }
+    ensures { λ r. ⌜ r ≡ allBelow (wordAt (now (table .entry)) 6) (parametersOk (now (table .entry))) ⌝ }
+{
+    let count = word(table, 6) as usize;
+    let mut i: usize = 0;
+    while i < count {
+        if parameters_ok(table, i) {
+            i += 1;
+        } else {
+            return false;
+        }
+    }
+    true
 }

@@ -1,11 +1,11 @@
 // Question 3: whether a table is one that reading could have written, as docs/TABLE.md says.
 ghost use mathlib.Core.Path.{_≡_};
 ghost use Prim.Native.Nat.{_+_};
-ghost use mathlib.Core.Bool.{true};
+ghost use mathlib.Core.Bool.{true, _&&_};
 ghost use lib.ListN.{length};
 ghost use lib.Dec.{ltb};
 ghost use Rattle.contract.specs.Table.{wordAt, clauseWord};
-ghost use Rattle.contract.specs.Check.{headOk, namesOk, clauseOk, passes};
+ghost use Rattle.contract.specs.Check.{headOk, namesOk, clauseOk, clauseBelow, passes};
 ghost use Rattle.laws.specs.Lists.{allBelow};
 use contract::Contract;
 use contract::clause_at;
@@ -75,9 +75,38 @@ fn clauses_ok(table: &[u64], count: usize) -> bool
     true
 }
 
+// Whether some of the first n clauses is of a party.
+fn has_clause(table: &[u64], n: usize, party: usize) -> bool
+    ensures { λ r. ⌜ r ≡ clauseBelow (now (table .entry)) n party ⌝ }
+{
+    let mut i: usize = 0;
+    while i < n {
+        if clause_at(table, i).party == party {
+            return true;
+        }
+        i += 1;
+    }
+    false
+}
+
+// Whether each party has a clause.
+fn parties_heard(table: &[u64], parties: usize, clauses: usize) -> bool
+    ensures { λ r. ⌜ r ≡ allBelow parties (clauseBelow (now (table .entry)) clauses) ⌝ }
+{
+    let mut p: usize = 0;
+    while p < parties {
+        if has_clause(table, clauses, p) {
+            p += 1;
+        } else {
+            return false;
+        }
+    }
+    true
+}
+
 // The contract's name, and those of its parties, assets, fields and states; its strings.
 fn words_ok(table: &[u64]) -> bool
-    requires { ⌜ length (now table) ≡ 20819 ⌝ }
+    requires { ⌜ length (now table) ≡ 24659 ⌝ }
     requires { ⌜ headOk (now table) ≡ true ⌝ }
     ensures { λ r. ⌜ r ≡ namesOk (now (table .entry)) ⌝ }
 {
@@ -96,6 +125,18 @@ fn words_ok(table: &[u64]) -> bool
     false
 }
 
+// The clauses, and that each party has one.
+fn clauses_pass(table: &[u64]) -> bool
+    ensures { λ r. ⌜ r ≡ (allBelow (wordAt (now (table .entry)) 5) (clauseOk (now (table .entry))) && allBelow (wordAt (now (table .entry)) 0) (clauseBelow (now (table .entry)) (wordAt (now (table .entry)) 5))) ⌝ }
+{
+    let clauses = word(table, 5) as usize;
+    if clauses_ok(table, clauses) {
+        parties_heard(table, word(table, 0) as usize, clauses)
+    } else {
+        false
+    }
+}
+
 // Question 3: whether a table passes the check of docs/TABLE.md.
 pub fn table_passes(table: &[u64]) -> bool
     ensures { λ r. ⌜ r ≡ passes (now (table .entry)) ⌝ }
@@ -105,8 +146,10 @@ pub fn table_passes(table: &[u64]) -> bool
     }
     if head_ok(table) {
         if words_ok(table) {
-            if clauses_ok(table, word(table, 5) as usize) {
-                return functions::functions_ok(table);
+            if clauses_pass(table) {
+                if functions::functions_ok(table) {
+                    return functions::all_parameters_ok(table);
+                }
             }
         }
     }

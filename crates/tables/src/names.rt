@@ -3,10 +3,13 @@ ghost use mathlib.Core.Path.{_≡_};
 ghost use Prim.Native.Nat.{_+_, _*_, _≤_};
 ghost use lib.ListN.{length};
 ghost use Rattle.tokens.specs.Classes.{within, isLetter, isNameByte, isStringByte};
-ghost use Rattle.contract.specs.Table.{wordAt};
-ghost use Rattle.contract.specs.Check.{ranges, nameOk, stringOk};
+ghost use Rattle.contract.specs.Table.{wordAt, parametersStart};
+ghost use Rattle.contract.specs.Decode.{packedByte};
+ghost use Rattle.contract.specs.Check.{ranges, nameOk, stringOk, packedOk};
 ghost use Rattle.laws.specs.Lists.{allBelow};
 use contract::Contract;
+use contract::packed_byte;
+use contract::packed_length;
 use contract::word;
 
 // Whether n is from lo to hi.
@@ -49,8 +52,8 @@ fn is_string_byte(b: u64) -> bool
 
 // The bytes of a name after the first.
 fn name_bytes_ok(table: &[u64], o: usize, n: usize) -> bool
-    requires { ⌜ length (now table) ≡ 20819 ⌝ }
-    requires { ⌜ o + n ≤ 20819 ⌝ }
+    requires { ⌜ length (now table) ≡ 24659 ⌝ }
+    requires { ⌜ o + n ≤ 24659 ⌝ }
     ensures { λ r. ⌜ r ≡ allBelow n (λ j. isNameByte (wordAt (now (table .entry)) (o + j))) ⌝ }
 {
     let mut j: usize = 0;
@@ -65,8 +68,8 @@ fn name_bytes_ok(table: &[u64], o: usize, n: usize) -> bool
 }
 
 fn string_bytes_ok(table: &[u64], o: usize, n: usize) -> bool
-    requires { ⌜ length (now table) ≡ 20819 ⌝ }
-    requires { ⌜ o + n ≤ 20819 ⌝ }
+    requires { ⌜ length (now table) ≡ 24659 ⌝ }
+    requires { ⌜ o + n ≤ 24659 ⌝ }
     ensures { λ r. ⌜ r ≡ allBelow n (λ j. isStringByte (wordAt (now (table .entry)) (o + j))) ⌝ }
 {
     let mut j: usize = 0;
@@ -82,8 +85,8 @@ fn string_bytes_ok(table: &[u64], o: usize, n: usize) -> bool
 
 // A name of 1 to 32 bytes, its length at o.
 pub(crate) fn name_ok(table: &[u64], o: usize) -> bool
-    requires { ⌜ length (now table) ≡ 20819 ⌝ }
-    requires { ⌜ o + 33 ≤ 20819 ⌝ }
+    requires { ⌜ length (now table) ≡ 24659 ⌝ }
+    requires { ⌜ o + 33 ≤ 24659 ⌝ }
     ensures { λ r. ⌜ r ≡ nameOk (now (table .entry)) o ⌝ }
 {
     let n = word(table, o);
@@ -95,10 +98,38 @@ pub(crate) fn name_ok(table: &[u64], o: usize) -> bool
     false
 }
 
+// The bytes after the first of the name in row i of the parameters.
+fn packed_bytes_ok(table: &[u64], i: usize, n: usize) -> bool
+    ensures { λ r. ⌜ r ≡ allBelow n (λ j. isNameByte (packedByte (now (table .entry)) (parametersStart + i * 5) (1 + j))) ⌝ }
+{
+    let mut j: usize = 0;
+    while j < n {
+        if is_name_byte(packed_byte(table, i, 1 + j)) {
+            j += 1;
+        } else {
+            return false;
+        }
+    }
+    true
+}
+
+// A name of 1 to 32 bytes in row i of the parameters.
+pub(crate) fn packed_ok(table: &[u64], i: usize) -> bool
+    ensures { λ r. ⌜ r ≡ packedOk (now (table .entry)) (parametersStart + i * 5) ⌝ }
+{
+    let n = packed_length(table, i);
+    if ranges(1, n, Contract::NAME as u64) {
+        if is_letter(packed_byte(table, i, 0)) {
+            return packed_bytes_ok(table, i, n as usize - 1);
+        }
+    }
+    false
+}
+
 // A string of up to 64 bytes, its length at o.
 fn string_ok(table: &[u64], o: usize) -> bool
-    requires { ⌜ length (now table) ≡ 20819 ⌝ }
-    requires { ⌜ o + 65 ≤ 20819 ⌝ }
+    requires { ⌜ length (now table) ≡ 24659 ⌝ }
+    requires { ⌜ o + 65 ≤ 24659 ⌝ }
     ensures { λ r. ⌜ r ≡ stringOk (now (table .entry)) o ⌝ }
 {
     let n = word(table, o);
@@ -111,7 +142,7 @@ fn string_ok(table: &[u64], o: usize) -> bool
 
 // The names of a section of count rows.
 pub(crate) fn names_ok(table: &[u64], start: usize, count: usize) -> bool
-    requires { ⌜ length (now table) ≡ 20819 ⌝ }
+    requires { ⌜ length (now table) ≡ 24659 ⌝ }
     requires { ⌜ (start ≤ 2947) × (count ≤ 32) ⌝ }
     ensures { λ r. ⌜ r ≡ allBelow count (λ i. nameOk (now (table .entry)) (start + i * 33)) ⌝ }
 {
@@ -127,7 +158,7 @@ pub(crate) fn names_ok(table: &[u64], start: usize, count: usize) -> bool
 }
 
 pub(crate) fn strings_ok(table: &[u64], count: usize) -> bool
-    requires { ⌜ length (now table) ≡ 20819 ⌝ }
+    requires { ⌜ length (now table) ≡ 24659 ⌝ }
     requires { ⌜ count ≤ 32 ⌝ }
     ensures { λ r. ⌜ r ≡ allBelow count (λ i. stringOk (now (table .entry)) (2947 + i * 65)) ⌝ }
 {

@@ -17,7 +17,7 @@ use contract::word;
 
 // Node k of a table of full length.
 pub(crate) fn node_in(table: &[u64], k: usize) -> Node
-    requires { ⌜ length (now table) ≡ 20819 ⌝ }
+    requires { ⌜ length (now table) ≡ 24659 ⌝ }
     ensures { λ r. ⌜ r ≡ nodeOf (now (table .entry)) k ⌝ }
 {
     if k < Contract::NODES {
@@ -28,11 +28,7 @@ pub(crate) fn node_in(table: &[u64], k: usize) -> Node
             size: table[at + 2] as usize,
         };
     }
-    Node {
-        kind: 0,
-        argument: 0,
-        size: 0,
-    }
+    contract::node_at(table, k)
 }
 
 // What a part of a node may be.
@@ -71,7 +67,7 @@ pub(crate) fn is_sort(sort: Sort, kind: u64) -> bool
 
 // Where the part starts that ends before node `end`: of this sort, and in the nodes from `from` on.
 fn part_start(table: &[u64], from: usize, sort: Sort, end: usize) -> Start
-    requires { ⌜ length (now table) ≡ 20819 ⌝ }
+    requires { ⌜ length (now table) ≡ 24659 ⌝ }
     ensures { λ r. ⌜ startOf r ≡ partStart (now (table .entry)) from (sortOf sort) end ⌝ }
 {
     if end <= from {
@@ -88,7 +84,7 @@ fn part_start(table: &[u64], from: usize, sort: Sort, end: usize) -> Start
 
 // The same of two parts.
 fn pair_start(table: &[u64], from: usize, last: Sort, first: Sort, end: usize) -> Start
-    requires { ⌜ length (now table) ≡ 20819 ⌝ }
+    requires { ⌜ length (now table) ≡ 24659 ⌝ }
     ensures { λ r. ⌜ startOf r ≡ partsStart (now (table .entry)) from (sortOf last ∷ sortOf first ∷ []) end ⌝ }
 {
     let start = part_start(table, from, last, end);
@@ -100,7 +96,7 @@ fn pair_start(table: &[u64], from: usize, last: Sort, first: Sort, end: usize) -
 
 // The parts of E -o h, t.
 fn move_start(table: &[u64], from: usize, end: usize) -> Start
-    requires { ⌜ length (now table) ≡ 20819 ⌝ }
+    requires { ⌜ length (now table) ≡ 24659 ⌝ }
     ensures { λ r. ⌜ startOf r ≡ partsStart (now (table .entry)) from (assetTarget ∷ holder ∷ expression ∷ []) end ⌝ }
 {
     let start = part_start(table, from, Sort::AssetTarget, end);
@@ -112,7 +108,7 @@ fn move_start(table: &[u64], from: usize, end: usize) -> Start
 
 // Whether an expression or a condition counts its parts, which start there, and itself.
 fn whole_from(table: &[u64], k: usize, start: Start) -> bool
-    requires { ⌜ length (now table) ≡ 20819 ⌝ }
+    requires { ⌜ length (now table) ≡ 24659 ⌝ }
     requires { ⌜ (k < 4096) × StartsBy (startOf start) k ⌝ }
     ensures { λ r. ⌜ r ≡ wholeFrom (now (table .entry)) k (startOf start) ⌝ }
 {
@@ -124,7 +120,7 @@ fn whole_from(table: &[u64], k: usize, start: Start) -> bool
 
 // Whether the statements of a block that end before node p, in the nodes from `from` on, count n nodes.
 fn statements_before(table: &[u64], from: usize, p: usize, n: usize) -> bool
-    requires { ⌜ length (now table) ≡ 20819 ⌝ }
+    requires { ⌜ length (now table) ≡ 24659 ⌝ }
     ensures { λ r. ⌜ r ≡ statementsBefore (now (table .entry)) from p n ⌝ }
 {
     if p <= from {
@@ -136,7 +132,7 @@ fn statements_before(table: &[u64], from: usize, p: usize, n: usize) -> bool
 
 // Whether a statement counts its own parts, which start there, itself, and the statements before it in its block.
 fn statement_from(table: &[u64], from: usize, k: usize, start: Start) -> bool
-    requires { ⌜ length (now table) ≡ 20819 ⌝ }
+    requires { ⌜ length (now table) ≡ 24659 ⌝ }
     requires { ⌜ (k < 4096) × StartsBy (startOf start) k ⌝ }
     ensures { λ r. ⌜ r ≡ statementFrom (now (table .entry)) from k (startOf start) ⌝ }
 {
@@ -153,7 +149,7 @@ fn statement_from(table: &[u64], from: usize, k: usize, start: Start) -> bool
 
 // Whether there is a block in the n nodes before `end`: none, or its last statement counts them all.
 pub(crate) fn block_ok(table: &[u64], end: usize, n: usize) -> bool
-    requires { ⌜ length (now table) ≡ 20819 ⌝ }
+    requires { ⌜ length (now table) ≡ 24659 ⌝ }
     requires { ⌜ n ≤ end ⌝ }
     ensures { λ r. ⌜ r ≡ blockOk (now (table .entry)) end n ⌝ }
 {
@@ -166,7 +162,7 @@ pub(crate) fn block_ok(table: &[u64], end: usize, n: usize) -> bool
 
 // Where the condition of conditional k starts, which stands before its block.
 fn conditional_start(table: &[u64], from: usize, k: usize) -> Start
-    requires { ⌜ length (now table) ≡ 20819 ⌝ }
+    requires { ⌜ length (now table) ≡ 24659 ⌝ }
     requires { ⌜ from ≤ k ⌝ }
     ensures { λ r. ⌜ startOf r ≡ conditionalStart (now (table .entry)) from k ⌝ }
 {
@@ -184,7 +180,7 @@ fn leaf_ok(table: &[u64], values: usize, parameters: usize, kind: u64, n: u64) -
     ensures { λ r. ⌜ r ≡ leafOk (scopeAt (now (table .entry)) values parameters) kind n ⌝ }
 {
     match kind {
-        Node::CONSTANT => n <= 9223372036854775807,
+        Node::CONSTANT => n <= Contract::TOP,
         Node::STRING => n < word(table, 4),
         Node::FIELD => n < word(table, 2),
         Node::ASSET => n < word(table, 1),
@@ -204,7 +200,7 @@ fn takes_expressions(kind: u64) -> bool
 
 // Whether a statement has its parts in the nodes from `from` on.
 fn statement_ok(table: &[u64], from: usize, k: usize, kind: u64) -> bool
-    requires { ⌜ length (now table) ≡ 20819 ⌝ }
+    requires { ⌜ length (now table) ≡ 24659 ⌝ }
     requires { ⌜ (from ≤ k) × (k < 4096) ⌝ }
     ensures { λ r. ⌜ r ≡ statementOk (now (table .entry)) from k kind ⌝ }
 {
@@ -227,7 +223,7 @@ fn statement_ok(table: &[u64], from: usize, k: usize, kind: u64) -> bool
 
 // Whether a node with parts has them in the nodes from `from` on.
 fn whole_ok(table: &[u64], from: usize, k: usize, kind: u64) -> bool
-    requires { ⌜ length (now table) ≡ 20819 ⌝ }
+    requires { ⌜ length (now table) ≡ 24659 ⌝ }
     requires { ⌜ (from ≤ k) × (k < 4096) ⌝ }
     ensures { λ r. ⌜ r ≡ wholeOk (now (table .entry)) from k kind ⌝ }
 {
@@ -254,7 +250,7 @@ fn is_leaf(kind: u64) -> bool
 }
 
 fn node_ok(table: &[u64], values: usize, parameters: usize, from: usize, k: usize) -> bool
-    requires { ⌜ length (now table) ≡ 20819 ⌝ }
+    requires { ⌜ length (now table) ≡ 24659 ⌝ }
     requires { ⌜ (from ≤ k) × (k < 4096) ⌝ }
     ensures { λ r. ⌜ r ≡ nodeOk (now (table .entry)) (scopeAt (now (table .entry)) values parameters) from k ⌝ }
 {
@@ -268,7 +264,7 @@ fn node_ok(table: &[u64], values: usize, parameters: usize, from: usize, k: usiz
 
 // One more than count where node k is a statement.
 fn counted(table: &[u64], k: usize, count: usize) -> usize
-    requires { ⌜ length (now table) ≡ 20819 ⌝ }
+    requires { ⌜ length (now table) ≡ 24659 ⌝ }
     requires { ⌜ count < 4096 ⌝ }
     ensures { λ r. ⌜ r ≡ pick (isSort statement (kindAt (now (table .entry)) k)) (suc count) count ⌝ }
 {
@@ -287,7 +283,7 @@ pub(crate) fn nodes_ok(
     from: usize,
     n: usize,
 ) -> bool
-    requires { ⌜ length (now table) ≡ 20819 ⌝ }
+    requires { ⌜ length (now table) ≡ 24659 ⌝ }
     requires { ⌜ from + n ≤ 4096 ⌝ }
     ensures { λ r. ⌜ r ≡ nodesOk (now (table .entry)) (scopeAt (now (table .entry)) values parameters) from n ⌝ }
 {

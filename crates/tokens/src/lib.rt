@@ -9,6 +9,7 @@ ghost use Rattle.laws.specs.Bytes.{sameBytes};
 ghost use Rattle.words.specs.Words.{spelled};
 ghost use Rattle.tokens.specs.Classes.{within, isLetter, isDigit, isNameByte, isPrintable, isBlank, isText, isStringByte, run, gap};
 ghost use Rattle.tokens.specs.Tokens.{token, digitsAt, tokenAt, partOf, between, nameAt, numberAt, stringAt, markAt, marks, startAt, kindAmong, reserved};
+use numbers::Value;
 
 pub struct Token {
     pub start: usize,
@@ -31,7 +32,7 @@ impl Token {
 
     pub const STRING_BYTES: usize = 64;
     // The greatest number.
-    pub const TOP: u64 = 9223372036854775807;
+    pub const TOP: u64 = Value::TOP as u64;
 }
 
 // What stands at a place of a text: a token, the question that refuses with its place, or the text's end.
@@ -164,17 +165,19 @@ fn string_end(text: &[u8], at: usize) -> usize
     i
 }
 
-// 2 ^ 63, a number past it, and a tenth of it.
-const LIMIT: u64 = 9223372036854775808;
-
-const ABOVE_LIMIT: u64 = 9223372036854775809;
-
-const TENTH_OF_LIMIT: u64 = 922337203685477580;
-
 // The end of digits, and their value; where that is greater than 2 ^ 63, the number after it.
 pub struct Digits {
     pub end: usize,
     pub value: u64,
+}
+
+impl Digits {
+    // The most digits of a number of 64 bits.
+    pub const MOST: usize = 20;
+    // The number after 2 ^ 63, and a tenth of 2 ^ 63.
+    const ABOVE: u64 = Value::LIMIT + 1;
+
+    const TENTH: u64 = Value::LIMIT / 10;
 }
 
 fn digit_value(b: u8) -> u64
@@ -183,15 +186,15 @@ fn digit_value(b: u8) -> u64
     if b'0' <= b { (b as u64) - 48 } else { 0 }
 }
 
-// v followed by one more digit, or ABOVE_LIMIT where that is greater than LIMIT.
+// v followed by one more digit, or ABOVE where that is greater than 2 ^ 63.
 fn push(v: u64, digit: u8) -> u64
     ensures { λ r. ⌜ r ≡ min (v * 10 + (digit - 48)) 9223372036854775809 ⌝ }
 {
-    if TENTH_OF_LIMIT < v {
-        return ABOVE_LIMIT;
+    if Digits::TENTH < v {
+        return Digits::ABOVE;
     }
     let w = v * 10 + digit_value(digit);
-    if LIMIT < w { ABOVE_LIMIT } else { w }
+    if Value::LIMIT < w { Digits::ABOVE } else { w }
 }
 
 // The digits that start at `at`, gone over once.

@@ -6,9 +6,21 @@ ghost use Prim.Native.Nat.{_≤_};
 ghost use lib.ListN.{length};
 use arguments::Asked;
 use contract::Contract;
+use diagnoses::Diagnosis;
 use libc::STDOUT_FILENO;
+use question_words::Sentence;
 use reading::Answer;
+use results::Report;
 use results::Written;
+
+// The bytes of the folders' names, of the path of a file `args`, of what it holds, and of a contract's path.
+const NAMES: usize = 8192;
+
+const PATH: usize = 128;
+
+const ARGUMENTS: usize = 16384;
+
+const CONTRACT_PATH: usize = 1280;
 
 fn print(bytes: &[u8]) {
     io::write_all(STDOUT_FILENO, bytes);
@@ -58,19 +70,19 @@ fn ask(lines: &[u8]) -> Asked {
 
 // A refused text, as the desk tells it.
 fn refuse(name: &[u8], text: &[u8], number: u8, place: usize) {
-    let mut line = [0u8; 128];
+    let mut line = [0u8; Report::ROOM];
     let written = results::write_text_refusal(number, place, &mut line);
     if let Written::Wrote(n) = written {
         print(tokens::between(&line, 0, n));
     }
-    let mut out = [0u8; 2048];
+    let mut out = [0u8; Diagnosis::ROOM];
     let n = diagnoses::write(name, text, number, place, &mut out);
     print(tokens::between(&out, 0, n));
 }
 
 fn review_field(table: &[u64], x: usize) {
     if reviews::never_agreed(table, x) {
-        let mut name = [0u8; 32];
+        let mut name = [0u8; Contract::NAME];
         let n = reviews::field_name(table, x, &mut name);
         print(b"// never agreed: ");
         print(tokens::between(&name, 0, n));
@@ -103,7 +115,7 @@ fn begin(asked: Asked, name: &[u8], text: &[u8]) {
 
 // The contract in the file with this name in a folder.
 fn start(asked: Asked, folder: &[u8], name: &[u8]) {
-    let mut path = [0u8; 1280];
+    let mut path = [0u8; CONTRACT_PATH];
     let slash = keep(&mut path, 0, folder);
     let file = keep(&mut path, slash, b"/");
     let end = keep(&mut path, file, name);
@@ -114,7 +126,7 @@ fn start(asked: Asked, folder: &[u8], name: &[u8]) {
         print(b" can't be read\n");
         return;
     }
-    let mut text = [0u8; 16385];
+    let mut text = [0u8; Answer::TEXT + 1];
     let n = io::read_full(fd, &mut text);
     libc::close(fd);
     begin(asked, name, tokens::between(&text, 0, n));
@@ -146,10 +158,10 @@ fn answer(folder: &[u8], lines: &[u8]) {
 }
 
 fn show(name: &[u8]) {
-    let mut path = [0u8; 128];
+    let mut path = [0u8; PATH];
     let slash = keep(&mut path, 0, name);
     let end = keep(&mut path, slash, b"/args");
-    let mut lines = [0u8; 16384];
+    let mut lines = [0u8; ARGUMENTS];
     let fd = os::open_read(tokens::between(&path, 0, end));
     let n = io::read_full(fd, &mut lines);
     libc::close(fd);
@@ -170,7 +182,7 @@ fn show_all(names: &[u8]) {
 
 // A question that has words.
 fn word(question: u8) {
-    let mut words = [0u8; 64];
+    let mut words = [0u8; Sentence::BYTES];
     let n = question_words::words(question, &mut words);
     if n == 0 {
         return;
@@ -190,7 +202,7 @@ fn words() {
 }
 
 fn main() {
-    let mut names = [0u8; 8192];
+    let mut names = [0u8; NAMES];
     let n = io::read_full(libc::STDIN_FILENO, &mut names);
     show_all(&names[..n]);
     words();

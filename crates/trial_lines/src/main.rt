@@ -5,6 +5,7 @@
 ghost use Prim.Native.Nat.{_≤_};
 ghost use lib.ListN.{length};
 use libc::STDOUT_FILENO;
+use lines::Agreement;
 use lines::Line;
 use lines::Request;
 
@@ -61,8 +62,8 @@ fn print_call(line: Line) {
     print(b" (");
     print_integers(&all, 0, values);
     print(b" ) [");
-    if values <= 256 {
-        if assets <= 256 {
+    if values <= Line::NUMBERS {
+        if assets <= Line::NUMBERS {
             print_integers(&all, values, values + assets);
         }
     }
@@ -73,7 +74,7 @@ fn print_call(line: Line) {
 fn print_fields(spans: &[usize], values: &[i64], from: usize, to: usize) {
     let mut k = from;
     while k < to {
-        if 86 <= k {
+        if Agreement::FIELDS <= k {
             return;
         }
         print(b" ,");
@@ -89,14 +90,14 @@ fn print_parts(heads: &[usize], spans: &[usize], values: &[i64], parts: usize) {
     let mut p = 0;
     let mut from = 0;
     while p < parts {
-        if 64 <= p {
+        if Agreement::PARTS <= p {
             return;
         }
         let count = place_at(heads, 4 * p + 3);
-        if 86 < count {
+        if Agreement::FIELDS < count {
             return;
         }
-        if 86 < from {
+        if Agreement::FIELDS < from {
             return;
         }
         print(b" ||");

@@ -21,6 +21,7 @@
 // a table passes, as its name in `stdin` says.
 ghost use Prim.Native.Nat.{_≤_, _<_};
 ghost use lib.ListN.{length};
+use contract::Contract;
 use libc::STDOUT_FILENO;
 use numbers::Answer;
 use numbers::Operator;
@@ -32,12 +33,17 @@ use state::Pending;
 use state::State;
 use statements::Label;
 
-const WORDS: usize = 20820;
+// One word more than a table has.
+const WORDS: usize = Contract::TABLE + 1;
 
 struct Number {
     value: u64,
     // The place after it and the space that ends it.
     next: usize,
+}
+
+impl Number {
+    const GREATEST: u64 = 18446744073709551615;
 }
 
 fn digit(b: u8) -> bool {
@@ -47,8 +53,8 @@ fn digit(b: u8) -> bool {
 // One more digit, and the greatest number where there is no room.
 fn push(v: u64, b: u8) -> u64 {
     let d = (b % 48) as u64;
-    if (18446744073709551615 - d) / 10 < v {
-        return 18446744073709551615;
+    if (Number::GREATEST - d) / 10 < v {
+        return Number::GREATEST;
     }
     v * 10 + d
 }
@@ -156,14 +162,22 @@ struct Integer {
 }
 
 struct Integers {
-    items: [i64; 64],
+    items: [i64; Integers::MOST],
     count: usize,
     next: usize,
 }
 
+impl Integers {
+    const MOST: usize = 64;
+}
+
 struct Numbers {
-    items: [usize; 64],
+    items: [usize; Numbers::MOST],
     count: usize,
+}
+
+impl Numbers {
+    const MOST: usize = 64;
 }
 
 // An agreement as the machine takes it.
@@ -191,11 +205,11 @@ fn negated(z: i64) -> i64 {
 
 // The integer of a magnitude, and the nearest where it does not fit.
 fn signed(minus: bool, v: u64) -> i64 {
-    if 9223372036854775807 < v {
+    if Contract::TOP < v {
         if minus {
-            return -9223372036854775808;
+            return Value::LEAST;
         }
-        return 9223372036854775807;
+        return Value::TOP;
     }
     if minus {
         return negated(v as i64);
@@ -222,7 +236,7 @@ fn integer_at(line: &[u8], at: usize) -> Integer {
 
 fn add(list: Numbers, v: usize) -> Numbers {
     let count = list.count;
-    if 64 <= count {
+    if Numbers::MOST <= count {
         return list;
     }
     let mut items = list.items;
@@ -236,7 +250,7 @@ fn add(list: Numbers, v: usize) -> Numbers {
 // The list with an integer of the line, and the place after it.
 fn add_integer(list: Integers, n: Integer) -> Integers {
     let count = list.count;
-    if 64 <= count {
+    if Integers::MOST <= count {
         return list;
     }
     let mut items = list.items;
@@ -251,7 +265,7 @@ fn add_integer(list: Integers, n: Integer) -> Integers {
 
 fn no_integers(at: usize) -> Integers {
     Integers {
-        items: [0; 64],
+        items: [0; Integers::MOST],
         count: 0,
         next: at,
     }
@@ -267,7 +281,7 @@ fn after(list: Integers, next: usize) -> Integers {
 fn integers_at(line: &[u8], at: usize) -> Integers {
     let mut list = no_integers(at);
     let mut n: usize = 0;
-    while n < 64 {
+    while n < Integers::MOST {
         let next = list.next;
         if line.len() <= next {
             return list;
@@ -344,7 +358,7 @@ fn add_item(line: &[u8], p: Parts, at: usize) -> Parts
 
 fn parts_at(line: &[u8], at: usize) -> Parts {
     let none = Numbers {
-        items: [0; 64],
+        items: [0; Numbers::MOST],
         count: 0,
     };
     let values = no_integers(at);
@@ -355,7 +369,7 @@ fn parts_at(line: &[u8], at: usize) -> Parts {
         next: at,
     };
     let mut n: usize = 0;
-    while n < 64 {
+    while n < Numbers::MOST {
         let next = p.next;
         if line.len() <= next {
             break;
@@ -505,7 +519,7 @@ fn four_at(line: &[u8], at: usize) -> Four {
 
 fn set_field(s: State, n: Four) -> State {
     let at = n.first as usize;
-    if 32 <= at {
+    if Contract::FIELDS <= at {
         return s;
     }
     let mut kinds = s.kinds;
@@ -523,7 +537,7 @@ fn set_field(s: State, n: Four) -> State {
 
 fn set_asset(s: State, n: Four) -> State {
     let at = n.first as usize;
-    if 16 <= at {
+    if Contract::ASSETS <= at {
         return s;
     }
     let mut assets = s.assets;
@@ -535,7 +549,7 @@ fn set_asset(s: State, n: Four) -> State {
 
 fn set_event(s: State, n: Four) -> State {
     let at = n.first as usize;
-    if 64 <= at {
+    if State::PENDING <= at {
         return s;
     }
     let mut events = s.events;
@@ -618,10 +632,10 @@ fn print_outcome(outcome: Outcome) {
     }
 }
 
-fn print_assets(assets: [u64; 16], count: usize) {
+fn print_assets(assets: [u64; Contract::ASSETS], count: usize) {
     print(b" |");
     let mut i: usize = 0;
-    while i < 16 {
+    while i < Contract::ASSETS {
         if count <= i {
             return;
         }
@@ -648,7 +662,7 @@ fn print_fields(s: State, count: usize) {
     let numbers = s.numbers;
     let texts = s.texts;
     let mut i: usize = 0;
-    while i < 32 {
+    while i < Contract::FIELDS {
         if count <= i {
             return;
         }
@@ -665,9 +679,9 @@ fn print_label(label: Label) {
     print(b"\n");
 }
 
-fn print_labels(labels: [Label; 64], count: usize) {
+fn print_labels(labels: [Label; Label::MOST], count: usize) {
     let mut i: usize = 0;
-    while i < 64 {
+    while i < Label::MOST {
         if count <= i {
             return;
         }
@@ -802,7 +816,7 @@ fn step_on(line: &[u8], table: &[u64], words: usize, s: State) -> State {
 }
 
 fn run(text: &[u8], table: &mut [u64], kept: &mut [u64]) {
-    let mut words = contract::Contract::TABLE;
+    let mut words = Contract::TABLE;
     let mut s = State::fresh(0);
     let mut start: usize = 0;
     while start < text.len() {

@@ -3,8 +3,12 @@
 // Expected results: the vectors' reading/expected.tsv, a line for each text.
 ghost use Prim.Native.Nat.{_≤_, _<_};
 ghost use lib.ListN.{length};
+use contract::Contract;
 use libc::STDOUT_FILENO;
 use reading::Answer;
+
+// The bytes of a name, less than which are read.
+const NAME: usize = 4000;
 
 fn print(bytes: &[u8]) {
     io::write_all(STDOUT_FILENO, bytes);
@@ -73,7 +77,7 @@ fn read_file(name: &[u8], path: &[u8], text: &mut [u8], table: &mut [u64]) {
 // Reads the text of a name.
 fn show(name: &[u8], path: &mut [u8], text: &mut [u8], table: &mut [u64]) {
     let n = name.len();
-    if n < 4000 {
+    if n < NAME {
         append(path, 0, name);
         append(path, n, b".stipula");
         if n + 8 <= path.len() {
@@ -107,7 +111,7 @@ fn show_all(names: &[u8], path: &mut [u8], text: &mut [u8], table: &mut [u64]) {
 }
 
 fn main() {
-    let mut table: [u64; 20819] = [0; 20819];
+    let mut table: [u64; Contract::TABLE] = [0; Contract::TABLE];
     let mut path = io::buffer();
     let mut text = io::large_buffer();
     let mut names = io::large_buffer();

@@ -15,17 +15,26 @@
 // Expected results: the lines that document 01 lists and others of each kind, with the answers of questions 52, 3 and 53; who worked them out, and how, is not recorded here.
 ghost use Prim.Native.Nat.{_≤_, _<_};
 ghost use lib.ListN.{length};
+use contract::Contract;
 use libc::STDOUT_FILENO;
+use numbers::Value;
 use results::Batch;
 use results::Report;
 use results::Written;
 
-const WORDS: usize = 20819;
+// The most bytes of the buffer for one report, and the reports at once that there are numbers and a buffer for.
+const ROOM: usize = 200;
+
+const MANY: usize = 5;
 
 struct Number {
     value: u64,
     // The place after it and the space that ends it.
     next: usize,
+}
+
+impl Number {
+    const GREATEST: u64 = 18446744073709551615;
 }
 
 fn digit(b: u8) -> bool {
@@ -35,8 +44,8 @@ fn digit(b: u8) -> bool {
 // One more digit, and the greatest number where there is no room.
 fn push(v: u64, b: u8) -> u64 {
     let d = (b % 48) as u64;
-    if (18446744073709551615 - d) / 10 < v {
-        return 18446744073709551615;
+    if (Number::GREATEST - d) / 10 < v {
+        return Number::GREATEST;
     }
     v * 10 + d
 }
@@ -86,16 +95,16 @@ fn byte(v: u64) -> u8 {
 }
 
 fn integer(v: u64) -> i64 {
-    if 9223372036854775807 < v {
-        return 9223372036854775807;
+    if Contract::TOP < v {
+        return Value::TOP;
     }
     v as i64
 }
 
 // -1 - v.
 fn below_zero(v: u64) -> i64 {
-    if 9223372036854775807 < v {
-        return -9223372036854775808;
+    if Contract::TOP < v {
+        return Value::LEAST;
     }
     -1 - (v as i64)
 }
@@ -154,12 +163,12 @@ fn write_text_within(number: u8, place: usize, buffer: &mut [u8], size: usize) {
 }
 
 fn ask(table: &[u64], report: Report, size: usize) {
-    let mut buffer = [b'.'; 200];
+    let mut buffer = [b'.'; ROOM];
     write_within(table, report, &mut buffer, size);
 }
 
 fn ask_text(number: u8, place: usize, size: usize) {
-    let mut buffer = [b'.'; 200];
+    let mut buffer = [b'.'; ROOM];
     write_text_within(number, place, &mut buffer, size);
 }
 
@@ -183,9 +192,9 @@ fn write_batch_within(table: &[u64], numbers: &[u64], many: usize, buffer: &mut 
 
 fn ask_batch(line: &[u8], table: &[u64], size: usize) {
     let first = number_at(line, 2);
-    let mut numbers = [0u64; 20];
+    let mut numbers = [0u64; MANY * Report::WORDS];
     write_words(line, first.next, &mut numbers, 0);
-    let mut buffer = [b'.'; 640];
+    let mut buffer = [b'.'; MANY * Report::ROOM];
     write_batch_within(table, &numbers, first.value as usize, &mut buffer, size);
 }
 
@@ -260,7 +269,7 @@ fn line_end(text: &[u8], start: usize) -> usize
 }
 
 fn run(text: &[u8], table: &mut [u64]) {
-    let mut size: usize = 128;
+    let mut size: usize = Report::ROOM;
     let mut start: usize = 0;
     while start < text.len() {
         let end = line_end(text, start);
@@ -272,6 +281,6 @@ fn run(text: &[u8], table: &mut [u64]) {
 fn main() {
     let mut text = io::large_buffer();
     let n = io::read_full(0, &mut text);
-    let mut table = [0u64; WORDS];
+    let mut table = [0u64; Contract::TABLE];
     run(&text[..n], &mut table);
 }

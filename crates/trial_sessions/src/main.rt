@@ -6,8 +6,22 @@ ghost use lib.ListN.{length};
 use contract::Contract;
 use libc::STDOUT_FILENO;
 use reading::Answer;
+use results::Report;
 use results::Written;
 use state::State;
+
+// The bytes of a session that are read at once, and the result lines that are told at once.
+const BLOCK: usize = 65536;
+
+const LINES: usize = 1024;
+
+// The most parts in which a session is played.
+const PARTS: u64 = 9223372036854775808;
+
+// The bytes of the folders' names, and of a path.
+const NAMES: usize = 8192;
+
+const PATH: usize = 128;
 
 // ---- a session
 
@@ -46,7 +60,7 @@ fn take_file(
     let mut state = State::fresh(0);
     let mut at: usize = 0;
     let mut size: usize = 0;
-    let mut left: u64 = 9223372036854775808;
+    let mut left = PARTS;
     while 0 < left {
         left -= 1;
         let input = tokens::between(bytes, at, size);
@@ -67,10 +81,10 @@ fn take_file(
 
 // A session on the contract in a table, then what each asset holds.
 fn run(table: &[u64], file: i32) {
-    let mut bytes = [0u8; 65536];
-    let mut numbers = [0u64; 4096];
-    let mut integers = [0i64; 1024];
-    let mut out = [0u8; 131072];
+    let mut bytes = [0u8; BLOCK];
+    let mut numbers = [0u64; LINES * Report::WORDS];
+    let mut integers = [0i64; LINES];
+    let mut out = [0u8; LINES * Report::ROOM];
     let s = take_file(
         table,
         file,
@@ -85,7 +99,7 @@ fn run(table: &[u64], file: i32) {
 
 // A refused text.
 fn refuse(number: u8, place: usize) {
-    let mut out = [0u8; 128];
+    let mut out = [0u8; Report::ROOM];
     let written = results::write_text_refusal(number, place, &mut out);
     if let Written::Wrote(n) = written {
         io::write_all(STDOUT_FILENO, tokens::between(&out, 0, n));
@@ -136,11 +150,11 @@ fn keep(line: &mut [u8], kept: usize, bytes: &[u8]) -> usize {
 
 // The folder's `terms.stipula` and its `session`.
 fn play(name: &[u8]) {
-    let mut path = [0u8; 128];
+    let mut path = [0u8; PATH];
     let folder = keep(&mut path, 0, name);
     let terms_end = keep(&mut path, folder, b"/terms.stipula");
     let terms = os::open_read(tokens::between(&path, 0, terms_end));
-    let mut text = [0u8; 16385];
+    let mut text = [0u8; Answer::TEXT + 1];
     let n = io::read_full(terms, &mut text);
     libc::close(terms);
     let session_end = keep(&mut path, folder, b"/session");
@@ -162,7 +176,7 @@ fn play_all(names: &[u8]) {
 }
 
 fn main() {
-    let mut names = [0u8; 8192];
+    let mut names = [0u8; NAMES];
     let n = io::read_full(libc::STDIN_FILENO, &mut names);
     play_all(&names[..n]);
 }

@@ -14,7 +14,9 @@ ghost use lib.ListN.{length, take, drop};
 ghost use mathlib.Core.List.{_++_};
 ghost use Rattle.machine.specs.Steps.{step, fired};
 ghost use Rattle.steps.specs.Left.{leftOf, slotsOf};
+use contract::Contract;
 use libc::STDOUT_FILENO;
+use numbers::Value;
 use outcomes::Outcome;
 use outcomes::Rule;
 use state::Pending;
@@ -28,6 +30,10 @@ struct Number {
     next: usize,
 }
 
+impl Number {
+    const GREATEST: u64 = 18446744073709551615;
+}
+
 fn digit(b: u8) -> bool {
     (48 <= b) & (b <= 57)
 }
@@ -35,8 +41,8 @@ fn digit(b: u8) -> bool {
 // One more digit, and the greatest number where there is no room.
 fn push(v: u64, b: u8) -> u64 {
     let d = (b % 48) as u64;
-    if (18446744073709551615 - d) / 10 < v {
-        return 18446744073709551615;
+    if (Number::GREATEST - d) / 10 < v {
+        return Number::GREATEST;
     }
     v * 10 + d
 }
@@ -98,8 +104,8 @@ fn end_of(text: &[u8], start: usize, mark: u8) -> usize
 
 // The integer of a magnitude, and the greatest where it does not fit.
 fn signed(v: u64) -> i64 {
-    if 9223372036854775807 < v {
-        return 9223372036854775807;
+    if Contract::TOP < v {
+        return Value::TOP;
     }
     v as i64
 }
@@ -127,7 +133,7 @@ fn four_at(line: &[u8], at: usize) -> Four {
 
 fn set_field(s: State, n: Four) -> State {
     let at = n.first as usize;
-    if 32 <= at {
+    if Contract::FIELDS <= at {
         return s;
     }
     let mut kinds = s.kinds;
@@ -145,7 +151,7 @@ fn set_field(s: State, n: Four) -> State {
 
 fn set_asset(s: State, n: Four) -> State {
     let at = n.first as usize;
-    if 16 <= at {
+    if Contract::ASSETS <= at {
         return s;
     }
     let mut assets = s.assets;
@@ -157,7 +163,7 @@ fn set_asset(s: State, n: Four) -> State {
 
 fn set_event(s: State, n: Four) -> State {
     let at = n.first as usize;
-    if 64 <= at {
+    if State::PENDING <= at {
         return s;
     }
     let mut events = s.events;
@@ -284,18 +290,22 @@ fn kept_with(kept: usize, label: Label, i: usize) -> usize {
 // What a firing left, and the entries of which the first were lent to it.
 struct Shown {
     left: Left,
-    labels: [Label; 100],
+    labels: [Label; Shown::ENTRIES],
 }
 
-fn marks() -> [Label; 100] {
+impl Shown {
+    const ENTRIES: usize = 100;
+}
+
+fn marks() -> [Label; Shown::ENTRIES] {
     let mark = Label {
         kind: 9,
         party: 0,
         value: 1000,
     };
-    let mut labels = [mark; 100];
+    let mut labels = [mark; Shown::ENTRIES];
     let mut i: usize = 0;
-    while i < 100 {
+    while i < Shown::ENTRIES {
         labels[i] = Label {
             kind: 9,
             party: i,
@@ -307,7 +317,7 @@ fn marks() -> [Label; 100] {
 }
 
 // A firing with the first n entries.
-fn fire_on(table: &[u64], s: State, before: [Label; 100], n: usize) -> Shown
+fn fire_on(table: &[u64], s: State, before: [Label; Shown::ENTRIES], n: usize) -> Shown
     requires { ⌜ n ≤ 100 ⌝ }
     ensures { λ r. ⌜ (r .left ≡ leftOf (step (now (table .entry)) n s (λ c. fired c s))) × (r .labels ≡ slotsOf (take n before) (step (now (table .entry)) n s (λ c. fired c s)) ++ drop n before) ⌝ }
 {
@@ -317,7 +327,7 @@ fn fire_on(table: &[u64], s: State, before: [Label; 100], n: usize) -> Shown
 }
 
 // How many of the first n entries are as they were.
-fn kept(labels: [Label; 100], n: usize) -> usize
+fn kept(labels: [Label; Shown::ENTRIES], n: usize) -> usize
     requires { ⌜ n ≤ 100 ⌝ }
 {
     let mut count: usize = 0;
@@ -329,7 +339,7 @@ fn kept(labels: [Label; 100], n: usize) -> usize
     count
 }
 
-fn print_entries(labels: [Label; 100], n: usize)
+fn print_entries(labels: [Label; Shown::ENTRIES], n: usize)
     requires { ⌜ n ≤ 100 ⌝ }
 {
     let mut i: usize = 0;
@@ -406,6 +416,6 @@ fn run(text: &[u8], table: &mut [u64]) {
 fn main() {
     let mut text = io::large_buffer();
     let n = io::read_full(0, &mut text);
-    let mut table = [0u64; contract::Contract::TABLE];
+    let mut table = [0u64; Contract::TABLE];
     run(&text[..n], &mut table);
 }

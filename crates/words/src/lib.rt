@@ -117,8 +117,13 @@ pub const LINE_END: u8 = 47;
 
 // A fixed word: its bytes, then zeros, and how many bytes it has.
 pub struct Word {
-    pub bytes: [u8; 16],
+    pub bytes: [u8; Word::BYTES],
     pub length: usize,
+}
+
+impl Word {
+    // The bytes that there is room for.
+    pub const BYTES: usize = 16;
 }
 
 // Stores a byte, where there is room.
@@ -145,7 +150,7 @@ fn copy(word: &[u8], out: &mut [u8])
 fn spell(word: &[u8]) -> Word
     ensures { λ r. ⌜ r ≡ zerosWith (now (word .entry)) ⌝ }
 {
-    let mut bytes = [0u8; 16];
+    let mut bytes = [0u8; Word::BYTES];
     copy(word, &mut bytes);
     Word {
         bytes,

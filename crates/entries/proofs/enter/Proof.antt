@@ -12,16 +12,18 @@ returns c =
     let c8 = c7 .before in
     let c12 = c8 .before .before .before .before in
     let c14 = c12 .before .before in
-    let c18 = c14 .before .before .before .before in
-    let a = c18 .args in (
-      entered-table (a .text .now) (a .table .now) (a .notes .now) (a .kind) (a .i) (a .start) (a .end) _ (c14 .between .ensures) _ (c12 .enter-row .ensures),
-      entered-notes (a .text .now) (a .table .now) (a .notes .now) (a .kind) (a .i) (a .start) (a .end) _ (c14 .between .ensures) _ _ _ _ (c8 .slot-of .ensures .0) (c7 .mark .ensures .0) (c6 .write-slot .ensures) (c2 .store .ensures),
+    let c16 = c14 .before .before in
+    let c20 = c16 .before .before .before .before in
+    let a = c20 .args in (
+      entered-table (a .text .now) (a .table .now) (a .notes .now) (a .kind) (a .i) (a .start) (a .end) _ (c16 .between .ensures) _ _ (c14 .word .ensures) (c12 .enter-row .ensures),
+      entered-notes (a .text .now) (a .table .now) (a .notes .now) (a .kind) (a .i) (a .start) (a .end) _ (c16 .between .ensures) _ _ _ _ (c8 .slot-of .ensures .0) (c7 .mark .ensures .0) (c6 .write-slot .ensures) (c2 .store .ensures),
     )
 
 pub enter-spec : {M : Type 1} → statement M
 enter-spec =
     tie.close
     (tie.spec
+    (λ c κs. search needs)
     (λ c κs. search needs)
     (λ c κs. search needs)
     (λ c κs. search needs)
