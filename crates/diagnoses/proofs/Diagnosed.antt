@@ -11,15 +11,16 @@ use borrow.Author.Tests.{lt-ltb, le-ltb}
 use Rattle.laws.specs.Bytes.{bytes}
 use Rattle.laws.proofs.Choice.{pick-true, pick-false}
 use Rattle.tokens.specs.Tokens.{between}
-use Rattle.results.specs.Decimal.{decimal}
-use Rattle.results.specs.Private.{Put}
-use Rattle.results.proofs.Puts.{then, same, over, line-end}
-use Rattle.results.proofs.Digits.{word-short}
+use Rattle.printing.specs.Decimal.{decimal}
+use Rattle.printing.specs.Pieces.{Put, spaces}
+use Rattle.printing.proofs.Puts.{Puts, put-of, piece, then, same, over, line-end}
+use Rattle.printing.proofs.Digits.{word-short}
+use Rattle.printing.proofs.Names.{spaces-long}
 use Rattle.question_words.specs.Words.{wordsOf}
 use Rattle.question_words.proofs.WordLaws.{words-short}
 use Rattle.places.specs.Places.{placeOf, columnOf}
 use Rattle.places.specs.declared.Place.{Place}
-use Rattle.diagnoses.specs.Diagnoses.{whereText, whatText, shownLine, spaces, markUnder, sourceText, diagnosisAt, diagnosis, fits, written, bufferAfter}
+use Rattle.diagnoses.specs.Diagnoses.{whereText, whatText, shownLine, markUnder, sourceText, diagnosisAt, diagnosis, fits, written, bufferAfter}
 
 -- ---- lengths
 
@@ -35,17 +36,22 @@ what-short n h = simp length-append (omega (arith, words-short n, word-short n h
 -- ---- lines
 
 module _ {old : List ℕ} {at : ℕ} where
-  pub where-made : {file m1 m2 m3 m4 m5 new : List ℕ} {n1 n2 n3 n4 n5 n : ℕ} (line column : ℕ)
-      → Put old at file n1 m1 → Put m1 n1 (58 ∷ []) n2 m2 → Put m2 n2 (decimal line) n3 m3 → Put m3 n3 (58 ∷ []) n4 m4
-      → Put m4 n4 (decimal column) n5 m5 → Put m5 n5 (58 ∷ 32 ∷ []) n new → Put old at (whereText file line column) n new
+  pub where-made : {m1 m2 m3 m4 m5 new : List ℕ} {n1 n2 n3 n4 n5 n : ℕ} (file : List ℕ) (line column : ℕ)
+      → length file ≤ 1024 → line < 2 ^ 64 → column < 2 ^ 64 → at + 1068 ≤ length old
+      → Puts old at file n1 m1 → Puts m1 n1 (bytes ":") n2 m2 → Puts m2 n2 (decimal line) n3 m3 → Puts m3 n3 (bytes ":") n4 m4
+      → Puts m4 n4 (decimal column) n5 m5 → Puts m5 n5 (bytes ": ") n new → Put old at (whereText file line column) n new
   unfolding whereText
-  where-made line column a b d e f g = then a (then b (then d (then e (then f g))))
+  where-made file line column f l k r a b d e g i =
+      let h : at + length (whereText file line column) ≤ length old = omega (arith, where-short file line column f l k, r) in
+      piece file h a λ h. piece (bytes ":") h b λ h. piece (decimal line) h d λ h. piece (bytes ":") h e λ h. piece (decimal column) h g λ h. put-of (bytes ": ") i h
 
-  pub what-made : {m1 m2 m3 new : List ℕ} {n1 n2 n3 n : ℕ} (number : ℕ)
-      → Put old at (wordsOf number) n1 m1 → Put m1 n1 (32 ∷ 40 ∷ []) n2 m2 → Put m2 n2 (decimal number) n3 m3 → Put m3 n3 (41 ∷ 10 ∷ []) n new
+  pub what-made : {m1 m2 m3 new : List ℕ} {n1 n2 n3 n : ℕ} (number : ℕ) → number < 2 ^ 64 → at + 88 ≤ length old
+      → Puts old at (wordsOf number) n1 m1 → Puts m1 n1 (bytes " (") n2 m2 → Puts m2 n2 (decimal number) n3 m3 → Puts m3 n3 (bytes ")\n") n new
       → Put old at (whatText number) n new
   unfolding whatText
-  what-made number a b d e = then a (then b (then d e))
+  what-made number f r a b d e =
+      let h : at + length (whatText number) ≤ length old = omega (arith, what-short number f, r) in
+      piece (wordsOf number) h a λ h. piece (bytes " (") h b λ h. piece (decimal number) h d λ h. put-of (bytes ")\n") e h
 
   pub mark-none : (column : ℕ) → 200 < column → at ≤ length old → Put old at (markUnder column) at old
   unfolding markUnder
@@ -53,10 +59,12 @@ module _ {old : List ℕ} {at : ℕ} where
       same (sym (pick-true (ltb 200 column) [] (spaces (column - 1) ++ bytes "^\n") (lt-ltb 200 column h)))
       record { place = sym (add-zero at); list = refl; room = omega arith }
 
-  pub mark-made : {mid new : List ℕ} {m n : ℕ} (column : ℕ) → column ≤ 200 → Put old at (spaces (column - 1)) m mid → Put mid m (94 ∷ 10 ∷ []) n new
-      → Put old at (markUnder column) n new
+  pub mark-made : {mid new : List ℕ} {m n : ℕ} (column : ℕ) → 1 ≤ column → column ≤ 200 → at + 201 ≤ length old → Puts old at (spaces (column - 1)) m mid
+      → Puts mid m (bytes "^\n") n new → Put old at (markUnder column) n new
   unfolding markUnder
-  mark-made column h p q = same (sym (pick-false (ltb 200 column) [] (spaces (column - 1) ++ bytes "^\n") (le-ltb 200 column h))) (then p q)
+  mark-made column f k r p q =
+      let h : at + length (spaces (column - 1) ++ bytes "^\n") ≤ length old = omega (arith, length-append (spaces (column - 1)) (bytes "^\n"), spaces-long (column - 1)) in
+      same (sym (pick-false (ltb 200 column) [] (spaces (column - 1) ++ bytes "^\n") (le-ltb 200 column k))) (piece (spaces (column - 1)) h p λ h. put-of (bytes "^\n") q h)
 
   pub source-made : {line m1 m2 new : List ℕ} {n1 n2 n : ℕ} (text : List ℕ) (p : Place) → line ≡ between text (p .start) (p .end)
       → Put old at (shownLine line) n1 m1 → Put m1 n1 (10 ∷ []) n2 m2 → Put m2 n2 (markUnder (p .column)) n new → Put old at (sourceText text p) n new

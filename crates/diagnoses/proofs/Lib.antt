@@ -1,5 +1,4 @@
 -- What the code's proofs use.
-pub mod Numerals
 pub mod Shown
 pub mod Diagnosed
 -- What holds of the definitions.

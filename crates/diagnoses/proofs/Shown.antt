@@ -1,15 +1,15 @@
--- Bytes, lines and spaces as they are shown, stored one byte a turn; the front of a buffer. Assumes nothing.
+-- Bytes and lines as they are shown, stored one byte a turn; the front of a buffer. Assumes nothing.
 use mathlib.Core.Path.{_≡_, refl, sym, ap, _∙_}
 use mathlib.Core.List.{List, [], _∷_, map}
 use Prim.Native.Nat.{ℕ, zero, suc, _+_, _<_, _≤_, min}
 use native.Mathlib.Omega.{arith}
-use lib.ListN.{length, getD, set, take, drop, length-take, length-map, length-replicate, getD-replicate}
+use lib.ListN.{length, getD, set, take, drop, length-take, length-map}
 use lib.Seq.{sets, sets-eq, getD-take, take-append-seam}
 use borrow.Author.Tests.{le-leb, lt-leb}
 use Rattle.laws.specs.Choice.{pick}
 use Rattle.tokens.specs.Classes.{within, isPrintable}
-use Rattle.results.proofs.Puts.{store-next}
-use Rattle.diagnoses.specs.Diagnoses.{shown, shownLine, spaces}
+use Rattle.printing.proofs.Puts.{store-next}
+use Rattle.diagnoses.specs.Diagnoses.{shown, shownLine}
 
 -- ---- a byte
 
@@ -49,18 +49,6 @@ shown-next new line at i {b} h e =
     let l : i < length (shownLine line) = omega (arith, shown-long line) in
     ap (λ (v : ℕ). sets (set new (at + i) v) (at + (i + 1)) (drop (i + 1) (shownLine line))) (e ∙ sym (shown-at line i h))
     ∙ store-next new (shownLine line) at i l
-
--- ---- spaces
-
-pub spaces-long : (n : ℕ) → length (spaces n) ≡ n
-spaces-long n = length-replicate n 32
-
-pub space-next : (new : List ℕ) (at i n : ℕ) → i < n
-    → sets (set new (at + i) 32) (at + (i + 1)) (drop (i + 1) (spaces n)) ≡ sets new (at + i) (drop i (spaces n))
-space-next new at i n h =
-    let l : i < length (spaces n) = omega (arith, spaces-long n) in
-    ap (λ (v : ℕ). sets (set new (at + i) v) (at + (i + 1)) (drop (i + 1) (spaces n))) (sym (getD-replicate n i 32 0 h))
-    ∙ store-next new (spaces n) at i l
 
 -- ---- what was stored first
 

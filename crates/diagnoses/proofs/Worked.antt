@@ -6,10 +6,11 @@ use Rattle.laws.specs.Bytes.{bytes}
 use Rattle.laws.specs.Lists.{keep}
 use Rattle.tokens.specs.Classes.{run, within, isPrintable}
 use Rattle.tokens.specs.Tokens.{between}
-use Rattle.results.specs.Decimal.{decimal, decimalWithin}
+use Rattle.printing.specs.Decimal.{decimal, decimalWithin}
+use Rattle.printing.specs.Pieces.{spaces}
 use Rattle.question_words.specs.Words.{wordsIn, wordsOf}
 use Rattle.places.specs.Places.{lineOf, startOf, columnOf, inLine, endOf}
-use Rattle.diagnoses.specs.Diagnoses.{whereText, whatText, shown, shownLine, spaces, markUnder, sourceText, diagnosisAt, diagnosis}
+use Rattle.diagnoses.specs.Diagnoses.{whereText, whatText, shown, shownLine, markUnder, sourceText, diagnosisAt, diagnosis}
 use Rattle.diagnoses.specs.Cases.{Case, cases}
 
 pub worked : map (λ (c : Case). diagnosis (bytes (c .file)) (bytes (c .text)) (c .number) (c .place)) cases ≡ map (λ (c : Case). bytes (c .said)) cases

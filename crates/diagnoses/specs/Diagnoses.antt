@@ -3,13 +3,14 @@ use Prim.Native.Nat.{ℕ, _-_}
 use Prim.Native.Char.{code}
 use mathlib.Core.Bool.{Bool, _&&_, _||_}
 use mathlib.Core.List.{List, [], _++_, map}
-use lib.ListN.{length, take, drop, replicate}
+use lib.ListN.{length, take, drop}
 use lib.Dec.{eqb, ltb, leb}
 use Rattle.laws.specs.Choice.{pick}
 use Rattle.laws.specs.Bytes.{bytes}
 use Rattle.tokens.specs.Classes.{isPrintable}
 use Rattle.tokens.specs.Tokens.{between}
-use Rattle.results.specs.Decimal.{decimal}
+use Rattle.printing.specs.Decimal.{decimal}
+use Rattle.printing.specs.Pieces.{spaces}
 use Rattle.question_words.specs.Words.{wordsOf}
 use Rattle.places.specs.Places.{placeOf}
 use Rattle.places.specs.declared.Place.{Place}
@@ -29,9 +30,6 @@ shown b = pick (isPrintable b) b (code " ")
 -- a line as it is shown: at most its first 200 bytes
 unfoldable pub shownLine : List ℕ → List ℕ
 shownLine line = map shown (take 200 line)
-
-abbrev pub spaces : ℕ → List ℕ
-spaces n = replicate n (code " ")
 
 -- `^` under a column, none over 200
 unfoldable pub markUnder : ℕ → List ℕ

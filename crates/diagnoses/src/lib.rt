@@ -2,7 +2,7 @@
 ghost use mathlib.Core.Path.{_≡_};
 ghost use Prim.Native.Nat.{_≤_};
 ghost use lib.ListN.{length};
-ghost use Rattle.results.specs.Private.{Put};
+ghost use Rattle.printing.specs.Pieces.{Put};
 ghost use Rattle.diagnoses.specs.Diagnoses.{diagnosis, written, bufferAfter};
 use arguments::Asked;
 

@@ -1,17 +1,16 @@
 // The lines of a diagnosis, each stored from a place of the lent buffer on; each hands back the place after it.
 ghost use Prim.Native.Nat.{_+_, _≤_};
 ghost use lib.ListN.{length};
-ghost use Rattle.results.specs.Private.{Put};
+ghost use Rattle.printing.specs.Pieces.{Put};
 ghost use Rattle.diagnoses.specs.Diagnoses.{whereText, whatText, markUnder, sourceText};
 use crate::Diagnosis;
-use crate::pieces::put_byte;
-use crate::pieces::put_bytes;
-use crate::pieces::put_number;
-use crate::pieces::put_pair;
 use crate::pieces::put_shown;
-use crate::pieces::put_spaces;
 use crate::pieces::put_words;
 use places::Place;
+use printing::put_byte;
+use printing::put_bytes;
+use printing::put_number;
+use printing::put_spaces;
 
 // The file, the line and the column.
 pub(crate) fn put_where(file: &[u8], line: usize, column: usize, buffer: &mut [u8]) -> usize
@@ -21,10 +20,10 @@ pub(crate) fn put_where(file: &[u8], line: usize, column: usize, buffer: &mut [u
 {
     let a = put_bytes(buffer, 0, file);
     let b = put_byte(buffer, a, b':');
-    let d = put_number(buffer, b, line);
+    let d = put_number(buffer, b, line as u64);
     let e = put_byte(buffer, d, b':');
-    let f = put_number(buffer, e, column);
-    put_pair(buffer, f, b':', b' ')
+    let f = put_number(buffer, e, column as u64);
+    put_bytes(buffer, f, b": ")
 }
 
 // The words of a question and its number.
@@ -33,9 +32,9 @@ pub(crate) fn put_what(number: u8, buffer: &mut [u8], at: usize) -> usize
     ensures { λ r. ⌜ Put (now (buffer .entry)) at (whatText number) r (now (buffer .exit)) ⌝ }
 {
     let a = put_words(number, buffer, at);
-    let b = put_pair(buffer, a, b' ', b'(');
-    let d = put_number(buffer, b, number as usize);
-    put_pair(buffer, d, b')', b'\n')
+    let b = put_bytes(buffer, a, b" (");
+    let d = put_number(buffer, b, number as u64);
+    put_bytes(buffer, d, b")\n")
 }
 
 // A mark under a column.
@@ -47,8 +46,8 @@ fn put_mark(column: usize, buffer: &mut [u8], at: usize) -> usize
     if Diagnosis::SHOWN < column {
         return at;
     }
-    let a = put_spaces(column - 1, buffer, at);
-    put_pair(buffer, a, b'^', b'\n')
+    let a = put_spaces(buffer, at, column - 1);
+    put_bytes(buffer, a, b"^\n")
 }
 
 // The text's line with a place, and the mark.

@@ -1,4 +1,5 @@
--- Statements in scope send labels that question 53 lets pass, and are refused by questions 30 to 36 alone. Assumes nothing.
+-- Statements in scope send labels that question 53 lets pass, with payouts up to top, and are refused by questions 30 to 36 alone. Assumes
+-- nothing.
 use mathlib.Core.Path.{_≡_, refl, sym, ap, _∙_}
 use mathlib.Core.Bool.{Bool, true, false, _&&_}
 use mathlib.Core.List.{List, [], _∷_}
@@ -6,9 +7,11 @@ use Prim.Native.Nat.{ℕ, _<_, _≤_}
 use native.Mathlib.Omega.{arith}
 use lib.ListN.{length, getD, take, length-set}
 use lib.Seq.{take-suc-set}
-use lib.Dec.{eqb, ltb}
-use lib.IntN.{ℤ, pos, negsuc}
-use borrow.Author.Tests.{ltb-true, lt-ltb, le-ltb, leb-true}
+use lib.Dec.{eqb, leb, ltb}
+use lib.IntN.{ℤ, pos, negsuc, natAbs}
+use lib.Signed.{leZ}
+use borrow.Author.Tests.{ltb-true, lt-ltb, le-ltb, leb-true, le-leb, ltb-false}
+use Rattle.laws.specs.Choice.{pick}
 use Rattle.laws.proofs.Choice.{by-cases, pick-true, pick-false, true-false}
 use Rattle.numbers.specs.Numbers.{within}
 use Rattle.numbers.specs.declared.Value.{Value}
@@ -17,7 +20,7 @@ use Rattle.numbers.specs.declared.Answer.{Answer}
 use Rattle.numbers.specs.declared.Answer.the-variants as answer
 use Rattle.numbers.specs.declared.Truth.{Truth}
 use Rattle.numbers.specs.declared.Truth.the-variants as truth
-use Rattle.contract.specs.Limits.{maxAssets, maxFields, maxParameters}
+use Rattle.contract.specs.Limits.{top, maxAssets, maxFields, maxParameters}
 use Rattle.contract.specs.Tree.{Holder, asset, assetParameter, held, Action, assign, send, move, pay, moveAll, payAll, Block, none, perform, conditional, brokenBlock, Contract}
 use Rattle.contract.specs.Check.{ranges}
 use Rattle.laws.proofs.Members.{every-append}
@@ -27,15 +30,20 @@ use Rattle.contract.specs.Fits.{Scope, holderIn, expressionIn, conditionIn, act
 use Rattle.evaluation.specs.Meaning.{valueOf, truthOf}
 use Rattle.statements.specs.declared.Label.{Label}
 use Rattle.statements.specs.declared.Work.{Work}
-use Rattle.statements.specs.Running.{maxHoldings, maxLabels, integerLabel, stringLabel, assetLabel, memoryIn, stopped, onward, stored, withHoldings, labelled, sent, receiver, place, moved, paid, withValue, withAmount, performed, byTruth, ran}
+use Rattle.statements.specs.Running.{maxHoldings, maxLabels, integerLabel, stringLabel, assetLabel, memoryIn, stopped, onward, stored, withHoldings, labelled, sent, receiver, place, amountAt, moved, paid, withValue, withAmount, performed, byTruth, ran}
 use Rattle.results.specs.Lines.{valueOk, reportOk}
 use Rattle.step_reports.specs.Reports.{labelReport}
 use Rattle.history.proofs.ValuesInRange.{ValueIn, AnswerIn, value-in}
 use Rattle.history.proofs.Ranges.{Right, memory-in, ran-right}
 use Rattle.history.proofs.RefusalNumbers.{Stops, AnswerStops, TruthStops, value-stops, truth-stops}
 
+-- a payout is an amount of 0 to top, as question 61 asks
+unfoldable pub payoutOk : ℕ → ℤ → Bool
+payoutOk kind value = pick (eqb kind assetLabel) (leZ (pos 0) value && leb (natAbs value) top) true
+
+-- and question 53 lets the label pass
 abbrev pub labelOk : Contract → Label → Bool
-labelOk k l = reportOk k (labelReport l)
+labelOk k l = reportOk k (labelReport l) && payoutOk (l .kind) (l .value)
 
 pub record Fair (k : Contract) (w : Work) : Type 0 where
   pub labels-length : length (w .labels) ≡ maxLabels
@@ -43,6 +51,14 @@ pub record Fair (k : Contract) (w : Work) : Type 0 where
   pub stop : eqb (w .refusal) 0 ≡ false → Stops (w .refusal)
 
 -- ---- labels
+
+value-fits : (kind : ℕ) (z : ℤ) → eqb kind assetLabel ≡ false → payoutOk kind z ≡ true
+unfolding payoutOk
+value-fits kind z e = pick-false _ _ _ e
+
+amount-fits : (n : ℕ) → n ≤ top → payoutOk assetLabel (pos n) ≡ true
+unfolding payoutOk
+amount-fits n h = pick-true _ _ _ refl ∙ both-true (leb 0 n) (leb n top) (le-leb 0 n (omega arith)) (le-leb n top h)
 
 module _ (k : Contract) where
   string-ok : (n : ℕ) → n < length (k .strings) → valueOk k 2 (pos n) ≡ true
@@ -57,11 +73,14 @@ module _ (k : Contract) where
   unfolding valueOk
   integer-ok z = pick-true _ _ _ refl
 
-  label-ok : (kind a : ℕ) (z : ℤ) → ranges 1 kind 3 ≡ true → a < length (k .parties) → valueOk k kind z ≡ true → labelOk k (record { kind = kind; party = a; value = z }) ≡ true
+  label-ok : (kind a : ℕ) (z : ℤ) → ranges 1 kind 3 ≡ true → a < length (k .parties) → valueOk k kind z ≡ true → payoutOk kind z ≡ true
+      → labelOk k (record { kind = kind; party = a; value = z }) ≡ true
   unfolding reportOk
-  label-ok kind a z r h v =
-      both-true (ranges 1 kind 3) (ltb a (length (k .parties)) && valueOk k kind z) r
-      (both-true (ltb a (length (k .parties))) (valueOk k kind z) (lt-ltb a (length (k .parties)) h) v)
+  label-ok kind a z r h v q =
+      both-true (reportOk k (labelReport (record { kind = kind; party = a; value = z }))) (payoutOk kind z)
+      (both-true (ranges 1 kind 3) (ltb a (length (k .parties)) && valueOk k kind z) r
+      (both-true (ltb a (length (k .parties))) (valueOk k kind z) (lt-ltb a (length (k .parties)) h) v))
+      q
 
 -- ---- one change
 
@@ -92,8 +111,8 @@ module _ {k : Contract} {w : Work} (o : Fair k w) where
 
   sent-fair : (a : ℕ) (v : Value) → a < length (k .parties) → ValueIn (length (k .strings)) v → Fair k (sent w a v)
   unfolding ranges
-  sent-fair a (Integer z) h i = labelled-fair integerLabel a z (label-ok k integerLabel a z refl h (integer-ok k z))
-  sent-fair a (Text n) h i = labelled-fair stringLabel a (pos n) (label-ok k stringLabel a (pos n) refl h (string-ok k n i))
+  sent-fair a (Integer z) h i = labelled-fair integerLabel a z (label-ok k integerLabel a z refl h (integer-ok k z) (value-fits integerLabel z refl))
+  sent-fair a (Text n) h i = labelled-fair stringLabel a (pos n) (label-ok k stringLabel a (pos n) refl h (string-ok k n i) (value-fits stringLabel (pos n) refl))
 
   moved-fair : (i j n : ℕ) → j < maxHoldings → Fair k (moved w i j n)
   unfolding moved ranges
@@ -114,11 +133,12 @@ module _ {k : Contract} {w : Work} (o : Fair k w) where
   amount-fair (answer.Is (Integer (pos n))) f s g = g n
   amount-fair (answer.Is (Integer (negsuc n))) f s g = stopped-fair 34 refl
 
-paid-fair : {k : Contract} {w : Work} → Fair k w → (i a n : ℕ) → a < length (k .parties) → Fair k (paid w i a n)
+paid-fair : {k : Contract} {w : Work} → Fair k w → (i a n : ℕ) → a < length (k .parties) → amountAt w i ≤ top → Fair k (paid w i a n)
 unfolding paid ranges
-paid-fair {k} o i a n h =
-    by-cases (Fair k) _ _ _ (λ _. stopped-fair o 35 refl) λ _.
-    labelled-fair (holdings-fair o _) assetLabel a (pos n) (label-ok k assetLabel a (pos n) refl h (amount-ok k n))
+paid-fair {k} {w} o i a n h m =
+    by-cases (Fair k) _ _ _ (λ _. stopped-fair o 35 refl) λ e.
+    labelled-fair (holdings-fair o _) assetLabel a (pos n)
+    (label-ok k assetLabel a (pos n) refl h (amount-ok k n) (amount-fits n (omega (arith, ltb-false (amountAt w i) n e))))
 
 onward-fair : {k : Contract} {w : Work} (f : Work → Work) → Fair k w → Fair k (f w) → Fair k (onward w f)
 unfolding onward
@@ -173,13 +193,13 @@ module _ (k : Contract) (c : Scope) (q : Inside k c) (v : List ℤ) (values : (i
   performed-fair {w} (pay e h a) i r o =
       let both = both-right (expressionIn c e) (holderIn c h && ltb a (c .parties)) i in
       amount-fair o (valueOf (memoryIn v t w) e) _ (value-stops c (memoryIn v t w) e (both-left (expressionIn c e) (holderIn c h && ltb a (c .parties)) i))
-      (λ n. paid-fair o (place h) (receiver a) n (party-few a (both-right (holderIn c h) (ltb a (c .parties)) both)))
+      (λ n. paid-fair o (place h) (receiver a) n (party-few a (both-right (holderIn c h) (ltb a (c .parties)) both)) (r .amounts .most (place h)))
   performed-fair {w} (moveAll h j) i r o =
       amount-fair o (valueOf (memoryIn v t w) (held h)) _ (value-stops c (memoryIn v t w) (held h) (both-left (holderIn c h) (holderIn c j) i))
       (λ n. moved-fair o (place h) (place j) n (holder-few j (both-right (holderIn c h) (holderIn c j) i)))
   performed-fair {w} (payAll h a) i r o =
       amount-fair o (valueOf (memoryIn v t w) (held h)) _ (value-stops c (memoryIn v t w) (held h) (both-left (holderIn c h) (ltb a (c .parties)) i))
-      (λ n. paid-fair o (place h) (receiver a) n (party-few a (both-right (holderIn c h) (ltb a (c .parties)) i)))
+      (λ n. paid-fair o (place h) (receiver a) n (party-few a (both-right (holderIn c h) (ltb a (c .parties)) i)) (r .amounts .most (place h)))
 
   pub ran-fair : {w : Work} (b : Block) → blockIn c b ≡ true → Right c w → Fair k w → Fair k (ran v t w b)
   unfolding ran blockIn

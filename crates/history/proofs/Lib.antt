@@ -27,5 +27,6 @@ pub mod LabelsOk
 pub mod Reported
 pub mod Coded
 pub mod Continued
+pub mod Settled
 pub mod SessionHistory
 pub mod SessionEnds

@@ -18,12 +18,14 @@ use Rattle.numbers.specs.declared.Truth.{Truth}
 use Rattle.numbers.specs.declared.Truth.the-variants as truth
 use Rattle.contract.specs.Limits.{top, maxParameters}
 use Rattle.contract.specs.Tree.{Precondition, omitted, given, Event, Function, Contract}
-use Rattle.contract.specs.Check.{ranges}
+use Rattle.contract.specs.Decode.{contractOf}
+use Rattle.contract.specs.Check.{passes, ranges}
 use Rattle.laws.proofs.Members.{every-head, every-tail, repeated-length}
 use Rattle.laws.proofs.Truths.{both-left, both-right, both-true, first-true, second-true}
 use Rattle.laws.specs.Lists.{every}
 use Rattle.contract.specs.Fits.{Scope, preconditionIn, scopeOf, scopeIn, eventIn, functionIn, fits}
 use Rattle.contract.proofs.Fitting.{FitsFunction, FitsContract, fits-event, fits-function, fits-contract}
+use Rattle.contract_laws.proofs.Sound.{sound}
 use Rattle.evaluation.specs.Memory.{Memory}
 use Rattle.evaluation.specs.Meaning.{valueOf}
 use Rattle.state.specs.declared.State.{State}
@@ -40,19 +42,19 @@ use Rattle.outcomes.specs.declared.Outcome.the-variants.{Accepted, Failed}
 use Rattle.outcomes.specs.declared.Stepped.{Stepped}
 use Rattle.outcomes.specs.Outcomes.{noLabel, answered, refused}
 use Rattle.holdings.specs.Holdings.{amounts}
-use Rattle.machine.specs.Steps.{accepted, begun, Invocation, Chosen, chosen, answersTo, choose, preconditionHolds, Scheduled, times, no, scheduled, schedule, withScheduled, finished, byPrecondition, invoked, byChosen, callByDue, called, handled, fireByDue, fired, tickByDue, ticked, Request, agreement, call, firing, tick, requested}
+use Rattle.machine.specs.Steps.{accepted, begun, Invocation, Chosen, chosen, answersTo, choose, preconditionHolds, Scheduled, times, no, scheduled, schedule, withScheduled, finished, byPrecondition, invoked, byChosen, callByDue, called, handled, fireByDue, fired, tickByDue, ticked, step, Request, agreement, call, firing, tick, requested}
 use Rattle.agreements.specs.Agreement.{Part, agreedOn}
-use Rattle.step_reports.specs.Reports.{ruleNumber, reportOf, labelReports, told}
-use Rattle.history.specs.Histories.{within64}
+use Rattle.step_reports.specs.Reports.{ruleNumber, reportOf, labelReport, labelReports, told}
+use Rattle.history.specs.Histories.{Step, answerTo, within64}
 use Rattle.history.proofs.Cases.{bodyRan, eventAt, handlerRan}
 use Rattle.history.proofs.ContractBounds.{BoundedEvent, bounded}
 use Rattle.history.proofs.GoodState.{Good, agreed-name}
 use Rattle.history.proofs.GoodWork.{values-in, amounts-most, begun-right}
 use Rattle.history.proofs.StepsKeepGood.{request-good}
 use Rattle.history.proofs.RefusalNumbers.{Stops, AnswerStops, TruthStops, value-stops, truth-stops}
-use Rattle.history.proofs.LabelsOk.{labelOk, Fair, Inside, ran-fair}
+use Rattle.history.proofs.LabelsOk.{payoutOk, labelOk, Fair, Inside, ran-fair}
 
--- what a step tells passes question 53
+-- what a step tells passes question 53, and its payouts are up to top
 pub record Fine (c : Contract) (r : Stepped) : Type 0 where
   pub outcome : reportOk c (reportOf (r .outcome) (r .state .state) (r .state .clock)) ≡ true
   pub labels : every (labelOk c) (take (r .count) (r .labels)) ≡ true
@@ -61,8 +63,9 @@ labels-told : (c : Contract) (ls : List Label) → every (labelOk c) ls ≡ true
 unfolding every labelReports
 labels-told c [] e = refl
 labels-told c (l ∷ ls) e =
-    both-true (labelOk c l) (every (reportOk c) (labelReports ls)) (both-left (labelOk c l) (every (labelOk c) ls) e)
-    (labels-told c ls (both-right (labelOk c l) (every (labelOk c) ls) e))
+    both-true (reportOk c (labelReport l)) (every (reportOk c) (labelReports ls))
+    (both-left (reportOk c (labelReport l)) (payoutOk (l .kind) (l .value)) (every-head (labelOk c) l ls e))
+    (labels-told c ls (every-tail (labelOk c) l ls e))
 
 pub fine-told : {c : Contract} {r : Stepped} → Fine c r → every (reportOk c) (told r) ≡ true
 unfolding told every
@@ -253,3 +256,14 @@ module _ (c : Contract) (e : fits c ≡ true) where
 
     pub request-fine : (q : Request) → within64 q ≡ true → Fine c (requested s q c)
     request-fine q h = once-fine q h (request-good c t g q h)
+
+-- any step on a table that passes
+pub step-fine : (w : List ℕ) → passes w ≡ true → {s : State} → Good (contractOf w) s → (a : Step) → within64 (a .request) ≡ true → Fine (contractOf w) (answerTo w s a)
+unfolding answerTo step refusal ranges
+step-fine w p {s} g a e =
+    let c = contractOf w in
+    by-cases (Fine c) _ _ _
+    (λ _. by-cases (Fine c) _ _ _
+    (λ _. by-cases (Fine c) _ _ _ (λ _. request-fine c (sound w p) g (a .request) e) (λ _. refused-fine c s 20 refl))
+    (λ _. refused-fine c s 4 refl))
+    (λ _. refused-fine c s 3 refl)

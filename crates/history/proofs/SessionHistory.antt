@@ -17,6 +17,7 @@ use Rattle.statements.specs.declared.Label.{Label}
 use Rattle.results.specs.declared.Report.{Report}
 use Rattle.results.specs.declared.Report.the-variants as report
 use Rattle.results.specs.Lines.{reportOk}
+use Rattle.pages.specs.Gathering.{payouts}
 use Rattle.outcomes.specs.declared.Stepped.{Stepped}
 use Rattle.machine.specs.Steps.{Request, requested, roomNeeded}
 use Rattle.step_reports.specs.Reports.{reportOf, labelReports, told}
@@ -30,6 +31,7 @@ use Rattle.history.proofs.Demand.{demand}
 use Rattle.history.proofs.LineIntegers.{TurnIn, turn-in}
 use Rattle.history.proofs.AskedOnce.{stored-good, heard-good, blocks-good, blocks-fine}
 use Rattle.history.proofs.Continued.{blocks-turns}
+use Rattle.history.proofs.Settled.{told-settled, settled-paid, settled-payable}
 
 -- ---- the steps of a session have 64-bit arguments
 
@@ -180,8 +182,16 @@ module _ (w : List ℕ) (p : passes w ≡ true) (slice : List Label) (room : roo
   -- a desk that plays these windows, each by calls of `play` for its rooms
   pub desk : (clock : ℕ) → clock ≤ top → (ws : List Window) → Desk w clock ws slice
   desk clock h ws =
+      let s = freshAt clock in
+      let g : Good c s = fresh-good c clock h in
+      let xs = saidIn c ws s in
+      let played = windows-history ws s g in
+      let in64 = windows-in ws s in
       record {
-        is-history = windows-history ws (freshAt clock) (fresh-good c clock h);
-        demand = demand w p clock (stepsOf slice (saidIn c ws (freshAt clock))) (windows-in ws (freshAt clock));
-        writable = windows-fine ws (freshAt clock) (fresh-good c clock h);
+        is-history = played;
+        demand = demand w p clock (stepsOf slice xs) in64;
+        writable = windows-fine ws s g;
+        entries = ap (payouts 0 0) (played .reports) ∙ told-settled w slice s xs 0 0;
+        paid = settled-paid w s (stepsOf slice xs);
+        payable = settled-payable w p s g (stepsOf slice xs) in64;
       }

@@ -21,6 +21,7 @@ use Rattle.statements.specs.declared.Label.{Label}
 use Rattle.results.specs.declared.Report.{Report}
 use Rattle.results.specs.Coded.{codedAll, integersOf}
 use Rattle.results.proofs.Refusals.{refused-writes-nothing}
+use Rattle.pages.proofs.Filling.{refused-untouched}
 use Rattle.outcomes.specs.declared.Outcome.the-variants.{Refused}
 use Rattle.outcomes.specs.declared.Stepped.{Stepped}
 use Rattle.machine.specs.Steps.{Request, step}
@@ -117,6 +118,7 @@ untouched =
       table = table-zeros;
       unread-table = zeros-unread;
       results = refused-writes-nothing;
+      page = refused-untouched;
       line = λ c s n. refl;
       session-state = λ w s bytes room h. refused-session w s bytes room h .0;
       session = λ w s bytes room numbers integers h. lists-same w s bytes room h numbers integers;

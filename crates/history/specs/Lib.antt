@@ -2,4 +2,5 @@ pub mod Histories
 pub mod Demand
 pub mod Untouched
 pub mod Cases
+pub mod Settled
 pub mod Sessions

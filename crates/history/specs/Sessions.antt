@@ -1,5 +1,5 @@
 -- The states that code can hold; sessions block by block; a session in which every step is asked questions 3, 4 and 20; that a session is a
--- history, and so is what a desk does with all its input; that the calls on a window come to an end.
+-- history, and so is what a desk does with all its input, the entries of its settlement pages too; that the calls on a window come to an end.
 use Prim.Native.Nat.{ℕ, zero, suc, _+_, _-_, _*_, _<_, _≤_}
 use mathlib.Core.Path.{_≡_}
 use mathlib.Core.Bool.{true}
@@ -20,6 +20,8 @@ use Rattle.statements.specs.Running.{maxLabels}
 use Rattle.results.specs.declared.Report.{Report}
 use Rattle.results.specs.declared.Report.the-variants as report
 use Rattle.results.specs.Lines.{reportOk}
+use Rattle.pages.specs.Entries.{isPayout}
+use Rattle.pages.specs.Gathering.{payouts}
 use Rattle.outcomes.specs.declared.Stepped.{Stepped}
 use Rattle.outcomes.specs.Outcomes.{refused}
 use Rattle.machine.specs.Steps.{requested, step}
@@ -27,6 +29,7 @@ use Rattle.step_reports.specs.Reports.{reportOf, labelReports, told, maxTold}
 use Rattle.machine.specs.Sessions.{Said, asks, unread, heard, Turn, takes, wait, turnAt, Session, here, before, onTurn, sessionFor, session}
 use Rattle.history.specs.Histories.{Step, Returned, history}
 use Rattle.history.specs.Demand.{Demand}
+use Rattle.history.specs.Settled.{settled, labelsIn}
 
 -- arrays of full length and 64-bit integers, as every state has that code holds
 pub record Stored (s : State) : Type 0 where
@@ -150,6 +153,11 @@ pub record Serves (w : List ℕ) (clock : ℕ) (ws : List Window) (slice : List 
   pub demand : Demand w clock (stepsOf slice xs)
   -- every result line is within question 53, so that it can be printed
   pub writable : every (reportOk (contractOf w)) (windows (contractOf w) ws (freshAt clock) .reports) ≡ true
+  -- the entries of its settlement pages are the asset payouts of its history in order, each with its step's rule and the clock after it
+  pub entries : payouts 0 0 (windows (contractOf w) ws (freshAt clock) .reports) ≡ settled (history w (freshAt clock) (stepsOf slice xs) .answers)
+  pub paid : labelsIn (settled (history w (freshAt clock) (stepsOf slice xs) .answers)) ≡ history w (freshAt clock) (stepsOf slice xs) .payouts
+  -- and question 61 passes each
+  pub payable : every (isPayout (contractOf w)) (settled (history w (freshAt clock) (stepsOf slice xs) .answers)) ≡ true
 
 -- proved (`desk`) of tables that pass, clocks up to top, and slices of `roomNeeded` entries or more, for all windows: the arguments of a
 -- line that is read are within 64 bits

@@ -13,6 +13,7 @@ use Rattle.state.specs.declared.State.{State}
 use Rattle.results.specs.Lines.{refusal}
 use Rattle.results.specs.Results.{RefusedWritesNothing}
 use Rattle.results.specs.Coded.{codedAll, integersOf}
+use Rattle.pages.specs.Answers.{RefusedPage}
 use Rattle.outcomes.specs.declared.Outcome.{Outcome}
 use Rattle.outcomes.specs.declared.Outcome.the-variants.{Accepted, Failed, Refused}
 use Rattle.machine.specs.Sessions.{unread, heard, notPlayed, played, reportsOf}
@@ -37,6 +38,8 @@ pub record Untouched : Type 0 where
       → answerTo (tableOf words (readText text words)) s a .outcome ≡ Refused 3
   -- a refused writing of result lines leaves the bytes that were lent for them
   pub results : RefusedWritesNothing
+  -- a refused settlement page leaves the bytes that were lent for it
+  pub page : RefusedPage
   -- a session line that questions 50 and 51 refuse leaves the state
   pub line : (c : Contract) (s : State) (n : ℕ) → heard c s (unread n) .state ≡ s
   -- a session that is refused hands back the state it was given, takes no byte and tells nothing

@@ -53,6 +53,8 @@ table =
     ∷ record { number = 51; words = "not a line of a session" }
     ∷ record { number = 52; words = "the result buffer is under 128 bytes" }
     ∷ record { number = 53; words = "a number that names nothing of its kind" }
+    ∷ record { number = 60; words = "the page buffer is under 5185 bytes" }
+    ∷ record { number = 61; words = "not an asset payout to a known party" }
     ∷ []
 
 -- the words in the first of these rows with a number, none where no row has it

@@ -1,4 +1,4 @@
-// The words of each question, by its number: the lines of three texts.
+// The words of each question, by its number: the lines of four texts.
 ghost use mathlib.Core.Path.{_≡_};
 ghost use Prim.Native.Nat.{_-_, _≤_, _<_};
 ghost use lib.ListN.{length, drop};
@@ -128,6 +128,7 @@ fn of_steps(number: u8, buffer: &mut [u8; Sentence::BYTES]) -> usize
 // Lines: 50 to 53.
 fn of_lines(number: u8, buffer: &mut [u8; Sentence::BYTES]) -> usize
     requires { ⌜ 50 ≤ number ⌝ }
+    requires { ⌜ number < 60 ⌝ }
     ensures { λ r. ⌜ Said (now (buffer .entry)) (wordsOf number) r (now (buffer .exit)) ⌝ }
 {
     put(
@@ -137,6 +138,20 @@ fn of_lines(number: u8, buffer: &mut [u8; Sentence::BYTES]) -> usize
             the result buffer is under 128 bytes\n\
             a number that names nothing of its kind\n",
         number - 50,
+        buffer,
+    )
+}
+
+// Those of document 02: 60 and 61.
+fn of_requests(number: u8, buffer: &mut [u8; 64]) -> usize
+    requires { ⌜ 60 ≤ number ⌝ }
+    ensures { λ r. ⌜ Said (now (buffer .entry)) (wordsOf number) r (now (buffer .exit)) ⌝ }
+{
+    put(
+        b"\
+            the page buffer is under 5185 bytes\n\
+            not an asset payout to a known party\n",
+        number - 60,
         buffer,
     )
 }
@@ -152,5 +167,8 @@ pub fn words(number: u8, buffer: &mut [u8; Sentence::BYTES]) -> usize
     if number < 50 {
         return of_steps(number, buffer);
     }
-    of_lines(number, buffer)
+    if number < 60 {
+        return of_lines(number, buffer);
+    }
+    of_requests(number, buffer)
 }

@@ -137,3 +137,11 @@ pub const RESULT_ROOM: u8 = 52;
 
 // Does each number of the result name something of its kind?
 pub const RESULT_KINDS: u8 = 53;
+
+// The settlement page (document 02, F-1); question 3 is asked between the two.
+
+// Has the page buffer at least 5,185 bytes?
+pub const PAGE_ROOM: u8 = 60;
+
+// Is each entry an asset payout by one of the two rules to a known party, with clock and amount 0 to top?
+pub const PAGE_ENTRIES: u8 = 61;

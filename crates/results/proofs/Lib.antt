@@ -1,6 +1,4 @@
 -- What the code's proofs use.
-pub mod Puts
-pub mod Digits
 pub mod Rows
 pub mod Ranges
 pub mod Texts
@@ -8,6 +6,5 @@ pub mod Assembled
 pub mod Turns
 -- What holds of the definitions.
 pub mod Worked
-pub mod DecimalRead
 pub mod Batches
 pub mod Refusals

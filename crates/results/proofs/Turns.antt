@@ -18,14 +18,15 @@ use Rattle.contract.specs.Tree.{Contract}
 use Rattle.contract.specs.Decode.{contractOf}
 use Rattle.contract.specs.Check.{ranges, passes}
 use Rattle.contract_laws.proofs.Inversions.{by-test, of-either}
+use Rattle.printing.specs.Pieces.{Put}
+use Rattle.printing.proofs.Puts.{kept, then, same, part-put, over, line-end}
 use Rattle.results.specs.Coded.{noReport, reportFrom, wholeOf, reportAt, reportsFrom}
 use Rattle.results.specs.Lines.{refusal, reportOk, lineOf}
 use Rattle.results.specs.Results.{nothing, firstOf, batchOf, batch, linesOf, batchAfter}
-use Rattle.results.specs.Private.{Put, AllReady, allWhole}
+use Rattle.results.specs.Private.{AllReady, allWhole}
 use Rattle.results.specs.declared.Batch.{Batch}
 use Rattle.results.specs.declared.Report.{Report}
 use Rattle.results.specs.declared.Report.the-variants.{Ruled, Sent, Held, Refused, Failed}
-use Rattle.results.proofs.Puts.{kept, then, same, part-put, over, line-end}
 
 -- ---- a report from its numbers
 

@@ -6,7 +6,7 @@ use Rattle.laws.specs.Choice.{pick}
 use Rattle.laws.specs.Bytes.{bytes}
 use Rattle.words.specs.Words.{spelled}
 use Rattle.contract.specs.Check.{ranges}
-use Rattle.results.specs.Decimal.{decimalWithin, decimal, signed}
+use Rattle.printing.specs.Decimal.{decimalWithin, decimal, signed}
 use Rattle.results.specs.Lines.{valueOk, refusal, reportOk, ruleName, valueText, arrow, refusedText, lineOf, textLine}
 use Rattle.results.specs.Cases.{lot, Case, cases}
 

@@ -1,4 +1,3 @@
-pub mod Decimal
 pub mod Lines
 pub mod Coded
 pub mod Results

@@ -12,7 +12,7 @@ use Rattle.words.specs.Words.{spelled, agree, function, eventMatch, tick, refus
 use Rattle.contract.specs.Limits.{top}
 use Rattle.contract.specs.Tree.{Contract}
 use Rattle.contract.specs.Check.{ranges}
-use Rattle.results.specs.Decimal.{decimal, signed}
+use Rattle.printing.specs.Decimal.{decimal, signed}
 use Rattle.results.specs.declared.Report.{Report}
 use Rattle.results.specs.declared.Report.the-variants.{Ruled, Sent, Held, Refused, Failed}
 

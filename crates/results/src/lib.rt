@@ -7,7 +7,6 @@ ghost use Rattle.results.specs.Coded.{reportsFrom};
 ghost use Rattle.results.specs.Results.{written, textWritten, bufferAfter, textBufferAfter, batch, batchAfter};
 
 mod many;
-mod pieces;
 mod reports;
 
 // A line that the desk prints.
@@ -70,10 +69,10 @@ pub fn write_text_refusal(number: u8, place: usize, buffer: &mut [u8]) -> Writte
         return Written::Refused(questions::RESULT_ROOM);
     }
     if reports::is_text_refusal(number) {
-        let space = pieces::put_refused(buffer, 0, number);
-        let second = pieces::put_byte(buffer, space, b' ');
-        let end = pieces::put_number(buffer, second, place as u64);
-        return Written::Wrote(pieces::put_byte(buffer, end, b'\n'));
+        let space = reports::put_refused(buffer, 0, number);
+        let second = printing::put_byte(buffer, space, b' ');
+        let end = printing::put_number(buffer, second, place as u64);
+        return Written::Wrote(printing::put_byte(buffer, end, b'\n'));
     }
     Written::Refused(questions::RESULT_KINDS)
 }

@@ -7,18 +7,18 @@ ghost use Rattle.laws.specs.Bytes.{bytes};
 ghost use Rattle.words.specs.Words.{spelled, eventMatch, lineEnd};
 ghost use Rattle.contract.specs.Decode.{contractOf};
 ghost use Rattle.contract.specs.Check.{ranges};
+ghost use Rattle.printing.specs.Pieces.{put, placeAfter, Put};
 ghost use Rattle.results.specs.Lines.{valueOk, refusal, textRefusal, reportOk, ruleName, valueText, arrow, refusedText, lineOf};
-ghost use Rattle.results.specs.Private.{Put, Ready, ReadyValue};
+ghost use Rattle.results.specs.Private.{Ready, ReadyValue};
 ghost use Rattle.results.specs.declared.Report.the-variants.{Ruled, Sent, Held};
 use crate::Report;
-use crate::pieces::put_byte;
-use crate::pieces::put_bytes;
-use crate::pieces::put_integer;
-use crate::pieces::put_name;
-use crate::pieces::put_number;
-use crate::pieces::put_refused;
-use crate::pieces::put_word;
 use contract::Contract;
+use printing::put_byte;
+use printing::put_bytes;
+use printing::put_integer;
+use printing::put_name;
+use printing::put_number;
+use printing::put_word;
 
 fn between(lo: u8, n: u8, hi: u8) -> bool
     ensures { λ r. ⌜ r ≡ ranges lo n hi ⌝ }
@@ -77,10 +77,20 @@ pub(crate) fn report_ok(table: &[u64], report: Report) -> bool
     }
 }
 
+// `refused` and a number.
+pub(crate) fn put_refused(buffer: &mut [u8], at: usize, n: u8) -> usize
+    requires { ⌜ at + 28 ≤ length (now buffer) ⌝ }
+    ensures { λ r. ⌜ Put (now (buffer .entry)) at (refusedText n) r (now (buffer .exit)) ⌝ }
+{
+    let space = put_word(buffer, at, words::REFUSED);
+    let first = put_byte(buffer, space, b' ');
+    put_number(buffer, first, n as u64)
+}
+
 // The name of a rule.
 fn put_rule_name(buffer: &mut [u8], at: usize, rule: u8) -> usize
-    requires { ⌜ at + 11 ≤ length (now buffer) ⌝ }
-    ensures { λ r. ⌜ Put (now (buffer .entry)) at (ruleName rule) r (now (buffer .exit)) ⌝ }
+    ensures { λ r. ⌜ r ≡ placeAfter (now (buffer .entry)) at (ruleName rule) ⌝ }
+    ensures { λ _. ⌜ now (buffer .exit) ≡ put (now (buffer .entry)) at (ruleName rule) ⌝ }
 {
     if rule == 0 {
         return put_word(buffer, at, words::AGREE);
@@ -136,8 +146,8 @@ fn put_value(table: &[u64], kind: u8, value: i64, buffer: &mut [u8]) -> usize
 
 // The arrow of a label.
 fn put_mark(buffer: &mut [u8], at: usize, kind: u8) -> usize
-    requires { ⌜ at + 2 ≤ length (now buffer) ⌝ }
-    ensures { λ r. ⌜ Put (now (buffer .entry)) at (arrow kind) r (now (buffer .exit)) ⌝ }
+    ensures { λ r. ⌜ r ≡ placeAfter (now (buffer .entry)) at (arrow kind) ⌝ }
+    ensures { λ _. ⌜ now (buffer .exit) ≡ put (now (buffer .entry)) at (arrow kind) ⌝ }
 {
     if kind == 3 {
         return put_word(buffer, at, words::ASSET_ARROW);

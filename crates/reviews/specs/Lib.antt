@@ -1,2 +1,1 @@
 pub mod Reviews
-pub mod Private

@@ -1,17 +1,15 @@
 // What the terms of a contract say before any session: the fields that a clause sets and no clause agrees on, and the names of fields.
 ghost use mathlib.Core.Path.{_≡_};
 ghost use mathlib.Core.Bool.{true};
-ghost use Prim.Native.Nat.{_≤_, _<_};
+ghost use Prim.Native.Nat.{_<_};
 ghost use lib.ListN.{length};
 ghost use lib.Seq.{sets};
 ghost use Rattle.contract.specs.Table.{wordAt};
-ghost use Rattle.contract.specs.Decode.{wordOf, clauseAt, contractOf};
+ghost use Rattle.contract.specs.Decode.{clauseAt, contractOf};
 ghost use Rattle.contract.specs.Check.{passes};
 ghost use Rattle.agreements.specs.Agreement.{sameVerb};
 ghost use Rattle.agreements.specs.Private.{verbOf};
-ghost use Rattle.results.specs.Private.{NameAt};
 ghost use Rattle.reviews.specs.Reviews.{isIn, names, neverAgreed, fieldName};
-ghost use Rattle.reviews.specs.Private.{Said};
 use contract::Contract;
 
 // Whether clause i names field x.
@@ -69,21 +67,6 @@ pub fn never_agreed(table: &[u64], x: usize) -> bool
     false
 }
 
-// The name whose length stands at o comes to the front of the buffer; answers how many bytes it has.
-fn put_name(table: &[u64], o: usize, buffer: &mut [u8; Contract::NAME]) -> usize
-    requires { ⌜ NameAt (now table) o ⌝ }
-    requires { ⌜ wordAt (now table) o ≤ 32 ⌝ }
-    ensures { λ r. ⌜ Said (now (buffer .entry)) (wordOf (now (table .entry)) o) r (now (buffer .exit)) ⌝ }
-{
-    let n = table[o] as usize;
-    let mut i: usize = 0;
-    while i < n {
-        buffer[i] = (table[o + 1 + i] % 256) as u8;
-        i += 1;
-    }
-    n
-}
-
 // The name of field x comes to the front of the buffer; answers how many bytes it has. There is none for a table that does not pass, or
 // past the last field.
 pub fn field_name(table: &[u64], x: usize, buffer: &mut [u8; Contract::NAME]) -> usize
@@ -93,7 +76,12 @@ pub fn field_name(table: &[u64], x: usize, buffer: &mut [u8; Contract::NAME]) ->
     if tables::table_passes(table) {
         let h = contract::head(table);
         if x < h.fields {
-            return put_name(table, contract::FIELDS + x * contract::NAME_WORDS, buffer);
+            return printing::put_name(
+                table,
+                contract::FIELDS + x * contract::NAME_WORDS,
+                buffer,
+                0,
+            );
         }
         return 0;
     }

@@ -1,7 +1,9 @@
 // Does what the desk does before a session, for each folder that standard input names, one a line: what the arguments in its file `args` ask
 // for, one argument a line, and what comes of the contract. Prints the folder's name, then `usage`, `help`, what the desk says of a FILE that
-// can't be read or of a refused contract, its report on the terms, or `accepted`. At the end, each question with its words.
-// Expected results: the published vectors' (requests/F-00), standard output before standard error; the words of the desk's page.
+// can't be read or of a refused contract, its report on the terms, or `accepted`, and where its pages would go. At the end, each question
+// with its words.
+// Expected results: the published vectors' (requests/F-00 and F-01), standard output before standard error; the words of the desk's page.
+// Cases whose names start with `own_` are not among the vectors: the desk's page says what comes of them.
 ghost use Prim.Native.Nat.{_≤_};
 ghost use lib.ListN.{length};
 use arguments::Asked;
@@ -56,16 +58,27 @@ fn keep(line: &mut [u8], kept: usize, bytes: &[u8]) -> usize {
     k
 }
 
-// What arguments ask for, one a line. Their numbers are the places where their lines start.
+// What arguments ask for, one a line. Their numbers are one more than the places where their lines start.
 fn ask(lines: &[u8]) -> Asked {
     let mut asked = Asked::nothing();
     let mut start = 0;
     while start < lines.len() {
         let end = line_end(lines, start);
-        asked = arguments::hear(asked, start, &lines[start..end]);
+        asked = arguments::hear(asked, start + 1, &lines[start..end]);
         start = end + 1;
     }
-    asked
+    arguments::finish(asked)
+}
+
+// The argument with a number.
+fn argument(lines: &[u8], n: usize) -> &[u8] {
+    if n < 1 {
+        return &lines[..0];
+    }
+    if lines.len() < n {
+        return &lines[..0];
+    }
+    tokens::between(lines, n - 1, line_end(lines, n - 1))
 }
 
 // A refused text, as the desk tells it.
@@ -98,7 +111,17 @@ fn review(table: &[u64]) {
     }
 }
 
-fn begin(asked: Asked, name: &[u8], text: &[u8]) {
+// Where pages go, where they are asked for.
+fn accept(out: &[u8]) {
+    print(b"accepted\n");
+    if 0 < out.len() {
+        print(b"pages in ");
+        print(out);
+        print(b"\n");
+    }
+}
+
+fn begin(asked: Asked, out: &[u8], name: &[u8], text: &[u8]) {
     let mut table = [0u64; Contract::TABLE];
     let answer = reader::read(text, &mut table);
     match answer {
@@ -107,14 +130,14 @@ fn begin(asked: Asked, name: &[u8], text: &[u8]) {
             if asked.review {
                 review(&table);
             } else {
-                print(b"accepted\n");
+                accept(out);
             }
         }
     }
 }
 
 // The contract in the file with this name in a folder.
-fn start(asked: Asked, folder: &[u8], name: &[u8]) {
+fn start(asked: Asked, out: &[u8], folder: &[u8], name: &[u8]) {
     let mut path = [0u8; CONTRACT_PATH];
     let slash = keep(&mut path, 0, folder);
     let file = keep(&mut path, slash, b"/");
@@ -129,13 +152,12 @@ fn start(asked: Asked, folder: &[u8], name: &[u8]) {
     let mut text = [0u8; Answer::TEXT + 1];
     let n = io::read_full(fd, &mut text);
     libc::close(fd);
-    begin(asked, name, tokens::between(&text, 0, n));
+    begin(asked, out, name, tokens::between(&text, 0, n));
 }
 
 // What is asked by these arguments of the contract in a folder.
 fn answer(folder: &[u8], lines: &[u8]) {
     let asked = ask(lines);
-    let file = asked.file;
     if asked.fault != 0 {
         print(b"usage\n");
         return;
@@ -144,17 +166,12 @@ fn answer(folder: &[u8], lines: &[u8]) {
         print(b"help\n");
         return;
     }
+    let out = argument(lines, asked.pages);
     if asked.files == 0 {
-        start(asked, folder, b"terms.stipula");
+        start(asked, out, folder, b"terms.stipula");
         return;
     }
-    if file <= lines.len() {
-        start(
-            asked,
-            folder,
-            tokens::between(lines, file, line_end(lines, file)),
-        );
-    }
+    start(asked, out, folder, argument(lines, asked.file));
 }
 
 fn show(name: &[u8]) {

@@ -40,30 +40,48 @@ returns-4 c =
 returns-5 : tie.Need-returns-5
 unfolding kindOf
 returns-5 c =
-    let f = c .before .before in
+    let f = c .before .before .before in
     let e = f .before .before .before in
     let d = e .before .before .before in
     let help = sym (d .before .same .ensures) ∙ d .if2 .left in
     let explain = sym (e .before .same2 .ensures) ∙ e .if3 .left in
     let review = sym (f .before .same3 .ensures) ∙ f .if4 .left in
-    let minus = eq-eqb _ _ (sym (c .before .byte-at .ensures) ∙ c .if5 .taken) in
-    sym (pick-false _ _ _ (le-ltb _ _ (d .before .before .before .if1 .left)) ∙ pick-false _ _ _ help ∙ pick-false _ _ _ explain ∙ pick-false _ _ _ review ∙ pick-true _ _ _ minus)
+    let pages = sym (c .before .same4 .ensures) ∙ c .if5 .taken in
+    sym (pick-false _ _ _ (le-ltb _ _ (d .before .before .before .if1 .left)) ∙ pick-false _ _ _ help ∙ pick-false _ _ _ explain ∙ pick-false _ _ _ review ∙ pick-true _ _ _ pages)
 
 returns-6 : tie.Need-returns-6
 unfolding kindOf
 returns-6 c =
-    let f = c .before .before in
+    let g = c .before .before in
+    let f = g .before .before .before in
     let e = f .before .before .before in
     let d = e .before .before .before in
     let help = sym (d .before .same .ensures) ∙ d .if2 .left in
     let explain = sym (e .before .same2 .ensures) ∙ e .if3 .left in
     let review = sym (f .before .same3 .ensures) ∙ f .if4 .left in
-    let minus = ap (λ (b : ℕ). eqb b 45) (sym (c .before .byte-at .ensures)) ∙ ne-eqb _ _ (c .if5 .left) in
-    sym (pick-false _ _ _ (le-ltb _ _ (d .before .before .before .if1 .left)) ∙ pick-false _ _ _ help ∙ pick-false _ _ _ explain ∙ pick-false _ _ _ review ∙ pick-false _ _ _ minus)
+    let pages = sym (g .before .same4 .ensures) ∙ g .if5 .left in
+    let minus = eq-eqb _ _ (sym (c .before .byte-at .ensures) ∙ c .if6 .taken) in
+    sym (pick-false _ _ _ (le-ltb _ _ (d .before .before .before .if1 .left)) ∙ pick-false _ _ _ help ∙ pick-false _ _ _ explain ∙ pick-false _ _ _ review
+    ∙ pick-false _ _ _ pages ∙ pick-true _ _ _ minus)
+
+returns-7 : tie.Need-returns-7
+unfolding kindOf
+returns-7 c =
+    let g = c .before .before in
+    let f = g .before .before .before in
+    let e = f .before .before .before in
+    let d = e .before .before .before in
+    let help = sym (d .before .same .ensures) ∙ d .if2 .left in
+    let explain = sym (e .before .same2 .ensures) ∙ e .if3 .left in
+    let review = sym (f .before .same3 .ensures) ∙ f .if4 .left in
+    let pages = sym (g .before .same4 .ensures) ∙ g .if5 .left in
+    let minus = ap (λ (b : ℕ). eqb b 45) (sym (c .before .byte-at .ensures)) ∙ ne-eqb _ _ (c .if6 .left) in
+    sym (pick-false _ _ _ (le-ltb _ _ (d .before .before .before .if1 .left)) ∙ pick-false _ _ _ help ∙ pick-false _ _ _ explain ∙ pick-false _ _ _ review
+    ∙ pick-false _ _ _ pages ∙ pick-false _ _ _ minus)
 
 pub classify-spec : {M : Type 1} → statement M
 classify-spec =
     tie.close
     (tie.spec
     returns (λ c. search needs) (λ c κs. search needs) returns-2 (λ c. search needs) (λ c κs. search needs) returns-3 (λ c. search needs)
-    (λ c κs. search needs) returns-4 (λ c κs. search needs) returns-5 returns-6)
+    (λ c κs. search needs) returns-4 (λ c. search needs) (λ c κs. search needs) returns-5 (λ c κs. search needs) returns-6 returns-7)

@@ -1,7 +1,7 @@
 -- `diagnoses::put_diagnosis` meets its contract. Assumes nothing.
 use borrow.Author.Needs.{needs}
 use native.Mathlib.Omega.{arith}
-use Rattle.results.proofs.Puts.{kept}
+use Rattle.printing.proofs.Puts.{kept}
 use Rattle.diagnoses.proofs.Diagnosed.{where-short, what-short, column-counts, diagnosed-short, diagnosed}
 use Rattle.diagnoses.proofs.put_diagnosis.Statement.{statement}
 use Rattle.diagnoses.proofs.put_diagnosis.Tie as tie

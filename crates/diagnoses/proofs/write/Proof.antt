@@ -3,7 +3,7 @@ use lib.ListN.{length}
 use lib.Dec.{leb}
 use borrow.Author.Tests.{leb-true}
 use Rattle.laws.proofs.Truths.{both-of}
-use Rattle.results.proofs.Puts.{kept}
+use Rattle.printing.proofs.Puts.{kept}
 use Rattle.diagnoses.specs.Diagnoses.{fits}
 use Rattle.diagnoses.proofs.Diagnosed.{all-written, none-written}
 use Rattle.diagnoses.proofs.write.Statement.{statement}

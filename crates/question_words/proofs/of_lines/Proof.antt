@@ -17,13 +17,13 @@ returns : tie.Need-returns
 unfolding pick every wordsIn wordsOf
 returns c =
     let s = c .before .before .before in
-    of-words (words-line 50 4 256 (s .args .number - 50) (s .args .number) (omega arith) (s .fits .number .fits) refl refl) (c .put .ensures)
+    of-words (words-line 50 4 60 (s .args .number - 50) (s .args .number) (omega arith) (s .pre .1) refl refl) (c .put .ensures)
 
 put-requires : tie.Need-put-requires
 unfolding pick every wordsIn wordsOf
 put-requires c κs =
     let s = c .before .before in
-    subst (λ (l : List ℕ). length l ≤ 64) (sym (words-line 50 4 256 (s .args .number - 50) (s .args .number) (omega arith) (s .fits .number .fits) refl refl)) (words-short (s .args .number))
+    subst (λ (l : List ℕ). length l ≤ 64) (sym (words-line 50 4 60 (s .args .number - 50) (s .args .number) (omega arith) (s .pre .1) refl refl)) (words-short (s .args .number))
 
 pub of-lines-spec : {M : Type 1} → statement M
 of-lines-spec = tie.close (tie.spec (λ c. search needs) (λ c. search needs) put-requires returns)

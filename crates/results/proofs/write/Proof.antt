@@ -4,7 +4,7 @@ use mathlib.Core.Path.{sym, _∙_}
 use Prim.Native.Nat.{_<_}
 use native.Mathlib.Omega.{arith}
 use lib.ListN.{length}
-use Rattle.results.proofs.Puts.{kept}
+use Rattle.printing.proofs.Puts.{kept}
 use Rattle.results.proofs.Assembled.{no-space, no-table, no-kind, wrote}
 use Rattle.results.proofs.write.Statement.{statement}
 use Rattle.results.proofs.write.Tie as tie

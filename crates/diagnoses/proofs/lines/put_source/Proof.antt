@@ -1,7 +1,8 @@
 -- `diagnoses::lines::put_source` meets its contract. Assumes nothing.
 use borrow.Author.Needs.{needs}
+use mathlib.Core.List.{[], _∷_}
 use native.Mathlib.Omega.{arith}
-use Rattle.results.proofs.Puts.{kept}
+use Rattle.printing.proofs.Puts.{put-of, kept}
 use Rattle.diagnoses.proofs.Shown.{shown-long}
 use Rattle.diagnoses.proofs.Diagnosed.{source-made}
 use Rattle.diagnoses.proofs.lines.put_source.Statement.{statement}
@@ -10,25 +11,28 @@ use Rattle.diagnoses.proofs.lines.put_source.Tie as tie
 put-shown-requires : tie.Need-put-shown-requires
 put-shown-requires c κs = omega (arith, c .before .before .before .before .pre .0)
 
-put-byte-requires : tie.Need-put-byte-requires
-put-byte-requires c κs =
-    let p = c .before .before .before .put-shown .ensures in
-    omega (arith, c .before .before .before .before .before .before .before .before .pre .0, p .place, kept p, shown-long (c .before .before .before .before .before .between .result .now))
-
 put-mark-requires : tie.Need-put-mark-requires
 put-mark-requires c κs =
-    let p = c .before .before .before .before .before .before .before .put-shown .ensures in
-    let q = c .before .before .before .put-byte .ensures in
-    (omega (arith, c .before .before .before .before .before .before .before .before .before .before .before .before .pre .0, p .place, kept p, q .place, kept q, shown-long (c .before .before .before .before .before .before .before .before .before .between .result .now)), c .before .before .before .before .before .before .before .before .before .before .before .before .pre .1)
+    let b = c .before .before .before in
+    let a = b .before .before .before .before in
+    let l = a .before .before in
+    let s = l .before .before .before in
+    let p = a .put-shown .ensures in
+    let long = shown-long (l .between .result .now) in
+    let q = put-of (10 ∷ []) (b .put-byte .ensures) (omega (arith, s .pre .0, p .place, kept p, long)) in
+    (omega (arith, s .pre .0, p .place, kept p, q .place, kept q, long), s .pre .1)
 
 returns : tie.Need-returns
 returns c =
-    let s = c .before .before .before .before .before .before .before .before .before .before .before .before .before .before .before in
-    source-made (s .args .text .now) (s .args .p) (c .before .before .before .before .before .before .before .before .before .before .before .before .between .ensures) (c .before .before .before .before .before .before .before .before .before .before .put-shown .ensures) (c .before .before .before .before .before .before .put-byte .ensures) (c .before .before .put-mark .ensures)
-
-same-length : tie.Need-same-length
-same-length c = kept (returns c)
+    let d = c .before .before in
+    let b = d .before .before .before .before in
+    let a = b .before .before .before .before in
+    let l = a .before .before in
+    let s = l .before .before .before in
+    let p = a .put-shown .ensures in
+    source-made (s .args .text .now) (s .args .p) (l .between .ensures) p
+    (put-of (10 ∷ []) (b .put-byte .ensures) (omega (arith, s .pre .0, p .place, kept p, shown-long (l .between .result .now)))) (d .put-mark .ensures)
 
 pub put-source-spec : {M : Type 1} → statement M
 put-source-spec =
-    tie.close (tie.spec (λ c κs. search needs) put-shown-requires put-byte-requires put-mark-requires same-length returns)
+    tie.close (tie.spec (λ c κs. search needs) put-shown-requires (λ c κs. search needs) put-mark-requires (λ c. search needs) returns)

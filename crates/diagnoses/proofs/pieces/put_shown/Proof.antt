@@ -7,7 +7,7 @@ use native.Mathlib.Nat.{add-zero}
 use native.Mathlib.Omega.{arith}
 use lib.ListN.{length, drop, length-set}
 use lib.Seq.{sets}
-use Rattle.results.proofs.Puts.{stored}
+use Rattle.printing.proofs.Puts.{stored}
 use Rattle.diagnoses.specs.Diagnoses.{shownLine}
 use Rattle.diagnoses.proofs.Shown.{shown-long, shown-next}
 use Rattle.diagnoses.proofs.pieces.put_shown.Statement.{statement}

@@ -6,7 +6,7 @@ use lib.ListN.{length, replicate}
 use lib.Seq.{length-sets}
 use Rattle.question_words.specs.Words.{wordsOf}
 use Rattle.question_words.proofs.WordLaws.{words-short}
-use Rattle.results.proofs.Puts.{same, kept}
+use Rattle.printing.proofs.Puts.{puts-as}
 use Rattle.diagnoses.proofs.Shown.{front-stored}
 use Rattle.diagnoses.proofs.pieces.put_words.Statement.{statement}
 use Rattle.diagnoses.proofs.pieces.put_words.Tie as tie
@@ -23,21 +23,12 @@ slice-aggregate-put-bytes c =
     let w = c .before .before .words2 .ensures in
     omega (arith, w .0, ap length (front-stored (replicate 64 0) (wordsOf n) (w .0) (w .1) (words-short n)))
 
-put-bytes-requires : tie.Need-put-bytes-requires
-put-bytes-requires c κs =
-    let n = c .before .before .before .before .before .args .number in
-    let w = c .before .before .words2 .ensures in
-    omega (arith, c .before .before .before .before .before .pre, words-short n, ap length (front-stored (replicate 64 0) (wordsOf n) (w .0) (w .1) (words-short n)))
-
 returns : tie.Need-returns
 returns c =
-    let n = c .before .before .before .before .before .before .before .before .args .number in
+    let a = c .before .before .before .before .before .before .before .before .args in
     let w = c .before .before .before .before .before .words2 .ensures in
-    same (front-stored (replicate 64 0) (wordsOf n) (w .0) (w .1) (words-short n)) (c .before .before .put-bytes .ensures)
-
-same-length : tie.Need-same-length
-same-length c = kept (returns c)
+    puts-as (a .buffer .now) (a .at) (front-stored (replicate 64 0) (wordsOf (a .number)) (w .0) (w .1) (words-short (a .number))) (c .before .before .put-bytes .ensures)
 
 pub put-words-spec : {M : Type 1} → statement M
 put-words-spec =
-    tie.close (tie.spec (λ c κs. search needs) array-share-prefix-words slice-aggregate-put-bytes put-bytes-requires same-length returns)
+    tie.close (tie.spec (λ c κs. search needs) array-share-prefix-words slice-aggregate-put-bytes (λ c κs. search needs) (λ c. search needs) returns)

@@ -4,7 +4,7 @@ use Prim.Native.Nat.{_-_}
 use native.Mathlib.Omega.{arith}
 use borrow.Author.Needs.{needs}
 use Rattle.contract.specs.Decode.{contractOf}
-use Rattle.results.proofs.Puts.{kept}
+use Rattle.printing.proofs.Puts.{kept}
 use Rattle.results.proofs.Turns.{ready-at, ready-whole, Going, start, next-room, part-room, turn, all-put}
 use Rattle.results.proofs.many.put_lines.Statement.{statement}
 use Rattle.results.proofs.many.put_lines.Tie as tie

@@ -3,7 +3,7 @@ use borrow.Author.Needs.{needs}
 use mathlib.Core.Path.{sym, _∙_}
 use mir.Syntax.{w64}
 use mir.Val.{SFits}
-use Rattle.results.proofs.Puts.{kept}
+use Rattle.printing.proofs.Puts.{kept}
 use Rattle.results.proofs.Assembled.{ready-as, sent-bits, line-as, refused-as, failed-as}
 use Rattle.results.proofs.reports.write_line.Statement.{statement}
 use Rattle.results.proofs.reports.write_line.Tie as tie
