@@ -8,5 +8,6 @@ pub mod Late
 pub mod CodeInScope
 pub mod FunctionsFit
 pub mod ClauseRoom
+pub mod ReadByRules
 pub mod Accepted
 pub mod Refusals

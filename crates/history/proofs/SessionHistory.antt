@@ -23,6 +23,7 @@ use Rattle.machine.specs.Steps.{Request, requested, roomNeeded}
 use Rattle.step_reports.specs.Reports.{reportOf, labelReports, told}
 use Rattle.machine.specs.Sessions.{Said, asks, unread, heard, Turn, takes, wait, turnAt, Session, here, before, onTurn}
 use Rattle.history.specs.Histories.{Step, answerTo, Returned, returned, History, history, within64}
+use Rattle.history.specs.Settled.{settled}
 use Rattle.history.specs.Sessions.{Stored, wholeFor, blocks, turnsIn, thenSaid, saidFor, stepsOf, linesOf, toldBy, IsHistory, Window, windows, saidIn, Desk}
 use Rattle.history.proofs.GoodState.{Good, fresh-good}
 use Rattle.history.proofs.Count.{labels-left}
@@ -31,7 +32,7 @@ use Rattle.history.proofs.Demand.{demand}
 use Rattle.history.proofs.LineIntegers.{TurnIn, turn-in}
 use Rattle.history.proofs.AskedOnce.{stored-good, heard-good, blocks-good, blocks-fine}
 use Rattle.history.proofs.Continued.{blocks-turns}
-use Rattle.history.proofs.Settled.{told-settled, settled-paid, settled-payable}
+use Rattle.history.proofs.Settled.{told-settled, settled-paid, settled-payable, file-settled, waiting-accepted, last-accepted}
 
 -- ---- the steps of a session have 64-bit arguments
 
@@ -187,11 +188,18 @@ module _ (w : List ℕ) (p : passes w ≡ true) (slice : List Label) (room : roo
       let xs = saidIn c ws s in
       let played = windows-history ws s g in
       let in64 = windows-in ws s in
+      let rs = windows c ws s .reports in
+      let es = settled (history w s (stepsOf slice xs) .answers) in
+      let entered : payouts 0 0 rs ≡ es = ap (payouts 0 0) (played .reports) ∙ told-settled w slice s xs 0 0 in
+      let payable = settled-payable w p s g (stepsOf slice xs) in64 in
       record {
         is-history = played;
         demand = demand w p clock (stepsOf slice xs) in64;
         writable = windows-fine ws s g;
-        entries = ap (payouts 0 0) (played .reports) ∙ told-settled w slice s xs 0 0;
+        entries = entered;
         paid = settled-paid w s (stepsOf slice xs);
-        payable = settled-payable w p s g (stepsOf slice xs) in64;
+        payable = payable;
+        file = file-settled w p rs es entered payable;
+        asked = waiting-accepted w p rs es entered payable;
+        asked-last = last-accepted w p rs es entered payable;
       }

@@ -1,15 +1,16 @@
 -- The entries of settlement pages among the result lines of a history are its asset payouts, each with its step's rule and the clock after
--- it; and question 61 passes each. Assumes nothing.
+-- it, at which its label was sent; question 61 passes each; their pages are the desk's file, and are accepted. Assumes nothing.
 use mathlib.Core.Path.{_≡_, refl, sym, ap, _∙_}
 use mathlib.Core.Bool.{Bool, true, false, _&&_, _||_}
 use mathlib.Core.List.{List, [], _∷_, _++_, map, map-append}
-use Prim.Native.Nat.{ℕ, _≤_}
+use Prim.Native.Nat.{ℕ, _/_, _≤_}
 use lib.ListN.{length, take}
 use lib.Dec.{eqb, leb, ltb}
+use lib.IntN.{ℤ}
 use borrow.Author.Tests.{eqb-true, le-leb}
 use Rattle.laws.specs.Choice.{pick}
 use Rattle.laws.specs.Lists.{every}
-use Rattle.laws.proofs.Choice.{pick-true}
+use Rattle.laws.proofs.Choice.{pick-true, true-false}
 use Rattle.laws.proofs.Members.{every-head, every-tail, every-append}
 use Rattle.laws.proofs.Truths.{both-left, both-right, both-true}
 use Rattle.contract.specs.Limits.{top}
@@ -17,12 +18,20 @@ use Rattle.contract.specs.Tree.{Contract}
 use Rattle.contract.specs.Decode.{contractOf}
 use Rattle.contract.specs.Check.{passes, ranges}
 use Rattle.state.specs.declared.State.{State}
+use Rattle.state.specs.States.{withPending}
 use Rattle.statements.specs.declared.Label.{Label}
 use Rattle.statements.specs.Running.{assetLabel}
 use Rattle.results.specs.declared.Report.{Report}
 use Rattle.results.specs.Lines.{valueOk, reportOk}
 use Rattle.pages.specs.Entries.{Entry, isPayout}
+use Rattle.pages.specs.Page.{sixty}
+use Rattle.pages.specs.Answers.{pageBytes, paged}
 use Rattle.pages.specs.Gathering.{payouts}
+use Rattle.pages.specs.Promises.{entriesIn, taken, sheetsAfter, noSheets, fileOf, closed}
+use Rattle.pages.specs.declared.Paged.the-variants as page
+use Rattle.pages.proofs.Cuts.{every-sixty}
+use Rattle.pages.proofs.Filling.{page-accepts}
+use Rattle.pages.proofs.Gathers.{session-pages, waiting-all}
 use Rattle.outcomes.specs.declared.Rule.{Rule}
 use Rattle.outcomes.specs.declared.Rule.the-variants.{Call, EventMatch}
 use Rattle.outcomes.specs.declared.Outcome.{Outcome}
@@ -119,7 +128,7 @@ settled-paid w s (a ∷ xs) =
 -- ---- question 61
 
 -- one of the two rules, of calls and of firings
-abbrev sends : Rule → Bool
+abbrev pub sends : Rule → Bool
 sends r = eqb (ruleNumber r) 1 || eqb (ruleNumber r) 2
 
 module _ (c : Contract) where
@@ -175,3 +184,52 @@ settled-payable w p s g (a ∷ xs) e =
     (ap (λ (ls : List Label). every (isPayout (contractOf w)) (entriesBy (r .outcome) (r .state .clock) ls)) (payouts-left s (g .assets .assets-length) w a)
     ∙ answer-payable (answered-so w s a) (step-fine w p g a in64) (next .clock))
     (settled-payable w p (r .state) next xs (every-tail (λ a. within64 (a .request)) a xs e))
+
+-- ---- the clock of an entry
+
+-- accepted by one of the two rules
+abbrev sendsIn : Outcome → Bool
+sendsIn (Accepted r) = sends r
+sendsIn (Failed n) = false
+sendsIn (Refused n) = false
+
+came-left : {s : State} {q : Request} {r : Stepped} (c : Contract) → ComesOut c s q r → sendsIn (r .outcome) ≡ true → r .state .clock ≡ s .clock
+unfolding withPending
+came-left c (refusal n) h = refl
+came-left c (agrees ps a) h = true-false (sym h)
+came-left c (calls i n g ps o) h = refl
+came-left c (fires k a d e) h = refl
+came-left c (fails k a d e) h = true-false (sym h)
+came-left c (ticks a d l) h = true-false (sym h)
+
+answer-left : {w : List ℕ} {s : State} {a : Step} {r : Stepped} → Answers w s a r → sendsIn (r .outcome) ≡ true → r .state .clock ≡ s .clock
+answer-left (first-refusal n) h = refl
+answer-left {w} (by-rule p o l k) h = came-left (contractOf w) k h
+
+-- a call and a firing leave the clock, whatever the table and the state
+pub clock-left : (w : List ℕ) (s : State) (a : Step) (r : Rule) → answerTo w s a .outcome ≡ Accepted r → sends r ≡ true → answerTo w s a .state .clock ≡ s .clock
+clock-left w s a r e h = answer-left (answered-so w s a) (ap sendsIn e ∙ h)
+
+-- ---- the desk's file
+
+-- a session's result lines, whose payouts are es, each within question 61
+module _ (w : List ℕ) (p : passes w ≡ true) (rs : List Report) (es : List Entry) (e : payouts 0 0 rs ≡ es) (o : every (isPayout (contractOf w)) es ≡ true) where
+  -- each page of es, by its own entries
+  pub sixty-accepted : (n size : ℕ) → pageBytes ≤ size → paged w (sixty n es) size ≡ page.Accepted
+  sixty-accepted n size h = page-accepts w _ size p (every-sixty (isPayout (contractOf w)) n es o) h
+
+  module _ (ns : List ℕ) (zs : List ℤ) (n : 300 ≤ length ns) (z : 60 ≤ length zs) where
+    pub file-settled : closed (contractOf w) (sheetsAfter (contractOf w) (noSheets ns zs) rs) ≡ fileOf (contractOf w) es
+    file-settled = session-pages (contractOf w) ns zs rs n z .file ∙ ap (fileOf (contractOf w)) e
+
+    -- whatever waits after line r
+    pub waiting-accepted : (size : ℕ) → pageBytes ≤ size → (before more : List Report) (r : Report) → rs ≡ before ++ (r ∷ more)
+        → paged w (entriesIn (taken (sheetsAfter (contractOf w) (noSheets ns zs) before) r)) size ≡ page.Accepted
+    waiting-accepted size h before more r d =
+        page-accepts w _ size p
+        (waiting-all (isPayout (contractOf w)) (contractOf w) ns zs before more r n z (ap (every (isPayout (contractOf w))) (ap (payouts 0 0) (sym d) ∙ e) ∙ o)) h
+
+    pub last-accepted : (size : ℕ) → pageBytes ≤ size → paged w (entriesIn (sheetsAfter (contractOf w) (noSheets ns zs) rs)) size ≡ page.Accepted
+    last-accepted size h =
+        let q = length (payouts 0 0 rs) / 60 in
+        ap (λ (l : List Entry). paged w l size) (session-pages (contractOf w) ns zs rs n z .waiting ∙ ap (sixty q) e) ∙ sixty-accepted q size h

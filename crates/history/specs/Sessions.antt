@@ -1,12 +1,12 @@
 -- The states that code can hold; sessions block by block; a session in which every step is asked questions 3, 4 and 20; that a session is a
--- history, and so is what a desk does with all its input, the entries of its settlement pages too; that the calls on a window come to an end.
+-- history, and so is what a desk does with all its input, its settlement pages too; that the calls on a window come to an end.
 use Prim.Native.Nat.{ℕ, zero, suc, _+_, _-_, _*_, _<_, _≤_}
 use mathlib.Core.Path.{_≡_}
 use mathlib.Core.Bool.{true}
 use mathlib.Core.List.{List, [], _∷_, _++_}
 use lib.ListN.{length, getD, take, drop}
 use lib.Dec.{leb}
-use lib.IntN.{pos}
+use lib.IntN.{ℤ, pos}
 use Rattle.laws.specs.Choice.{pick}
 use Rattle.laws.specs.Lists.{every}
 use Rattle.numbers.specs.Numbers.{within}
@@ -21,7 +21,10 @@ use Rattle.results.specs.declared.Report.{Report}
 use Rattle.results.specs.declared.Report.the-variants as report
 use Rattle.results.specs.Lines.{reportOk}
 use Rattle.pages.specs.Entries.{isPayout}
+use Rattle.pages.specs.Answers.{pageBytes, paged}
 use Rattle.pages.specs.Gathering.{payouts}
+use Rattle.pages.specs.Promises.{entriesIn, taken, sheetsAfter, noSheets, fileOf, closed}
+use Rattle.pages.specs.declared.Paged.the-variants as page
 use Rattle.outcomes.specs.declared.Stepped.{Stepped}
 use Rattle.outcomes.specs.Outcomes.{refused}
 use Rattle.machine.specs.Steps.{requested, step}
@@ -158,6 +161,17 @@ pub record Serves (w : List ℕ) (clock : ℕ) (ws : List Window) (slice : List 
   pub paid : labelsIn (settled (history w (freshAt clock) (stepsOf slice xs) .answers)) ≡ history w (freshAt clock) (stepsOf slice xs) .payouts
   -- and question 61 passes each
   pub payable : every (isPayout (contractOf w)) (settled (history w (freshAt clock) (stepsOf slice xs) .answers)) ≡ true
+  -- with lent lists for one page, all bytes that the desk's loop writes (`sheetsAfter`, then `closed`; that the program goes so is tested) are
+  -- the file of the pages of these entries
+  pub file : (numbers : List ℕ) (values : List ℤ) → 300 ≤ length numbers → 60 ≤ length values
+      → closed (contractOf w) (sheetsAfter (contractOf w) (noSheets numbers values) (windows (contractOf w) ws (freshAt clock) .reports))
+      ≡ fileOf (contractOf w) (settled (history w (freshAt clock) (stepsOf slice xs) .answers))
+  -- and `page` accepts what that loop hands to it: the entries that wait after any line r, so also those that fill a page, and at the end
+  pub asked : (numbers : List ℕ) (values : List ℤ) → 300 ≤ length numbers → 60 ≤ length values → (size : ℕ) → pageBytes ≤ size
+      → (rs more : List Report) (r : Report) → windows (contractOf w) ws (freshAt clock) .reports ≡ rs ++ (r ∷ more)
+      → paged w (entriesIn (taken (sheetsAfter (contractOf w) (noSheets numbers values) rs) r)) size ≡ page.Accepted
+  pub asked-last : (numbers : List ℕ) (values : List ℤ) → 300 ≤ length numbers → 60 ≤ length values → (size : ℕ) → pageBytes ≤ size
+      → paged w (entriesIn (sheetsAfter (contractOf w) (noSheets numbers values) (windows (contractOf w) ws (freshAt clock) .reports))) size ≡ page.Accepted
 
 -- proved (`desk`) of tables that pass, clocks up to top, and slices of `roomNeeded` entries or more, for all windows: the arguments of a
 -- line that is read are within 64 bits

@@ -9,7 +9,7 @@ use Rattle.pages.specs.Entries.{Entry}
 use Rattle.step_reports.specs.Reports.{ruleNumber}
 use Rattle.history.specs.Histories.{Returned, payoutsOf}
 
--- a label that a step sent, with its rule and the clock after it
+-- a label that a step sent, with its rule and the clock after it, which is the one before it: calls and firings leave the clock (`clock-left`)
 abbrev pub entryBy : Rule → ℕ → Label → Entry
 entryBy r clock l = record { kind = l .kind; party = l .party; rule = ruleNumber r; clock = clock; value = l .value }
 

@@ -45,6 +45,13 @@ name-room {old} {mid} {at} {m} w party t l h p =
     let r : at + length (nameBytes w (43 + party * 33)) ≤ length old = subst (λ (u : List ℕ). at + length u ≤ length old) e (room-first at name (spaces (32 - length name)) h) in
     put-of (nameBytes w (43 + party * 33)) p r
 
+-- so has a call's rule
+pub call-room : {old mid : List ℕ} {at m : ℕ} (rule : ℕ) → rule ≡ 1 → at + length (left 11 (ruleName rule)) ≤ length old → Puts old at (spelled function) m mid
+    → Put old at (spelled function) m mid
+unfolding left ruleName pick spelled
+call-room {old} {mid} {at} {m} rule e h p =
+    put-of (spelled function) p (room-first at (spelled function) (spaces 3) (subst (λ (r : ℕ). at + length (left 11 (ruleName r)) ≤ length old) e h))
+
 module _ {old mid new : List ℕ} {at m n : ℕ} where
   -- so many spaces before a number
   pub right-piece : (k : ℕ) {d g : ℕ} → at + length (right 19 (decimal k)) ≤ length old → d ≡ length (decimal k) → g ≡ 19 - d → Puts old at (spaces g) m mid
@@ -54,12 +61,15 @@ module _ {old mid new : List ℕ} {at m n : ℕ} where
       let s : g ≡ 19 - length (decimal k) = f ∙ ap (λ (x : ℕ). 19 - x) e in
       piece (spaces (19 - length (decimal k))) h (puts-as old at (ap spaces s) p) λ h. put-of (decimal k) q h
 
-  pub call-piece : (rule : ℕ) → rule ≡ 1 → at + length (left 11 (ruleName rule)) ≤ length old → Puts old at (spelled function) m mid → Puts mid m (spaces 3) n new
-      → Put old at (left 11 (ruleName rule)) n new
+  -- a call's rule, and so many spaces after it
+  pub call-piece : (rule : ℕ) {g : ℕ} → rule ≡ 1 → at + length (left 11 (ruleName rule)) ≤ length old → Puts old at (spelled function) m mid → g ≡ 11 - (m - at)
+      → Puts mid m (spaces g) n new → Put old at (left 11 (ruleName rule)) n new
   unfolding left ruleName pick spelled
-  call-piece rule e h p q =
+  call-piece rule {g} e h p f q =
+      let one : Put old at (spelled function) m mid = call-room rule e h p in
+      let s : g ≡ 3 = omega (arith, f, one .place) in
       same (ap (λ (r : ℕ). left 11 (ruleName r)) (sym e))
-      (piece (spelled function) (subst (λ (r : ℕ). at + length (left 11 (ruleName r)) ≤ length old) e h) p λ h. put-of (spaces 3) q h)
+      (part (subst (λ (r : ℕ). at + length (left 11 (ruleName r)) ≤ length old) e h) one λ h. put-of (spaces 3) (puts-as mid m (ap spaces s) q) h)
 
   -- a name, and so many spaces after it
   pub party-piece : (w : List ℕ) (party : ℕ) {g : ℕ} → passes w ≡ true → party < length (contractOf w .parties)

@@ -7,7 +7,7 @@ use native.Mathlib.Omega.{arith}
 use lib.ListN.{length, getD, take, drop, drop-of-length-le}
 use lib.Seq.{take-all, take-at, drop-append-add}
 use lib.Dec.{ltb}
-use borrow.Author.Tests.{ltb-false}
+use borrow.Author.Tests.{ltb-false, le-ltb}
 use Rattle.laws.specs.Bytes.{bytes}
 use Rattle.laws.specs.Choice.{pick}
 use Rattle.laws.specs.Lists.{every}
@@ -129,6 +129,11 @@ module _ (w : List ℕ) (es : List Entry) (size : ℕ) (a : paged w es size ≡ 
   -- the page that is written is one of payouts on a contract that fits
   pub accepted-filled : Filled (contractOf w) es
   accepted-filled = filled (contractOf w) es (sound w (asked .1)) (asked .2)
+
+-- a page of payouts is accepted
+pub page-accepts : (w : List ℕ) (es : List Entry) (size : ℕ) → passes w ≡ true → every (isPayout (contractOf w)) es ≡ true → 5185 ≤ size → paged w es size ≡ Accepted
+unfolding paged
+page-accepts w es size p e h = pick-false _ _ _ (le-ltb size 5185 h) ∙ pick-true _ _ _ p ∙ pick-true _ _ _ e
 
 -- a refused page leaves the buffer
 pub refused-untouched : RefusedPage

@@ -9,8 +9,10 @@ use lib.Seq.{sets, sets-eq, length-sets, take-at, take-append-le, drop-append-le
 use lib.IntN.{ℤ}
 use lib.Dec.{eqb, ltb}
 use borrow.Author.Tests.{eqb-true, eqb-false, lt-ltb}
+use Rattle.laws.specs.Lists.{every}
 use Rattle.laws.proofs.Choice.{pick-true, pick-false, by-cases}
 use Rattle.laws.proofs.Truths.{both-true}
+use Rattle.laws.proofs.Members.{every-first}
 use Rattle.contract.specs.Tree.{Contract}
 use Rattle.contract.specs.Decode.{eachFrom}
 use Rattle.contract_laws.proofs.Inversions.{by-test}
@@ -21,10 +23,11 @@ use Rattle.pages.specs.Entries.{Entry, entryAt, entriesOf}
 use Rattle.contract.specs.Encode.{joined}
 use Rattle.pages.specs.Page.{lineOf, blankLines, foot, sheet, sixty, pageOf}
 use Rattle.pages.specs.Gathering.{payouts, joins, gathered, numbersAfter, valuesAfter}
-use Rattle.pages.specs.Promises.{firstEntries, Keeps, gatheredAll, numbersAll, valuesAll, GathersAll, Sheets, turned, taken, sheetsAfter, noSheets, pagesUpTo, fileOf, closed, SessionPages}
+use Rattle.pages.specs.Promises.{Sheets, entriesIn, turned, taken, sheetsAfter, noSheets, pagesUpTo, fileOf, closed, SessionPages, SessionWaits}
 use Rattle.pages.specs.declared.Gathered.{Gathered}
 use Rattle.pages.proofs.Given.{entries-whole, entries-more}
 use Rattle.pages.proofs.Widths.{foot-long}
+use Rattle.pages.proofs.Cuts.{every-sixty}
 
 -- ---- the payouts of result lines
 
@@ -64,6 +67,17 @@ payouts-then g (Refused n) rs = refl
 payouts-then g (Failed n) rs = refl
 
 -- ---- one line
+
+-- the first k entries of lent lists
+abbrev pub firstEntries : ℕ → List ℕ → List ℤ → List Entry
+firstEntries k numbers values = entriesOf (take (5 * k) numbers) (take k values)
+
+-- lent lists with room for a page hold these entries first, as many as are counted
+pub record Keeps (g : Gathered) (numbers : List ℕ) (values : List ℤ) (es : List Entry) : Type 0 where
+  pub count : g .count ≤ 60
+  pub numbers-long : 300 ≤ length numbers
+  pub values-long : 60 ≤ length values
+  pub entries : firstEntries (g .count) numbers values ≡ es
 
 module _ {g : Gathered} {ns : List ℕ} {zs : List ℤ} {es : List Entry} (k : Keeps g ns zs es) where
   numbers-taken : length (take (5 * g .count) ns) ≡ 5 * g .count
@@ -151,19 +165,6 @@ gather-one g ns zs es (Held a b) k h = keeps-as k g refl
 gather-one g ns zs es (Refused n) k h = keeps-as k g refl
 gather-one g ns zs es (Failed n) k h = keeps-as k g refl
 
--- ---- many lines
-
-pub gathers-all : GathersAll
-unfolding payouts gatheredAll numbersAll valuesAll
-gathers-all g ns zs es [] k h = keeps-as k g refl
-gathers-all g ns zs es (r ∷ rs) k h =
-    let p = payouts (g .rule) (g .clock) (r ∷ []) in
-    let q = payouts (gathered g r .rule) (gathered g r .clock) rs in
-    let e : payouts (g .rule) (g .clock) (r ∷ rs) ≡ p ++ q = payouts-then g r rs in
-    let few : length es + (length p + length q) ≤ 60 = omega (arith, ap length e, length-append p q) in
-    keeps-same refl refl refl (append-assoc es p q ∙ ap (λ (l : List Entry). es ++ l) (sym e))
-    (gathers-all (gathered g r) (numbersAfter g r ns) (valuesAfter g r zs) (es ++ p) rs (gather-one g ns zs es r k (omega arith)) (omega (arith, length-append es p)))
-
 -- ---- pages that are written when they are full
 
 -- the pages of entries with more behind them
@@ -206,7 +207,7 @@ runs-more c s es ds w few k =
     (λ t.
     let n : s .gathered .count ≡ 60 = eqb-true (s .gathered .count) 60 t in
     let up : length (es ++ ds) / 60 ≡ suc q = omega (arith, counted k) in
-    let page : firstEntries 60 (s .numbers) (s .values) ≡ drop (60 * q) (es ++ ds) = ap (λ (m : ℕ). firstEntries m (s .numbers) (s .values)) (sym n) ∙ k .entries ∙ sym behind in
+    let page : entriesIn s ≡ drop (60 * q) (es ++ ds) = k .entries ∙ sym behind in
     let past : length (es ++ ds) ≤ 60 * (length (es ++ ds) / 60) = omega (arith, counted k) in
     record {
       written = (λ i. before i ++ sheet c (take 60 (page i))) ∙ sym (pages-next c (es ++ ds) q) ∙ ap (pagesUpTo c (es ++ ds)) (sym up);
@@ -267,6 +268,25 @@ runs-all c s es (r ∷ rs) k =
     ∙ ap (λ (l : List Entry). es ++ l) (sym (payouts-then g r rs)) in
     subst (λ (l : List Entry). Runs c (sheetsAfter c t rs) l) e (runs-all c t (es ++ p) rs (runs-one c s es r k))
 
+-- the payouts of lines, and of those after them
+payouts-append : (c : Contract) (s : Sheets) (xs ys : List Report)
+    → let t = sheetsAfter c s xs in
+    payouts (s .gathered .rule) (s .gathered .clock) (xs ++ ys) ≡ payouts (s .gathered .rule) (s .gathered .clock) xs ++ payouts (t .gathered .rule) (t .gathered .clock) ys
+unfolding sheetsAfter payouts
+payouts-append c s [] ys = refl
+payouts-append c s (r ∷ xs) ys =
+    let g = s .gathered in
+    let t = turned c (taken s r) in
+    let p = payouts (g .rule) (g .clock) (r ∷ []) in
+    let first : (l : List Report) → payouts (g .rule) (g .clock) (r ∷ l) ≡ p ++ payouts (t .gathered .rule) (t .gathered .clock) l =
+    λ l. payouts-then g r l ∙ sym (λ i. p ++ payouts (taken-rule c s r i) (taken-clock c s r i) l) in
+    let u = sheetsAfter c t xs in
+    let rest = payouts (u .gathered .rule) (u .gathered .clock) ys in
+    first (xs ++ ys)
+    ∙ ap (λ (l : List Entry). p ++ l) (payouts-append c t xs ys)
+    ∙ sym (append-assoc p (payouts (t .gathered .rule) (t .gathered .clock) xs) rest)
+    ∙ ap (λ (l : List Entry). l ++ rest) (sym (first xs))
+
 -- ---- the file
 
 page-some : (c : Contract) (es : List Entry) (n : ℕ) → 1 ≤ length (pageOf c es n)
@@ -292,7 +312,7 @@ module _ (c : Contract) (s : Sheets) (es : List Entry) (k : Runs c s es) where
 
   -- the last page is written
   with-last : (length es - 1) / 60 ≡ length es / 60
-      → s .bytes ++ pageOf c (firstEntries (s .gathered .count) (s .numbers) (s .values)) 0 ≡ pagesUpTo c es (suc ((length es - 1) / 60))
+      → s .bytes ++ pageOf c (entriesIn s) 0 ≡ pagesUpTo c es (suc ((length es - 1) / 60))
   with-last e =
       (λ i. k .written i ++ pageOf c (k .kept .entries i) 0)
       ∙ sym (pages-next c es (length es / 60))
@@ -331,3 +351,31 @@ session-pages c ns zs rs h l =
       last = ap (λ (l : List Entry). pageOf c l 0) (k .kept .entries);
       file = file-is c (sheetsAfter c (noSheets ns zs) rs) es k;
     }
+
+pub session-waits : SessionWaits
+unfolding taken
+session-waits c ns zs rs r h l =
+    let s = sheetsAfter c (noSheets ns zs) rs in
+    let es = payouts 0 0 rs in
+    let k : Runs c s es = runs-all c (noSheets ns zs) [] rs (no-runs c ns zs h l) in
+    let p = payouts (s .gathered .rule) (s .gathered .clock) (r ∷ []) in
+    let q = length es / 60 in
+    let rest = drop (60 * q) es in
+    let few : length rest + length p ≤ 60 = omega (arith, length-drop (60 * q) es, payout-few (s .gathered .rule) (s .gathered .clock) r) in
+    gather-one (s .gathered) (s .numbers) (s .values) rest r (k .kept) few .entries
+    ∙ sym (take-all 60 (rest ++ p) (omega (arith, length-append rest p)))
+    ∙ ap (take 60) (sym (drop-append-le (60 * q) es p (omega arith)))
+    ∙ ap (sixty q) (sym (payouts-append c (noSheets ns zs) rs (r ∷ [])))
+
+-- a test that all payouts pass, those that wait pass
+pub waiting-all : (p : Entry → Bool) (c : Contract) (ns : List ℕ) (zs : List ℤ) (rs more : List Report) (r : Report) → 300 ≤ length ns → 60 ≤ length zs
+    → every p (payouts 0 0 (rs ++ (r ∷ more))) ≡ true → every p (entriesIn (taken (sheetsAfter c (noSheets ns zs) rs) r)) ≡ true
+waiting-all p c ns zs rs more r h l e =
+    let none = noSheets ns zs in
+    let so-far = rs ++ (r ∷ []) in
+    let t = sheetsAfter c none so-far in
+    let all : payouts 0 0 (rs ++ (r ∷ more)) ≡ payouts 0 0 so-far ++ payouts (t .gathered .rule) (t .gathered .clock) more =
+    ap (payouts 0 0) (sym (append-assoc rs (r ∷ []) more)) ∙ payouts-append c none so-far more in
+    ap (every p) (session-waits c ns zs rs r h l)
+    ∙ every-sixty p (length (payouts 0 0 rs) / 60) (payouts 0 0 so-far)
+    (every-first p (payouts 0 0 so-far) (payouts (t .gathered .rule) (t .gathered .clock) more) (ap (every p) (sym all) ∙ e))

@@ -48,6 +48,6 @@ entryAt numbers values i =
     })
     noEntry
 
--- all that are given, a last one that is not whole among them
+-- all that are given; those that are not whole among them
 unfoldable pub entriesOf : List ℕ → List ℤ → List Entry
 entriesOf numbers values = eachFrom 0 (max ((length numbers + 4) / 5) (length values)) (entryAt numbers values)

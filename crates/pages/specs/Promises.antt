@@ -33,6 +33,7 @@ unfoldable pub payoutLines : Contract → List Entry → ℕ → List ℕ
 payoutLines c es zero = []
 payoutLines c es (suc k) = payoutLines c es k ++ take (85 * length (sixty k es)) (pageOf c es k)
 
+-- proved (`filled`) of contracts that fit and entries that question 61 passes; so of whatever `page` accepts (`accepted-filled`)
 pub record Filled (c : Contract) (es : List Entry) : Type 0 where
   -- an entry's line has 85 bytes
   pub wide : (j : ℕ) → j < length es → length (lineOf c (getD es j noEntry)) ≡ 85
@@ -54,39 +55,6 @@ pub record Filled (c : Contract) (es : List Entry) : Type 0 where
   -- a page past the last payout
   pub past : (n : ℕ) → length es ≤ 60 * n → pageOf c es n ≡ blankLines 60 ++ (spaces 82 ++ bytes "00\n")
 
--- ---- payouts gathered
-
--- the first k entries of lent lists
-abbrev pub firstEntries : ℕ → List ℕ → List ℤ → List Entry
-firstEntries k numbers values = entriesOf (take (5 * k) numbers) (take k values)
-
--- lent lists with room for a page hold these entries first, as many as are counted
-pub record Keeps (g : Gathered) (numbers : List ℕ) (values : List ℤ) (es : List Entry) : Type 0 where
-  pub count : g .count ≤ 60
-  pub numbers-long : 300 ≤ length numbers
-  pub values-long : 60 ≤ length values
-  pub entries : firstEntries (g .count) numbers values ≡ es
-
--- after many result lines
-unfoldable pub gatheredAll : Gathered → List Report → Gathered
-gatheredAll g [] = g
-gatheredAll g (r ∷ rs) = gatheredAll (gathered g r) rs
-
-unfoldable pub numbersAll : Gathered → List Report → List ℕ → List ℕ
-numbersAll g [] old = old
-numbersAll g (r ∷ rs) old = numbersAll (gathered g r) rs (numbersAfter g r old)
-
-unfoldable pub valuesAll : Gathered → List Report → List ℤ → List ℤ
-valuesAll g [] old = old
-valuesAll g (r ∷ rs) old = valuesAll (gathered g r) rs (valuesAfter g r old)
-
--- payouts that still fit on the page join the entries, in order
-abbrev pub GathersAll : Type 0
-GathersAll =
-    (g : Gathered) (numbers : List ℕ) (values : List ℤ) (es : List Entry) (rs : List Report) → Keeps g numbers values es
-    → length es + length (payouts (g .rule) (g .clock) rs) ≤ 60
-    → Keeps (gatheredAll g rs) (numbersAll g rs numbers) (valuesAll g rs values) (es ++ payouts (g .rule) (g .clock) rs)
-
 -- ---- the pages of a session, with lent lists for one page
 
 -- what is gathered, the lent lists, and the bytes of the pages that were full
@@ -96,6 +64,10 @@ pub record Sheets : Type 0 where
   pub values : List ℤ
   pub bytes : List ℕ
 
+-- the entries that wait for their page: the first of the lent lists, as many as are counted
+abbrev pub entriesIn : Sheets → List Entry
+entriesIn s = entriesOf (take (5 * s .gathered .count) (s .numbers)) (take (s .gathered .count) (s .values))
+
 -- a full page is written, and the count goes back to 0
 unfoldable pub turned : Contract → Sheets → Sheets
 turned c s =
@@ -104,7 +76,7 @@ turned c s =
       gathered = record { rule = s .gathered .rule; clock = s .gathered .clock; count = 0 };
       numbers = s .numbers;
       values = s .values;
-      bytes = s .bytes ++ pageOf c (firstEntries 60 (s .numbers) (s .values)) 0;
+      bytes = s .bytes ++ pageOf c (entriesIn s) 0;
     })
     s
 
@@ -132,22 +104,22 @@ unfoldable pub pagesUpTo : Contract → List Entry → ℕ → List ℕ
 pagesUpTo c es zero = []
 pagesUpTo c es (suc k) = pagesUpTo c es k ++ pageOf c es k
 
--- the file of a session's pages (desk.md): page 0 to the last that has a payout, page 0 at least
+-- the file of a session's pages (the customer's page of the desk's command line): page 0 to the last that has a payout, page 0 at least
 unfoldable pub fileOf : Contract → List Entry → List ℕ
 fileOf c es = pagesUpTo c es (suc ((length es - 1) / 60))
 
--- the bytes that are written at the session's end: with the last page, if it has a payout or is the only one
+-- all bytes written by the session's end: with the last page, if it has a payout or is the only one
 unfoldable pub closed : Contract → Sheets → List ℕ
 closed c s =
     pick (eqb (s .gathered .count) 0 && not (eqb (length (s .bytes)) 0))
     (s .bytes)
-    (s .bytes ++ pageOf c (firstEntries (s .gathered .count) (s .numbers) (s .values)) 0)
+    (s .bytes ++ pageOf c (entriesIn s) 0)
 
 -- s has the pages of es: those that are full are written, and the last has the entries gathered
 pub record HasPages (c : Contract) (es : List Entry) (s : Sheets) : Type 0 where
   pub full : s .bytes ≡ pagesUpTo c es (length es / 60)
-  pub waiting : firstEntries (s .gathered .count) (s .numbers) (s .values) ≡ sixty (length es / 60) es
-  pub last : pageOf c (firstEntries (s .gathered .count) (s .numbers) (s .values)) 0 ≡ pageOf c es (length es / 60)
+  pub waiting : entriesIn s ≡ sixty (length es / 60) es
+  pub last : pageOf c (entriesIn s) 0 ≡ pageOf c es (length es / 60)
   pub file : closed c s ≡ fileOf c es
 
 -- the pages of a session are those of all its payouts
@@ -155,3 +127,9 @@ abbrev pub SessionPages : Type 0
 SessionPages =
     (c : Contract) (numbers : List ℕ) (values : List ℤ) (rs : List Report) → 300 ≤ length numbers → 60 ≤ length values
     → HasPages c (payouts 0 0 rs) (sheetsAfter c (noSheets numbers values) rs)
+
+-- after one more line, before a page that it fills is written, a sixty of the payouts so far waits
+abbrev pub SessionWaits : Type 0
+SessionWaits =
+    (c : Contract) (numbers : List ℕ) (values : List ℤ) (rs : List Report) (r : Report) → 300 ≤ length numbers → 60 ≤ length values
+    → entriesIn (taken (sheetsAfter c (noSheets numbers values) rs) r) ≡ sixty (length (payouts 0 0 rs) / 60) (payouts 0 0 (rs ++ (r ∷ [])))

@@ -5,6 +5,7 @@ ghost use Rattle.results.specs.Coded.{reportAt};
 ghost use Rattle.pages.specs.Entries.{entriesOf};
 ghost use Rattle.pages.specs.Answers.{paged, bufferAfter};
 ghost use Rattle.pages.specs.Gathering.{gathered, numbersAfter, valuesAfter};
+use results::Report;
 
 mod lines;
 mod notes;
@@ -21,6 +22,18 @@ impl Sheet {
     pub const LINES: usize = 60;
 
     pub const NUMBERS: usize = 5;
+
+    // The widths of its columns: a clock or an amount, a rule's name, a party's name.
+    const AMOUNT: usize = 19;
+
+    const RULE: usize = 11;
+
+    const PARTY: usize = 32;
+
+    // The bytes of a line before its LF, and the spaces before the foot's two digits.
+    const LINE: usize = 84;
+
+    const FOOT: usize = 82;
 }
 
 // What asking for a page answers.
@@ -30,7 +43,7 @@ pub enum Paged {
     Refused(u8),
 }
 
-// What is gathered of a session: the rule and the clock of its last step, and how many payouts wait for their page.
+// What is gathered of a session: the rule and the clock of its last accepted step, and how many payouts wait for their page.
 pub struct Gathered {
     pub rule: u64,
     pub clock: u64,
@@ -74,7 +87,7 @@ pub fn page(
     Paged::Refused(questions::TABLE_CHECK)
 }
 
-// Result line i of those in a row, by their numbers and integers: the last step's rule and clock are kept, and a payout joins the
+// Result line i of those in a row, by their numbers and integers: the last accepted step's rule and clock are kept, and a payout joins the
 // lent entries and values after those that are counted, where the page has room.
 pub fn gather(
     g: Gathered,
@@ -88,13 +101,13 @@ pub fn gather(
     ensures { λ _. ⌜ now (entries .exit) ≡ numbersAfter g (reportAt (now (numbers .entry)) (now (integers .entry)) i) (now (entries .entry)) ⌝ }
     ensures { λ _. ⌜ now (values .exit) ≡ valuesAfter g (reportAt (now (numbers .entry)) (now (integers .entry)) i) (now (values .entry)) ⌝ }
 {
-    if numbers.len() / 4 <= i {
+    if numbers.len() / Report::WORDS <= i {
         return g;
     }
     if integers.len() <= i {
         return g;
     }
-    let at = 4 * i;
+    let at = Report::WORDS * i;
     let first = numbers[at + 1];
     if 256 <= first {
         return g;

@@ -17,12 +17,6 @@ ghost use Rattle.pages.specs.Page.{right, left, lineOf, blankLine, foot}
 ghost use Rattle.pages.specs.Private.{Payable};
 use crate::Sheet;
 
-// The widths of columns: a clock or an amount, and a party's name.
-
-const NUMBER: usize = 19;
-
-const NAME: usize = 32;
-
 // How many bytes of a width are left after so many.
 fn gap(width: usize, used: usize) -> usize
     ensures { λ r. ⌜ r ≡ width - used ⌝ }
@@ -38,7 +32,7 @@ fn put_right(buffer: &mut [u8], at: usize, n: u64) -> usize
     requires { ⌜ at + length (right 19 (decimal n)) ≤ length (now buffer) ⌝ }
     ensures { λ r. ⌜ Put (now (buffer .entry)) at (right 19 (decimal n)) r (now (buffer .exit)) ⌝ }
 {
-    let first = printing::put_spaces(buffer, at, gap(NUMBER, printing::digit_count(n)));
+    let first = printing::put_spaces(buffer, at, gap(Sheet::AMOUNT, printing::digit_count(n)));
     printing::put_number(buffer, first, n)
 }
 
@@ -50,7 +44,7 @@ fn put_rule(buffer: &mut [u8], at: usize, rule: u64) -> usize
 {
     if rule == 1 {
         let end = printing::put_word(buffer, at, words::FUNCTION);
-        return printing::put_spaces(buffer, end, 3);
+        return printing::put_spaces(buffer, end, gap(Sheet::RULE, end - at));
     }
     printing::put_word(buffer, at, words::EVENT_MATCH)
 }
@@ -63,7 +57,7 @@ fn put_party(table: &[u64], party: usize, buffer: &mut [u8], at: usize) -> usize
 {
     let row = contract::PARTIES + party * contract::NAME_WORDS;
     let end = printing::put_name(table, row, buffer, at);
-    printing::put_spaces(buffer, end, gap(NAME, end - at))
+    printing::put_spaces(buffer, end, gap(Sheet::PARTY, end - at))
 }
 
 // Clock and rule, each with a space after it.
@@ -115,7 +109,7 @@ pub(crate) fn put_blank(buffer: &mut [u8], at: usize) -> usize
     requires { ⌜ at + 85 ≤ length (now buffer) ⌝ }
     ensures { λ r. ⌜ Put (now (buffer .entry)) at blankLine r (now (buffer .exit)) ⌝ }
 {
-    let end = printing::put_spaces(buffer, at, 84);
+    let end = printing::put_spaces(buffer, at, Sheet::LINE);
     printing::put_byte(buffer, end, b'\n')
 }
 
@@ -124,7 +118,7 @@ pub(crate) fn put_foot(buffer: &mut [u8], at: usize, n: usize) -> usize
     requires { ⌜ (n < 100) × (at + 85 ≤ length (now buffer)) ⌝ }
     ensures { λ r. ⌜ Put (now (buffer .entry)) at (foot n) r (now (buffer .exit)) ⌝ }
 {
-    let tens = printing::put_spaces(buffer, at, 82);
+    let tens = printing::put_spaces(buffer, at, Sheet::FOOT);
     let ones = printing::put_byte(buffer, tens, b'0' + (n / 10) as u8);
     let end = printing::put_byte(buffer, ones, b'0' + (n % 10) as u8);
     printing::put_byte(buffer, end, b'\n')

@@ -143,7 +143,7 @@ fn of_lines(number: u8, buffer: &mut [u8; Sentence::BYTES]) -> usize
 }
 
 // Those of document 02: 60 and 61.
-fn of_requests(number: u8, buffer: &mut [u8; 64]) -> usize
+fn of_requests(number: u8, buffer: &mut [u8; Sentence::BYTES]) -> usize
     requires { ⌜ 60 ≤ number ⌝ }
     ensures { λ r. ⌜ Said (now (buffer .entry)) (wordsOf number) r (now (buffer .exit)) ⌝ }
 {

@@ -85,8 +85,8 @@ threeRules n ks =
 abbrev pub hasRoom : List Clause → Bool
 hasRoom ks = leb (length ks) maxClauses && every (λ k. leb (length (k .fields)) maxFields) ks
 
--- The room decides nothing: where the clauses' names are known the rules imply it (`rules-alone`, accepted/proofs/ClauseRoom.antt), and
--- an unknown name has its 13 at an earlier place.
+-- The room decides nothing: every text is answered the same by the three rules alone (`room-decides-nothing`,
+-- accepted/proofs/ReadByRules.antt).
 unfoldable pub keepsRules : ℕ → List Clause → Bool
 keepsRules n ks = hasRoom ks && threeRules n ks
 

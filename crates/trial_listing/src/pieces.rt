@@ -4,6 +4,7 @@ ghost use Prim.Native.Nat.{_≤_};
 use contract::Contract;
 use contract::Function;
 use reading::Answer;
+use tokens::Digits;
 
 // Bytes of a listing: one more than a text may have, so that a longer one is told.
 pub const MOST: usize = Answer::TEXT + 1;
@@ -73,7 +74,7 @@ pub(crate) fn put_line(depth: usize, out: &mut [u64; ROOM]) {
 }
 
 pub(crate) fn put_number(n: u64, out: &mut [u64; ROOM]) {
-    let mut digits = [0u8; 20];
+    let mut digits = [0u8; Digits::MOST];
     let many = io::decimal(n, &mut digits);
     put_all(&digits[..many], out);
 }

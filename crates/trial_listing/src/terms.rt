@@ -2,6 +2,7 @@
 ghost use Prim.Native.Nat.{_≤_};
 use crate::pieces;
 use crate::pieces::ROOM;
+use contract::Contract;
 use contract::Function;
 use contract::Node;
 
@@ -160,6 +161,11 @@ pub(crate) fn put_test(table: &[u64], f: usize, end: usize, out: &mut [u64; ROOM
 
 // ---- statements
 
+// The depth of a handler's statements, and of those inside as many conditionals as there are levels.
+const HANDLER: usize = 3;
+
+const DEEPEST: usize = HANDLER + Contract::LEVELS;
+
 // The nodes from `first` up to, not including, `end`, which have no parts: a target, or a source and a target.
 fn put_ends(table: &[u64], f: usize, first: usize, end: usize, out: &mut [u64; ROOM]) {
     let mut k = first;
@@ -186,7 +192,7 @@ pub(crate) fn put_close(empty: bool, depth: usize, out: &mut [u64; ROOM]) {
     pieces::put_word(words::CLOSE_BRACE, out);
 }
 
-// The statements at the nodes from `first` up to, not including, `end`, each on a line. No text has 64 levels.
+// The statements at the nodes from `first` up to, not including, `end`, each on a line. No text has one below DEEPEST.
 pub(crate) fn put_block(
     table: &[u64],
     f: usize,
@@ -205,7 +211,7 @@ pub(crate) fn put_block(
     if kind_at(table, k) == Node::CONDITIONAL {
         put_test(table, f, part, out);
         pieces::put_apart(words::OPEN_BRACE, out);
-        put_block(table, f, part, k, depth % 64 + 1, out);
+        put_block(table, f, part, k, depth % DEEPEST + 1, out);
         return put_close(part == k, depth, out);
     }
     put_move(table, f, part, k, out);
@@ -241,6 +247,6 @@ pub(crate) fn put_event(table: &[u64], f: usize, i: usize, out: &mut [u64; ROOM]
     let k = event.node;
     let handler = first_of(table, k);
     put_guard(table, f, handler, event.state, out);
-    put_block(table, f, handler, k, 3, out);
+    put_block(table, f, handler, k, HANDLER, out);
     put_end(table, handler == k, 2, event.last, out);
 }

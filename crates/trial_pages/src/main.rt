@@ -12,11 +12,12 @@
 //   # ..               nothing
 // Each line is printed. A gathered one is followed by how many payouts there are; a page by `accepted` and its bytes, or `refused` and the
 // number, then by whether the other bytes of the buffer, or all of them, are still dots.
-// Expected results: worked out from document 02 by scripts/expected-pages, which shares nothing with this code base.
+// Expected results: worked out from document 02 by scripts/expected-pages, which shares no code with it.
 ghost use Prim.Native.Nat.{_≤_, _<_};
 ghost use lib.ListN.{length};
 use contract::Contract;
 use libc::STDOUT_FILENO;
+use numbers::Value;
 use pages::Gathered;
 use pages::Paged;
 use pages::Sheet;
@@ -30,6 +31,10 @@ struct Number {
     next: usize,
 }
 
+impl Number {
+    const GREATEST: u64 = 18446744073709551615;
+}
+
 fn print(bytes: &[u8]) {
     io::write_all(STDOUT_FILENO, bytes);
 }
@@ -40,8 +45,8 @@ fn digit(b: u8) -> bool {
 
 // One more digit, and the greatest number where there is no room.
 fn push(v: u64, d: u64) -> u64 {
-    if (18446744073709551615 - d) / 10 < v {
-        return 18446744073709551615;
+    if (Number::GREATEST - d) / 10 < v {
+        return Number::GREATEST;
     }
     v * 10 + d
 }
@@ -94,16 +99,16 @@ fn read_numbers(line: &[u8], start: usize, numbers: &mut [u64]) {
 }
 
 fn integer(v: u64) -> i64 {
-    if 9223372036854775807 < v {
-        return 9223372036854775807;
+    if Value::LIMIT <= v {
+        return Value::TOP;
     }
     v as i64
 }
 
 // -1 - v.
 fn below_zero(v: u64) -> i64 {
-    if 9223372036854775807 < v {
-        return -9223372036854775808;
+    if Value::LIMIT <= v {
+        return Value::LEAST;
     }
     -1 - (v as i64)
 }
@@ -124,10 +129,10 @@ fn repeated(d: u64, times: u64) -> u64 {
 // Entry i: a payout to party i mod 3 by rule 1 + i mod 2; its clock is the digit i mod 7, i mod 17 + 1 times, its amount the digit i mod 10,
 // i mod 19 + 1 times; the fifth number is i.
 fn make_entry(i: u64, numbers: &mut [u64], values: &mut [i64]) {
-    if 130 <= i {
+    if ENTRIES <= i as usize {
         return;
     }
-    let at = 5 * (i as usize);
+    let at = Sheet::NUMBERS * (i as usize);
     put(numbers, at, 3);
     put(numbers, at + 1, i % 3);
     put(numbers, at + 2, 1 + i % 2);
@@ -145,9 +150,9 @@ fn make_entries(many: u64, numbers: &mut [u64], values: &mut [i64]) {
 }
 
 fn change_number(entry: u64, k: u64, v: u64, numbers: &mut [u64]) {
-    if entry < 130 {
-        if k < 5 {
-            put(numbers, (5 * entry + k) as usize, v);
+    if (entry as usize) < ENTRIES {
+        if (k as usize) < Sheet::NUMBERS {
+            put(numbers, Sheet::NUMBERS * entry as usize + k as usize, v);
         }
     }
 }
@@ -189,7 +194,7 @@ fn gather(line: &[u8], given: Given, numbers: &mut [u64], values: &mut [i64]) ->
     let mut next = given;
     next.gathered = g;
     if count < ENTRIES {
-        return give(next, 5 * count, count);
+        return give(next, Sheet::NUMBERS * count, count);
     }
     next
 }
@@ -289,8 +294,8 @@ fn run_numbers(
         b'b' => next.size = a as usize,
         b'e' => {
             make_entries(a, numbers, values);
-            if a < 131 {
-                next = give(given, (5 * a) as usize, a as usize);
+            if a as usize <= ENTRIES {
+                next = give(given, Sheet::NUMBERS * a as usize, a as usize);
             }
         }
         b'k' => change_number(a, b, c, numbers),

@@ -1,6 +1,6 @@
 -- `trial_pages::below_zero` meets its contract. Assumes nothing.
 use borrow.Author.Needs.{needs}
-use Prim.Native.Nat.{ℕ, _≤_}
+use Prim.Native.Nat.{ℕ, _<_}
 use native.Mathlib.Omega.{arith}
 use lib.IntN.{pos, negsuc, _-ℤ_}
 use mir.Syntax.{w64}
@@ -10,7 +10,7 @@ use Rattle.numbers.proofs.Whole.{diff, fits-of}
 use Rattle.trial_pages.proofs.below_zero.Statement.{statement}
 use Rattle.trial_pages.proofs.below_zero.Tie as tie
 
-within : (v : ℕ) → v ≤ 9223372036854775807 → SFits w64 (negsuc 0 -ℤ toZ w64 v)
+within : (v : ℕ) → v < 9223372036854775808 → SFits w64 (negsuc 0 -ℤ toZ w64 v)
 within v h =
     rw (toZ-pos w64 v (omega arith))
     (fits-of (negsuc 0 -ℤ pos v) (omega (arith, diff (negsuc 0) (pos v))) (omega (arith, diff (negsuc 0) (pos v))))

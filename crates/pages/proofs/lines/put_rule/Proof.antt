@@ -1,15 +1,22 @@
 -- `pages::lines::put_rule` meets its contract. Assumes nothing.
-use Rattle.pages.proofs.Assembled.{call-piece, firing-piece}
+use native.Mathlib.Omega.{arith}
+use Rattle.pages.proofs.Assembled.{call-room, call-piece, firing-piece}
 use borrow.Author.Needs.{needs}
 use Rattle.pages.proofs.lines.put_rule.Statement.{statement}
 use Rattle.pages.proofs.lines.put_rule.Tie as tie
 
+sub-gap : tie.Need-sub-gap
+sub-gap c =
+    let c3 = c .before .before .before in
+    let s = c3 .before .before .before .before in
+    omega (arith, call-room (s .args .rule) (c3 .before .before .if1 .taken) (s .pre .1) (c3 .put-word .ensures) .place)
+
 returns : tie.Need-returns
 returns c =
     let c2 = c .before .before in
-    let c6 = c2 .before .before .before .before in
-    let s = c6 .before .before .before .before in
-    call-piece (s .args .rule) (c6 .before .before .if1 .taken) (s .pre .1) (c6 .put-word .ensures) (c2 .put-spaces .ensures)
+    let c7 = c2 .before .before .before .before .before in
+    let s = c7 .before .before .before .before in
+    call-piece (s .args .rule) (c7 .before .before .if1 .taken) (s .pre .1) (c7 .put-word .ensures) (c2 .before .gap .ensures) (c2 .put-spaces .ensures)
 
 returns-2 : tie.Need-returns-2
 returns-2 c =
@@ -21,6 +28,8 @@ pub put-rule-spec : {M : Type 1} → statement M
 put-rule-spec =
     tie.close
     (tie.spec
+    (λ c κs. search needs)
+    sub-gap
     (λ c κs. search needs)
     (λ c κs. search needs)
     (λ c. search needs)
