@@ -217,13 +217,14 @@ fn hold_streams() {
     }
 }
 
-// Makes or empties OUT.
+// Makes or empties OUT; what is said where it can't be written does not go into it.
 fn open_pages(output: Output) -> Output {
     let mut name = [0u8; Asked::ARGUMENT_BYTES + 1];
     let n = get_argument(output.argument, &mut name);
     hold_streams();
     let file = os::open_overwrite(tokens::between(&name, 0, n));
     if file <= STDERR_FILENO {
+        libc::close(file);
         return fail_pages(output);
     }
     let mut next = output;
