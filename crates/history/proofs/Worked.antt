@@ -1,4 +1,4 @@
--- Document 01's starred cases come out as they must. Assumes nothing.
+-- The starred cases come out as they must. Assumes nothing.
 use mathlib.Core.Path.{_≡_, refl, sym, ap, subst, _∙_}
 use mathlib.Core.Bool.{Bool, true, _&&_}
 use mathlib.Core.List.{List, [], _∷_}

@@ -1,4 +1,4 @@
--- Document 01's starred cases: an expression, a move, or a step, with what it must give.
+-- Document 01's starred cases, one as document 02, F-2, changes it: an expression, a move, or a step, with what it must give.
 use Prim.Native.Nat.{ℕ}
 use mathlib.Core.List.{List, [], _∷_}
 use lib.ListN.{take}
@@ -146,7 +146,7 @@ abbrev pub cases : List Case
 cases =
     -- 10 / 3 is 3
     worksOut (apply Over (constant 10) (constant 3))
-    -- (0 - 7) / 2 is -3
+    -- (0 - 7) / 2 is -4, by document 02, F-2
     ∷ worksOut (apply Over (minus 7) (constant 2))
     -- least integer / -1: 32
     ∷ worksOut (apply Over least (minus 1))
@@ -175,7 +175,7 @@ cases =
 abbrev pub expected : List Result
 expected =
     gives (answer.Is (Integer (pos 3)))
-    ∷ gives (answer.Is (Integer (negsuc 2)))
+    ∷ gives (answer.Is (Integer (negsuc 3)))
     ∷ gives (answer.Refused 32)
     ∷ leaves (0 ∷ 7 ∷ []) 0
     ∷ leaves (7 ∷ 0 ∷ []) 35

@@ -1,16 +1,18 @@
--- Whole numbers for `omega`, which reads ℕ alone: z is  up z - down z,  one of which is 0. Each law states a fact of ℤ as a linear one of these two.
---     lt-true, lt-false                        a test's flag
+-- Integers for `omega`, which reads ℕ alone: z is  up z - down z,  one of which is 0. Each law states a fact of ℤ as a linear one of these two.
+--     lt-true, lt-false, le-true, le-false     a test's flag
+--     le-of, gt-of                             and back
+--     both-above, above-below, below-above     a test of two signs
 --     sum, diff                                the sum and the difference
 --     fits-of, fits-up, fits-down              the range of 64 bits, both ways
 -- Assumes nothing.
 use mathlib.Core.Path.{_≡_, refl, sym, ap, subst}
-use mathlib.Core.Bool.{Bool, true, false, cond}
+use mathlib.Core.Bool.{Bool, true, false, cond, Bool·beq}
 use Prim.Native.Nat.{ℕ, zero, suc, _+_, _-_, _^_, _<_, _≤_}
 use native.Mathlib.Omega.{arith}
-use lib.Dec.{ltb, eqb}
+use lib.Dec.{ltb, eqb, leb·suc-zero}
 use lib.IntN.{ℤ, pos, negsuc, negℤ, natAbs, subℕ, _+ℤ_, _-ℤ_}
-use lib.Signed.{ltZ}
-use borrow.Author.Tests.{ltb-true, ltb-false, eqb-true, eqb-false, eq-eqb, ne-eqb}
+use lib.Signed.{ltZ, leZ}
+use borrow.Author.Tests.{ltb-true, ltb-false, leb-true, leb-false, eqb-true, eqb-false, le-leb, lt-leb, eq-eqb, ne-eqb}
 use mir.Syntax.{w64}
 use mir.Val.{SFits, toZ, ofZ}
 use mir.ValLaws.{toZ-ofZ}
@@ -44,6 +46,44 @@ lt-false (pos a) (pos b) e = omega (arith, ltb-false a b e)
 lt-false (pos a) (negsuc b) e = omega arith
 lt-false (negsuc a) (pos b) e = true-false e
 lt-false (negsuc a) (negsuc b) e = omega (arith, ltb-false b a e)
+
+pub le-true : (a b : ℤ) → leZ a b ≡ true → up a + down b ≤ up b + down a
+le-true (pos a) (pos b) e = omega (arith, leb-true a b e)
+le-true (pos a) (negsuc b) e = true-false (sym e)
+le-true (negsuc a) (pos b) e = omega arith
+le-true (negsuc a) (negsuc b) e = omega (arith, leb-true b a e)
+
+pub le-false : (a b : ℤ) → leZ a b ≡ false → up b + down a < up a + down b
+le-false (pos a) (pos b) e = omega (arith, leb-false a b e)
+le-false (pos a) (negsuc b) e = omega arith
+le-false (negsuc a) (pos b) e = true-false e
+le-false (negsuc a) (negsuc b) e = omega (arith, leb-false b a e)
+
+pub le-of : (a b : ℤ) → up a + down b ≤ up b + down a → leZ a b ≡ true
+le-of (pos a) (pos b) h = le-leb a b (omega arith)
+le-of (pos a) (negsuc b) h = absurd (omega arith)
+le-of (negsuc a) (pos b) h = refl
+le-of (negsuc a) (negsuc b) h = le-leb b a (omega arith)
+
+pub gt-of : (a b : ℤ) → up b + down a < up a + down b → leZ a b ≡ false
+gt-of (pos a) (pos b) h = lt-leb a b (omega arith)
+gt-of (pos a) (negsuc b) h = refl
+gt-of (negsuc a) (pos b) h = absurd (omega arith)
+gt-of (negsuc a) (negsuc b) h = lt-leb b a (omega arith)
+
+-- ---- signs
+-- whether two numbers have the same sign, as code tests it: 0 goes with those above
+abbrev pub alike : ℤ → ℤ → Bool
+alike a b = Bool·beq (ltZ a (pos 0)) (ltZ b (pos 0))
+
+pub both-above : (a b : ℕ) → alike (pos a) (pos b) ≡ true
+both-above a b = rw (leb·suc-zero a, leb·suc-zero b)
+
+pub above-below : (a b : ℕ) → alike (pos a) (negsuc b) ≡ false
+above-below a b = rw (leb·suc-zero a)
+
+pub below-above : (a b : ℕ) → alike (negsuc a) (pos b) ≡ false
+below-above a b = rw (leb·suc-zero b)
 
 -- ---- sums
 -- z is p - n

@@ -1,8 +1,8 @@
--- Arithmetic and comparisons on values: the whole number where it is within 64 bits, else the question that refuses it.
-use Prim.Native.Nat.{ℕ, _^_}
+-- Arithmetic and comparisons on values: the integer where it is within 64 bits, else the question that refuses it.
+use Prim.Native.Nat.{ℕ, suc, _/_, _^_}
 use mathlib.Core.Bool.{Bool, false, not}
-use lib.IntN.{ℤ, pos, negsuc, _+ℤ_, _-ℤ_, _*ℤ_}
-use lib.Signed.{mag, quotZ, ltZ, leZ}
+use lib.IntN.{ℤ, pos, negsuc, negℤ, _+ℤ_, _-ℤ_, _*ℤ_}
+use lib.Signed.{mag, ltZ, leZ}
 use lib.Dec.{ltb, eqb}
 use Rattle.laws.specs.Choice.{pick}
 use Rattle.numbers.specs.declared.Value.{Value}
@@ -30,11 +30,17 @@ eqZ (pos a) (negsuc b) = false
 eqZ (negsuc a) (pos b) = false
 eqZ (negsuc a) (negsuc b) = eqb a b
 
--- the quotient that `/` gives: rounded towards zero
-abbrev pub quotient : ℤ → ℤ → ℤ
-quotient a b = quotZ a b
+-- divided by d, above 0, and rounded down: -(n + 1) gives -(n / d + 1), so -7 by 2 is -(6 / 2 + 1) = -4
+abbrev pub roundedDown : ℤ → ℕ → ℤ
+roundedDown (pos n) d = pos (n / d)
+roundedDown (negsuc n) d = negsuc (n / d)
 
--- question 33, then the quotient
+-- what `/` gives (document 02, F-2): the greatest integer not above a / b, as Floor.antt says by products; a / -(b + 1) is -a / (b + 1), and 33 refuses b = 0
+abbrev pub quotient : ℤ → ℤ → ℤ
+quotient a (pos b) = roundedDown a b
+quotient a (negsuc b) = roundedDown (negℤ a) (suc b)
+
+-- question 33, then 32 of the quotient
 unfoldable pub divided : ℤ → ℤ → Answer
 divided a b = pick (eqZ b (pos 0)) (answer.Refused 33) (inRange (quotient a b))
 

@@ -1,4 +1,4 @@
-// Values, and the checked arithmetic and comparisons on them. Each result is that of a definition over the whole numbers.
+// Values, and the checked arithmetic and comparisons on them. Each result is that of a definition over all integers.
 ghost use mathlib.Core.Path.{_≡_};
 ghost use lib.IntN.{pos, natAbs, negℤ, _+ℤ_, _-ℤ_, _*ℤ_};
 ghost use Rattle.numbers.specs.Numbers.{inRange, divided, applied, integers, strings, compared};
@@ -128,7 +128,7 @@ fn mul(a: i64, b: i64) -> Answer
     negative(m * n)
 }
 
-// Only the least integer by -1 leaves the range.
+// Rounded down. Only the least integer by -1 leaves the range.
 fn div(a: i64, b: i64) -> Answer
     ensures { λ r. ⌜ r ≡ divided a b ⌝ }
 {
@@ -138,7 +138,16 @@ fn div(a: i64, b: i64) -> Answer
     if b == -1 {
         return sub(0, a);
     }
-    Answer::Is(Value::Integer(a / b))
+    // rounded towards zero, which is down where the signs are alike
+    let q = a / b;
+    let alike = (a < 0) == (b < 0);
+    if alike {
+        return Answer::Is(Value::Integer(q));
+    }
+    if a % b == 0 {
+        return Answer::Is(Value::Integer(q));
+    }
+    Answer::Is(Value::Integer(q - 1))
 }
 
 // An operator on two values.

@@ -1,20 +1,18 @@
 -- `numbers::mul` meets its contract: the product's magnitude is the product of the magnitudes, and its sign is told by theirs. Assumes nothing.
 use borrow.Author.Needs.{needs}
 use mathlib.Core.Path.{_≡_, refl, sym, ap, _∙_}
-use mathlib.Core.Bool.{Bool, true, false, Bool·beq}
+use mathlib.Core.Bool.{Bool, true, false}
 use Prim.Native.Nat.{ℕ, _*_, _/_, _^_, _<_, _≤_}
 use native.Mathlib.Nat.{pos-of-ne-zero, mul-comm, div-lt-iff-lt-mul, le-div-iff-mul-le}
 use native.Mathlib.Omega.{arith}
-use lib.Dec.{leb·suc-zero}
 use lib.IntN.{ℤ, pos, negsuc, natAbs, negℤ, _*ℤ_, zero-*ℤ}
-use lib.Signed.{ltZ}
 use mir.Syntax.{w64}
 use mir.Val.{Fits, SFits, toZ, ofZ}
 use mir.Facts.{toZ-ofZ}
 use Rattle.numbers.specs.Numbers.{inRange}
 use Rattle.numbers.specs.declared.Value.the-variants.{Integer}
 use Rattle.numbers.specs.declared.Answer.the-variants.{Is, Refused}
-use Rattle.numbers.proofs.Whole.{abs, same-of, back}
+use Rattle.numbers.proofs.Whole.{alike, both-above, above-below, below-above, abs, same-of, back}
 use Rattle.numbers.proofs.Range.{above, zero-in, neg-below}
 use Rattle.numbers.proofs.mul.Statement.{statement}
 use Rattle.numbers.proofs.mul.Tie as tie
@@ -24,14 +22,10 @@ abbrev signed : Bool → ℕ → ℤ
 signed true m = pos m
 signed false m = negℤ (pos m)
 
--- whether the signs of two numbers are the same, as the code tests it
-abbrev alike : ℤ → ℤ → Bool
-alike x y = Bool·beq (ltZ x (pos 0)) (ltZ y (pos 0))
-
 product : (x y : ℤ) → signed (alike x y) (natAbs x * natAbs y) ≡ x *ℤ y
-product (pos a) (pos b) = rw (leb·suc-zero a, leb·suc-zero b)
-product (pos a) (negsuc b) = rw (leb·suc-zero a)
-product (negsuc a) (pos b) = rw (leb·suc-zero b)
+product (pos a) (pos b) = rw (both-above a b)
+product (pos a) (negsuc b) = rw (above-below a b)
+product (negsuc a) (pos b) = rw (below-above a b)
 product (negsuc a) (negsuc b) = refl
 
 large : (t : Bool) (p : ℕ) → 2 ^ 63 < p → Refused 32 ≡ inRange (signed t p)
