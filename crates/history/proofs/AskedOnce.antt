@@ -88,7 +88,7 @@ module _ (w : List ℕ) (p : passes w ≡ true) where
   module _ {s : State} (g : Good c s) where
     heard-same : (x : Said) → heardOn w s x ≡ heard c s x
     unfolding answerTo repeated
-    heard-same (asks q) = answered-by w p g (record { request = q; slice = noLabels }) (omega arith)
+    heard-same (asks q) = answered-by w p s (good-ok g) (record { request = q; slice = noLabels }) (omega arith)
     heard-same (unread n) = refl
 
     pub heard-good : (x : Said) → SaidIn x → Good c (heard c s x .state)

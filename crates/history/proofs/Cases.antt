@@ -3,14 +3,14 @@
 use mathlib.Core.Path.{_≡_, refl, sym, ap, _∙_}
 use mathlib.Core.Bool.{true, false}
 use mathlib.Core.List.{List, [], _∷_, _++_}
-use Prim.Native.Nat.{ℕ, suc, _+_, _<_, _≤_}
+use Prim.Native.Nat.{ℕ, suc, _+_, _-_, _<_, _≤_}
 use native.Mathlib.Omega.{arith}
 use native.Mathlib.Numerals.{add-one}
 use native.Mathlib.Nat.{add-zero}
 use lib.ListN.{length, getD, drop, length-drop}
 use lib.Seq.{getD-drop, drop-drop}
 use lib.Dec.{eqb}
-use lib.IntN.{pos}
+use lib.IntN.{ℤ, pos, natAbs}
 use lib.Signed.{leZ}
 use borrow.Author.Tests.{ltb-true, leb-true, eqb-true, eqb-false}
 use Rattle.laws.proofs.Choice.{by-cases, pick-true, pick-false}
@@ -26,7 +26,7 @@ use Rattle.state.specs.declared.State.{State}
 use Rattle.state.specs.declared.Pending.{Pending}
 use Rattle.state.specs.declared.Due.{Due}
 use Rattle.state.specs.declared.Due.the-variants as due
-use Rattle.state.specs.States.{blank, noFunction, eventOf, live, stateOk, dueIn, removed, maxPending, opened, timePassed}
+use Rattle.state.specs.States.{blank, noFunction, eventOf, live, stateOk, dueIn, removed, maxPending, opened, timePassed, passedTimes, timesUntilDue}
 use Rattle.statements.specs.declared.Work.{Work}
 use Rattle.statements.specs.Running.{memoryIn, ran}
 use Rattle.outcomes.specs.declared.Rule.the-variants.{Agree, Call, EventMatch, Tick}
@@ -34,7 +34,7 @@ use Rattle.outcomes.specs.declared.Outcome.the-variants.{Accepted, Failed, Refu
 use Rattle.outcomes.specs.declared.Stepped.{Stepped}
 use Rattle.outcomes.specs.Outcomes.{answered, refused}
 use Rattle.holdings.specs.Holdings.{amounts}
-use Rattle.machine.specs.Steps.{accepted, begun, ended, Invocation, Chosen, chosen, answersTo, choose, preconditionHolds, Scheduled, times, no, schedule, withScheduled, finished, byPrecondition, invoked, byChosen, callByDue, called, handled, fireByDue, fired, tickByDue, ticked, step, Request, agreement, call, firing, tick, requested, roomNeeded}
+use Rattle.machine.specs.Steps.{accepted, begun, ended, Invocation, Chosen, chosen, answersTo, choose, preconditionHolds, Scheduled, times, no, schedule, withScheduled, finished, byPrecondition, invoked, byChosen, callByDue, called, handled, fireByDue, fired, tickByDue, ticked, jumpByDue, jumped, step, Request, agreement, call, firing, tick, jump, requested, roomNeeded}
 use Rattle.agreements.specs.Agreement.{Part, setClauses, agreedOn}
 use Rattle.history.specs.Histories.{Step, answerTo}
 
@@ -74,6 +74,8 @@ pub data ComesOut (c : Contract) (s : State) : Request → Stepped → Type 0 wh
   fails : (k : ℕ) → s .agreed ≡ true → dueIn c s ≡ due.At k → (handlerRan c s k .refusal ≡ 0 → ⊥)
       → ComesOut c s firing (answered (Failed (handlerRan c s k .refusal)) (removed s k))
   ticks : s .agreed ≡ true → dueIn c s ≡ due.Nothing → s .clock < top → ComesOut c s tick (answered (Accepted Tick) (timePassed s))
+  jumps : (T : ℤ) → s .agreed ≡ true → dueIn c s ≡ due.Nothing → leZ (pos (s .clock)) T ≡ true
+      → ComesOut c s (jump T) (answered (Accepted Tick) (passedTimes (timesUntilDue c (natAbs T - s .clock) s) s))
 
 -- ---- what is left of a list from n on
 
@@ -187,6 +189,14 @@ tick-came c s = by-cases (ComesOut c s tick) _ _ _ (λ e. go e (dueIn c s) refl)
     go e (due.At k) d = refusal 25
     go e due.Nothing d = by-cases (ComesOut c s tick) _ _ _ (λ l. ticks e d (ltb-true (s .clock) top l)) (λ _. refusal 40)
 
+pub jump-came : (c : Contract) (s : State) (T : ℤ) → ComesOut c s (jump T) (jumped c s T)
+unfolding jumped
+jump-came c s T = by-cases (ComesOut c s (jump T)) _ _ _ (λ e. go e (dueIn c s) refl) (λ _. refusal 22)
+  where
+    go : s .agreed ≡ true → (d : Due) → dueIn c s ≡ d → ComesOut c s (jump T) (jumpByDue c s T d)
+    go e (due.At k) d = refusal 25
+    go e due.Nothing d = by-cases (ComesOut c s (jump T)) _ _ _ (λ l. jumps T e d l) (λ _. refusal 62)
+
 -- ---- any step
 
 pub request-came : (c : Contract) (s : State) (q : Request) → ComesOut c s q (requested s q c)
@@ -194,6 +204,7 @@ request-came c s (agreement ps) = agreement-came c s ps
 request-came c s (call i) = call-came c s i
 request-came c s firing = firing-came c s
 request-came c s tick = tick-came c s
+request-came c s (jump T) = jump-came c s T
 
 -- on a table: refused, or the table, the state and the label slice were found right
 pub data Answers (w : List ℕ) (s : State) (a : Step) : Stepped → Type 0 where

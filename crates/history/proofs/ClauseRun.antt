@@ -18,9 +18,9 @@ use Rattle.state.proofs.Dues.{due-found}
 use Rattle.state.proofs.Each.{each-getD}
 use Rattle.state.proofs.Within.{within, live-ok}
 use Rattle.outcomes.specs.declared.Stepped.{Stepped}
-use Rattle.machine.specs.Steps.{Chosen, Request, agreement, call, firing, tick, Runs, function, event, neither, clauseChosen, clauseDue, clauseRun}
+use Rattle.machine.specs.Steps.{Chosen, Request, agreement, call, firing, tick, jump, Runs, function, event, neither, clauseChosen, clauseDue, clauseRun}
 use Rattle.history.specs.Histories.{Step, answerTo, isRefused}
-use Rattle.history.proofs.Cases.{ComesOut, refusal, agrees, calls, fires, fails, ticks, Answers, first-refusal, by-rule, answered-so}
+use Rattle.history.proofs.Cases.{ComesOut, refusal, agrees, calls, fires, fails, ticks, jumps, Answers, first-refusal, by-rule, answered-so}
 
 -- a function of the contract, or an event of one
 abbrev pub ClauseOf : Contract → Runs → Type 0
@@ -28,12 +28,13 @@ ClauseOf c (function n) = n < length (c .functions)
 ClauseOf c (event n j) = (n < length (c .functions)) × (j < length (getD (c .functions) n noFunction .events))
 ClauseOf c neither = ⊥
 
--- a call and a firing run a clause, an agreement and a tick none
+-- a call and a firing run a clause, an agreement, a tick and a jump none
 abbrev pub RunsAsAsked : Contract → Request → Runs → Type 0
 RunsAsAsked c (agreement ps) r = r ≡ neither
 RunsAsAsked c (call i) r = ClauseOf c r
 RunsAsAsked c firing r = ClauseOf c r
 RunsAsAsked c tick r = r ≡ neither
+RunsAsAsked c (jump T) r = r ≡ neither
 
 -- a pending event that is due, in a state within question 4
 due-clause : (c : Contract) (s : State) (k : ℕ) → stateOk c s ≡ true → dueIn c s ≡ due.At k → ClauseOf c (clauseDue s (dueIn c s))
@@ -53,6 +54,7 @@ came-clause c s o (calls i n f ps k) e = subst (λ (z : Chosen). ClauseOf c (cla
 came-clause c s o (fires k a d h) e = due-clause c s k o d
 came-clause c s o (fails k a d h) e = due-clause c s k o d
 came-clause c s o (ticks a d l) e = refl
+came-clause c s o (jumps T a d l) e = refl
 
 answer-clause : {w : List ℕ} {s : State} {a : Step} {r : Stepped} → Answers w s a r → isRefused (r .outcome) ≡ false → RunsAsAsked (contractOf w) (a .request) (clauseRun (contractOf w) s (a .request))
 answer-clause (first-refusal n) e = true-false e

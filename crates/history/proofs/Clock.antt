@@ -6,7 +6,7 @@ use mathlib.Core.List.{List, [], _∷_}
 use Prim.Native.Nat.{ℕ, zero, suc, _<_, _≤_}
 use native.Mathlib.Omega.{arith}
 use lib.ListN.{length}
-use lib.Dec.{leb, ltb}
+use lib.Dec.{ltb}
 use borrow.Author.Tests.{lt-ltb, ltb-true, ltb-false, le-leb, leb-true}
 use Rattle.laws.specs.Choice.{pick}
 use Rattle.laws.proofs.Choice.{by-cases, pick-true, pick-false, true-false}
@@ -21,7 +21,7 @@ use Rattle.contract_laws.proofs.Sound.{sound}
 use Rattle.state.specs.declared.State.{State}
 use Rattle.state.specs.declared.Due.{Due}
 use Rattle.state.specs.declared.Due.the-variants as due
-use Rattle.state.specs.States.{freshAt, live, dueIn, withPending, removed, lapsed, timePassed}
+use Rattle.state.specs.States.{freshAt, live, stateOk, dueIn, withPending, removed, lapsed, timePassed}
 use Rattle.state.proofs.Dues.{due-found}
 use Rattle.state.proofs.Each.{without-count}
 use Rattle.state.proofs.Within as state
@@ -33,7 +33,7 @@ use Rattle.outcomes.specs.declared.Stepped.{Stepped}
 use Rattle.outcomes.specs.Outcomes.{answered}
 use Rattle.machine.specs.Steps.{handled, fireByDue, fired, tickByDue, ticked, step, firing, tick, requested, roomNeeded}
 use Rattle.history.specs.Histories.{Step, answerTo, history, isRefused, firings, noneRefused, within64}
-use Rattle.history.specs.Demand.{Cleared, GoesOn}
+use Rattle.history.specs.Demand.{roomy, allRoomy, Cleared, GoesOn}
 use Rattle.history.proofs.GoodState.{Good, good-ok, fresh-good, live-length}
 use Rattle.history.proofs.StepsKeepGood.{request-good, last-good}
 
@@ -56,11 +56,11 @@ module _ {c : Contract} {s : State} (g : Good c s) (a : s .agreed ≡ true) wher
       (λ _. record { not-refused = refl; agreed = a; clock = refl; one-less = removed-count s k h ∙ n })
       (λ _. record { not-refused = refl; agreed = a; clock = refl; one-less = without-count k (live s) h ∙ n }))
 
-  ticked-so : dueIn c s ≡ due.Nothing → s .clock < top → ticked c s ≡ answered (Accepted Tick) (timePassed s)
-  unfolding ticked
-  ticked-so d l = pick-true _ _ _ a ∙ ap (tickByDue s) d ∙ pick-true _ _ _ (lt-ltb (s .clock) top l)
+pub ticked-so : (c : Contract) (s : State) → s .agreed ≡ true → dueIn c s ≡ due.Nothing → s .clock < top → ticked c s ≡ answered (Accepted Tick) (timePassed s)
+unfolding ticked
+ticked-so c s a d l = pick-true _ _ _ a ∙ ap (tickByDue s) d ∙ pick-true _ _ _ (lt-ltb (s .clock) top l)
 
-by-due : {X : Type 0} (c : Contract) (s : State) → ((k : ℕ) → dueIn c s ≡ due.At k → X) → (dueIn c s ≡ due.Nothing → X) → X
+pub by-due : {X : Type 0} (c : Contract) (s : State) → ((k : ℕ) → dueIn c s ≡ due.At k → X) → (dueIn c s ≡ due.Nothing → X) → X
 by-due {X} c s f g = go (dueIn c s) refl
   where
     go : (d : Due) → dueIn c s ≡ d → X
@@ -70,13 +70,10 @@ by-due {X} c s f g = go (dueIn c s) refl
 -- ---- all that are due
 
 module _ (w : List ℕ) (p : passes w ≡ true) where
-  abbrev roomy : List Label → Bool
-  roomy l = leb (roomNeeded (contractOf w)) (length l)
-
   -- questions 3, 4 and 20 are passed
-  pub answered-by : {s : State} → Good (contractOf w) s → (a : Step) → roomNeeded (contractOf w) ≤ length (a .slice) → answerTo w s a ≡ requested s (a .request) (contractOf w)
+  pub answered-by : (s : State) → stateOk (contractOf w) s ≡ true → (a : Step) → roomNeeded (contractOf w) ≤ length (a .slice) → answerTo w s a ≡ requested s (a .request) (contractOf w)
   unfolding answerTo step
-  answered-by g a h = pick-true _ _ _ p ∙ pick-true _ _ _ (good-ok g) ∙ pick-true _ _ _ (le-leb (roomNeeded (contractOf w)) (length (a .slice)) h)
+  answered-by s o a h = pick-true _ _ _ p ∙ pick-true _ _ _ o ∙ pick-true _ _ _ (le-leb (roomNeeded (contractOf w)) (length (a .slice)) h)
 
   module _ {s : State} (g : Good (contractOf w) s) (a : s .agreed ≡ true) where
     none-fired : dueIn (contractOf w) s ≡ due.Nothing → s .clock < top → (ls : List (List Label)) → length ls ≡ 0 → Cleared w s ls
@@ -90,19 +87,19 @@ module _ (w : List ℕ) (p : passes w ≡ true) where
         }
       where
         tick-is : (k : List Label) → roomNeeded (contractOf w) ≤ length k → answerTo w s (record { request = tick; slice = k }) ≡ answered (Accepted Tick) (timePassed s)
-        tick-is k h = answered-by g (record { request = tick; slice = k }) h ∙ ticked-so g a d l
+        tick-is k h = answered-by s (good-ok g) (record { request = tick; slice = k }) h ∙ ticked-so (contractOf w) s a d l
     none-fired d l (k ∷ ls) e = absurd (omega arith)
 
     one-fired : (k : ℕ) → dueIn (contractOf w) s ≡ due.At k → (m : ℕ)
-        → ((ls : List (List Label)) → length ls ≡ m → every roomy ls ≡ true → Cleared w (fired (contractOf w) s .state) ls)
-        → (ls : List (List Label)) → length ls ≡ suc m → every roomy ls ≡ true → Cleared w s ls
+        → ((ls : List (List Label)) → length ls ≡ m → allRoomy w ls ≡ true → Cleared w (fired (contractOf w) s .state) ls)
+        → (ls : List (List Label)) → length ls ≡ suc m → allRoomy w ls ≡ true → Cleared w s ls
     unfolding history firings noneRefused
     one-fired k d m f [] e h = absurd (omega arith)
     one-fired k d m f (l ∷ ls) e h =
         let c = contractOf w in
-        let x : Cleared w (fired c s .state) ls = f ls (omega arith) (every-tail roomy l ls h) in
+        let x : Cleared w (fired c s .state) ls = f ls (omega arith) (every-tail (roomy w) l ls h) in
         let r : answerTo w s (record { request = firing; slice = l }) ≡ fired c s =
-        answered-by g (record { request = firing; slice = l }) (leb-true (roomNeeded c) (length l) (every-head roomy l ls h)) in
+        answered-by s (good-ok g) (record { request = firing; slice = l }) (leb-true (roomNeeded c) (length l) (every-head (roomy w) l ls h)) in
         let q : answerTo w s (record { request = firing; slice = l }) .state ≡ fired c s .state = ap (λ (r : Stepped). r .state) r in
         record {
           none-refused =
@@ -156,14 +153,17 @@ module _ (w : List ℕ) (clock : ℕ) (h : top < clock) where
   unfolding freshAt
   late-unagreed xs = ap (λ (s : State). s .agreed) (late-last xs)
 
--- whatever steps were asked for before, with 64-bit arguments
+-- an agreed state that steps with 64-bit arguments lead to from the fresh one, at whatever clock
+pub agreed-good : (w : List ℕ) → passes w ≡ true → (clock : ℕ) (xs : List Step) → every (λ a. within64 (a .request)) xs ≡ true
+    → history w (freshAt clock) xs .state .agreed ≡ true → Good (contractOf w) (history w (freshAt clock) xs .state)
+agreed-good w p clock xs e a = go (ltb top clock) refl
+  where
+    go : (b : Bool) → ltb top clock ≡ b → Good (contractOf w) (history w (freshAt clock) xs .state)
+    go true q = true-false (sym a ∙ late-unagreed w clock (ltb-true top clock q) xs)
+    go false q = last-good w p (fresh-good (contractOf w) clock (ltb-false top clock q)) xs e
+
 pub clock-goes-on : (w : List ℕ) → passes w ≡ true → (clock : ℕ) (xs : List Step) → every (λ a. within64 (a .request)) xs ≡ true
     → history w (freshAt clock) xs .state .agreed ≡ true → history w (freshAt clock) xs .state .clock < top → GoesOn w (history w (freshAt clock) xs .state)
-clock-goes-on w p clock xs e a l = go (ltb top clock) refl
-  where
-    s : State
-    s = history w (freshAt clock) xs .state
-
-    go : (b : Bool) → ltb top clock ≡ b → GoesOn w s
-    go true q = true-false (sym a ∙ late-unagreed w clock (ltb-true top clock q) xs)
-    go false q = goes-on w p (s .pending) (omega arith) (last-good w p (fresh-good (contractOf w) clock (ltb-false top clock q)) xs e) a l
+clock-goes-on w p clock xs e a l =
+    let s : State = history w (freshAt clock) xs .state in
+    goes-on w p (s .pending) (omega arith) (agreed-good w p clock xs e a) a l

@@ -2,11 +2,11 @@
 use mathlib.Core.Path.{_≡_, refl, sym, ap, subst, _∙_}
 use mathlib.Core.Bool.{Bool, true, false, cond}
 use mathlib.Core.List.{List, [], _∷_, _++_}
-use Prim.Native.Nat.{ℕ, suc, _+_, _≤_, min}
+use Prim.Native.Nat.{ℕ, suc, _+_, _-_, _≤_, min}
 use native.Mathlib.Omega.{arith}
 use lib.ListN.{length, getD, take, drop, length-append, length-take, take-append-drop}
 use lib.Seq.{take-all, take-at, drop-at}
-use lib.IntN.{ℤ, pos, _+ℤ_}
+use lib.IntN.{ℤ, pos, natAbs, _+ℤ_}
 use lib.Signed.{leZ}
 use borrow.Author.Tests.{le-ltb}
 use Rattle.contract.specs.Limits.{maxAssets, maxParameters}
@@ -20,7 +20,8 @@ use Rattle.laws.specs.Lists.{every, repeated}
 use Rattle.contract_laws.proofs.Sound.{sound}
 use Rattle.state.specs.declared.State.{State}
 use Rattle.state.specs.declared.Pending.{Pending}
-use Rattle.state.specs.States.{blank, freshAt, live, withPending, removed, lapsed, eventOf}
+use Rattle.state.specs.States.{blank, freshAt, live, withPending, removed, lapsed, timesUntilDue, eventOf}
+use Rattle.state.proofs.Passing.{passed-assets}
 use Rattle.statements.specs.declared.Label.{Label}
 use Rattle.statements.specs.Running.{maxLabels}
 use Rattle.outcomes.specs.declared.Rule.the-variants.{Call, EventMatch}
@@ -29,7 +30,7 @@ use Rattle.outcomes.specs.declared.Outcome.the-variants.{Accepted, Failed, Refu
 use Rattle.outcomes.specs.declared.Stepped.{Stepped}
 use Rattle.outcomes.specs.Outcomes.{noLabel, noLabels}
 use Rattle.holdings.specs.Holdings.{amounts}
-use Rattle.machine.specs.Steps.{Invocation, accepted, begun, ended, Request, agreement, call, firing, tick}
+use Rattle.machine.specs.Steps.{Invocation, accepted, begun, ended, Request, agreement, call, firing, tick, jump}
 use Rattle.steps.specs.Left.{countOf, copiedOf}
 use Rattle.agreements.specs.Agreement.{Part, setFields, setClause, setClauses}
 use Rattle.history.specs.Histories.{Step, answerTo, returned, deposit, payoutsIn, payoutsOf, History, history, total, valuesOf, weighed, alike, holdings}
@@ -38,7 +39,7 @@ use Rattle.history.proofs.AmountSums.{paidOut, evenly, brought, weighed
 use Rattle.history.proofs.StatementsConserve.{Respects, respects-alike, Worth, ran-worth}
 use Rattle.history.proofs.Parameters.{Parameters, ran-same}
 use Rattle.history.proofs.ContractBounds.{Bounded, BoundedFunction, BoundedEvent, bounded}
-use Rattle.history.proofs.Cases.{bodyRan, eventAt, handlerRan, CallOk, ComesOut, refusal, agrees, calls, fires, fails, ticks, Answers, first-refusal, by-rule, answered-so}
+use Rattle.history.proofs.Cases.{bodyRan, eventAt, handlerRan, CallOk, ComesOut, refusal, agrees, calls, fires, fails, ticks, jumps, Answers, first-refusal, by-rule, answered-so}
 use Rattle.history.proofs.Untouched.{step-idle}
 
 -- ---- the work that statements begin with, and the amounts that they leave
@@ -165,6 +166,7 @@ refused-brings (agreement ps) n = refl
 refused-brings (call i) n = refl
 refused-brings firing n = refl
 refused-brings tick n = refl
+refused-brings (jump T) n = refl
 
 module _ {s : State} (l : length (s .assets) ≡ maxAssets) where
   quiet-counted : (q : Request) (o : Outcome) (t : State) → t .assets ≡ s .assets → deposit q o ≡ [] → Counted q s (record { outcome = o; state = t; labels = noLabels; count = 0 })
@@ -184,6 +186,7 @@ module _ {s : State} (l : length (s .assets) ≡ maxAssets) where
       record { weighs = firing-weighs alike evenly l b k (live (removed s k)) (eventAt c s k .last) (respects-alike (eventAt c s k .handler)); deposits = refl }
   came-counted c b (fails k a d h) = quiet-counted firing _ _ refl refl
   came-counted c b (ticks a d h) = quiet-counted tick _ _ refl refl
+  came-counted c b (jumps T a d h) = quiet-counted (jump T) _ _ (passed-assets (timesUntilDue c (natAbs T - s .clock) s) s) refl
 
   answer-counted : {w : List ℕ} {a : Step} {r : Stepped} → Answers w s a r → Counted (a .request) s r
   answer-counted {a = a} (first-refusal n) = quiet-counted (a .request) (Refused n) s refl (refused-brings (a .request) n)

@@ -14,6 +14,7 @@ pub mod Scheduling
 pub mod Agreeing
 pub mod StepsKeepGood
 pub mod Clock
+pub mod Jumps
 pub mod Demand
 pub mod ClauseRun
 pub mod Worked

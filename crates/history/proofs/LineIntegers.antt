@@ -13,7 +13,7 @@ use Rattle.contract.specs.Check.{ranges}
 use Rattle.laws.proofs.Truths.{both-left, both-right, both-true}
 use Rattle.laws.specs.Lists.{every}
 use Rattle.words.specs.Words.{tick as tickWord}
-use Rattle.lines.specs.Lines.{Field, Part, Lists, Asked, refused, tick, call, agreement, Parsed, done, no, Parser, andThen, otherwise, isNext, mark, end, name, digits, integer, word, items, list, tickLine, names, lists, callLine, verb, field, part, parts, agreementLine, orRefused, asked}
+use Rattle.lines.specs.Lines.{Field, Part, Lists, Asked, refused, tick, jump, call, agreement, Parsed, done, no, Parser, andThen, otherwise, isNext, mark, end, name, digits, integer, word, items, list, closed, jumpEnd, tickLine, names, lists, callLine, verb, field, part, parts, agreementLine, orRefused, asked}
 use Rattle.lines.specs.Answers.{valuesOf}
 use Rattle.results.specs.Lines.{refusal}
 use Rattle.tokens.specs.Tokens.{between}
@@ -54,6 +54,7 @@ partIn p = every within (valuesOf (p .fields))
 abbrev LineIn : Asked → Type 0
 LineIn (refused q) = refusal q ≡ true
 LineIn tick = Unit {0}
+LineIn (jump T) = within T ≡ true
 LineIn (call k) = ListsIn (k .lists)
 LineIn (agreement ps) = every partIn ps ≡ true
 
@@ -105,13 +106,19 @@ module _ (s : List ℕ) where
         reads-after Each (mark s opening at) _ λ u i.
         by-cases (Reads Each) (isNext s closing i) _ _ (λ _. reads-after Each (mark s closing i) _ λ v n. refl) (λ _. items-in (bytes ",") (mark s closing) (length s) i)
 
+  closed-in : (a : Asked) → LineIn a → (at : ℕ) → Reads LineIn (closed s a at)
+  unfolding closed
+  closed-in a h at =
+      reads-after LineIn (mark s (bytes "]") at) _ λ c k.
+      reads-after LineIn (end s k) _ λ d l. h
+
   tick-in : (at : ℕ) → Reads LineIn (tickLine s at)
-  unfolding tickLine
+  unfolding tickLine jumpEnd
   tick-in at =
       reads-after LineIn (mark s (bytes "[") at) _ λ a i.
       reads-after LineIn (word s tickWord i) _ λ b j.
-      reads-after LineIn (mark s (bytes "]") j) _ λ c k.
-      reads-after LineIn (end s k) _ λ d l. tt
+      by-cases (Reads LineIn) (isNext s (bytes "]") j) _ _ (λ _. closed-in tick tt j)
+      (λ _. reads-then Whole LineIn (integer s j) _ (integer-in j) λ z k h. closed-in (jump z) h k)
 
   lists-in : (at : ℕ) → Reads ListsIn (lists s at)
   unfolding lists
@@ -173,6 +180,7 @@ said-by-in : (line : List ℕ) (a : Asked) → LineIn a → SaidIn (saidBy line 
 unfolding within64
 said-by-in line (refused q) h = h
 said-by-in line tick h = refl
+said-by-in line (jump T) h = h
 said-by-in line (call k) h = both-true _ _ (h .0) (h .1)
 said-by-in line (agreement ps) h = parts-in line ps h
 

@@ -1,4 +1,4 @@
--- A refused step has one of document 01's numbers for steps and session lines, a failed firing one of questions 30 to 36. Assumes nothing.
+-- A refused step has one of the documents' numbers for steps and session lines, a failed firing one of questions 30 to 36. Assumes nothing.
 use mathlib.Core.Path.{_≡_, refl}
 use mathlib.Core.Bool.{true}
 use Prim.Native.Nat.{ℕ}

@@ -1,12 +1,12 @@
 -- The result lines of a step from a good state, with 64-bit arguments, pass question 53. Assumes nothing.
-use mathlib.Core.Path.{_≡_, refl}
+use mathlib.Core.Path.{_≡_, refl, _∙_}
 use mathlib.Core.Bool.{true, false, _&&_}
 use mathlib.Core.List.{List, [], _∷_}
-use Prim.Native.Nat.{ℕ, suc, _≤_}
+use Prim.Native.Nat.{ℕ, suc, _-_, _≤_}
 use native.Mathlib.Omega.{arith}
 use lib.ListN.{length, getD, take}
 use lib.Dec.{eqb, leb, ltb}
-use lib.IntN.{pos}
+use lib.IntN.{ℤ, pos, natAbs}
 use lib.Signed.{leZ}
 use borrow.Author.Tests.{lt-ltb, le-leb, leb-true}
 use Rattle.laws.proofs.Choice.{by-cases, true-false}
@@ -31,7 +31,8 @@ use Rattle.evaluation.specs.Meaning.{valueOf}
 use Rattle.state.specs.declared.State.{State}
 use Rattle.state.specs.declared.Due.{Due}
 use Rattle.state.specs.declared.Due.the-variants as due
-use Rattle.state.specs.States.{blank, eventOf, live, dueIn, withPending, lapsed}
+use Rattle.state.specs.States.{blank, eventOf, live, dueIn, withPending, lapsed, timesUntilDue}
+use Rattle.state.proofs.Passing.{passed-agreed}
 use Rattle.statements.specs.declared.Label.{Label}
 use Rattle.statements.specs.declared.Work.{Work}
 use Rattle.statements.specs.Running.{maxLabels, memoryIn}
@@ -42,7 +43,7 @@ use Rattle.outcomes.specs.declared.Outcome.the-variants.{Accepted, Failed}
 use Rattle.outcomes.specs.declared.Stepped.{Stepped}
 use Rattle.outcomes.specs.Outcomes.{noLabel, answered, refused}
 use Rattle.holdings.specs.Holdings.{amounts}
-use Rattle.machine.specs.Steps.{accepted, begun, Invocation, Chosen, chosen, answersTo, choose, preconditionHolds, Scheduled, times, no, scheduled, schedule, withScheduled, finished, byPrecondition, invoked, byChosen, callByDue, called, handled, fireByDue, fired, tickByDue, ticked, step, Request, agreement, call, firing, tick, requested}
+use Rattle.machine.specs.Steps.{accepted, begun, Invocation, Chosen, chosen, answersTo, choose, preconditionHolds, Scheduled, times, no, scheduled, schedule, withScheduled, finished, byPrecondition, invoked, byChosen, callByDue, called, handled, fireByDue, fired, tickByDue, ticked, jumpByDue, jumped, step, Request, agreement, call, firing, tick, jump, requested}
 use Rattle.agreements.specs.Agreement.{Part, agreedOn}
 use Rattle.step_reports.specs.Reports.{ruleNumber, reportOf, labelReport, labelReports, told}
 use Rattle.history.specs.Histories.{Step, answerTo, within64}
@@ -172,6 +173,15 @@ module _ (c : Contract) (e : fits c ≡ true) where
       go a (due.At k) = λ _. refused-fine c s 25 refl
       go a due.Nothing = by-cases (Once c) _ _ _ (λ _ g. answered-fine c Tick _ g a) (λ _ _. refused-fine c s 40 refl)
 
+  jump-fine : (s : State) (T : ℤ) → Once c (jumped c s T)
+  unfolding jumped refusal ranges
+  jump-fine s T = by-cases (Once c) _ _ _ (λ a. go a (dueIn c s)) (λ _ _. refused-fine c s 22 refl)
+    where
+      go : s .agreed ≡ true → (d : Due) → Once c (jumpByDue c s T d)
+      go a (due.At k) = λ _. refused-fine c s 25 refl
+      go a due.Nothing =
+          by-cases (Once c) _ _ _ (λ _ g. answered-fine c Tick _ g (passed-agreed (timesUntilDue c (natAbs T - s .clock) s) s ∙ a)) (λ _ _. refused-fine c s 62 refl)
+
   module _ {s : State} (g : Good c s) where
     handler-fair : s .agreed ≡ true → (k : ℕ) → Fair c (handlerRan c s k)
     unfolding eventOf
@@ -253,6 +263,7 @@ module _ (c : Contract) (e : fits c ≡ true) where
     once-fine (call i) h = call-fine i (both-left (every within (i .values)) (every within (i .assets)) h) (both-right (every within (i .values)) (every within (i .assets)) h)
     once-fine firing h = firing-fine
     once-fine tick h = tick-fine s
+    once-fine (jump T) h = jump-fine s T
 
     pub request-fine : (q : Request) → within64 q ≡ true → Fine c (requested s q c)
     request-fine q h = once-fine q h (request-good c t g q h)

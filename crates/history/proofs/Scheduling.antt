@@ -1,13 +1,13 @@
 -- The events that guards give are the contract's, with times from the clock on. Assumes nothing.
-use mathlib.Core.Path.{_≡_, sym}
+use mathlib.Core.Path.{_≡_, refl, sym}
 use mathlib.Core.Bool.{true}
 use mathlib.Core.List.{List, [], _∷_}
-use Prim.Native.Nat.{ℕ, suc, _+_, _^_, _<_}
+use Prim.Native.Nat.{ℕ, suc, _+_, _^_, _<_, _≤_}
 use native.Mathlib.Omega.{arith}
 use lib.ListN.{length, getD}
 use lib.IntN.{ℤ, pos, negsuc, natAbs}
 use lib.Signed.{leZ}
-use borrow.Author.Tests.{ltb-true, lt-ltb, le-leb}
+use borrow.Author.Tests.{ltb-true, lt-ltb, leb-true, le-leb}
 use Rattle.laws.proofs.Choice.{by-cases, true-false}
 use Rattle.numbers.specs.Numbers.{within}
 use Rattle.numbers.specs.declared.Value.the-variants.{Integer, Text}
@@ -30,6 +30,16 @@ use Rattle.history.proofs.ValuesInRange.{AnswerIn, MemoryIn, value-in}
 abbrev pub ScheduledIn : Contract → ℕ → Scheduled → Type 0
 ScheduledIn c t (times ps) = Each (λ p. pendingOk c t p ≡ true) ps
 ScheduledIn c t (no q) = Unit {0}
+
+-- a 64-bit time that is not before a clock
+pub record TimeIn (clock : ℕ) (z : ℤ) : Type 0 where
+  pub from : clock ≤ natAbs z
+  pub most : natAbs z ≤ top
+  pub is : pos (natAbs z) ≡ z
+
+pub time-in : (clock : ℕ) (z : ℤ) → within z ≡ true → leZ (pos clock) z ≡ true → TimeIn clock z
+time-in clock (pos m) e l = record { from = leb-true clock m l; most = omega (arith, ltb-true m (2 ^ 63) e); is = refl }
+time-in clock (negsuc m) e l = true-false (sym l)
 
 -- event j of function n, at a time not before the clock
 pending-in : (c : Contract) (t n j : ℕ) (z : ℤ) → n < length (c .functions) → j < length (getD (c .functions) n noFunction .events) → within z ≡ true → leZ (pos t) z ≡ true

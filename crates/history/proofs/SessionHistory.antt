@@ -25,7 +25,7 @@ use Rattle.machine.specs.Sessions.{Said, asks, unread, heard, Turn, takes, wait
 use Rattle.history.specs.Histories.{Step, answerTo, Returned, returned, History, history, within64}
 use Rattle.history.specs.Settled.{settled}
 use Rattle.history.specs.Sessions.{Stored, wholeFor, blocks, turnsIn, thenSaid, saidFor, stepsOf, linesOf, toldBy, IsHistory, Window, windows, saidIn, Desk}
-use Rattle.history.proofs.GoodState.{Good, fresh-good}
+use Rattle.history.proofs.GoodState.{Good, good-ok, fresh-good}
 use Rattle.history.proofs.Count.{labels-left}
 use Rattle.history.proofs.Clock.{answered-by}
 use Rattle.history.proofs.Demand.{demand}
@@ -60,7 +60,7 @@ module _ (w : List ℕ) (p : passes w ≡ true) (slice : List Label) (room : roo
 
   module _ {s : State} (g : Good c s) where
     answer-is : (q : Request) → answerTo w s (asked q) ≡ requested s q c
-    answer-is q = answered-by w p g (asked q) room
+    answer-is q = answered-by w p s (good-ok g) (asked q) room
 
     -- the result lines, read off what the caller holds
     lines-are : (q : Request) → linesOf (returned w s (asked q)) ≡ told (requested s q c)

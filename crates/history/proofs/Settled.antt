@@ -44,7 +44,7 @@ use Rattle.history.specs.Histories.{Step, answerTo, Returned, returned, 
 use Rattle.history.specs.Untouched.{byRule}
 use Rattle.history.specs.Settled.{entryBy, entriesBy, settledBy, settled, labelsIn}
 use Rattle.history.specs.Sessions.{stepsOf, linesOf, toldBy}
-use Rattle.history.proofs.Cases.{bodyRan, handlerRan, ComesOut, refusal, agrees, calls, fires, fails, ticks, Answers, first-refusal, by-rule, answered-so}
+use Rattle.history.proofs.Cases.{bodyRan, handlerRan, ComesOut, refusal, agrees, calls, fires, fails, ticks, jumps, Answers, first-refusal, by-rule, answered-so}
 use Rattle.history.proofs.Untouched.{step-idle}
 use Rattle.history.proofs.GoodState.{Good}
 use Rattle.history.proofs.StepsKeepGood.{step-good}
@@ -164,6 +164,7 @@ module _ (c : Contract) where
   came-payable {s} (fires k a d e) f h = labels-payable EventMatch refl _ h (take (handlerRan c s k .count) (handlerRan c s k .labels)) (f .labels)
   came-payable (fails k a d e) f h = refl
   came-payable (ticks a d l) f h = refl
+  came-payable (jumps T a d l) f h = refl
 
 answer-payable : {w : List ℕ} {s : State} {a : Step} {r : Stepped} → Answers w s a r → Fine (contractOf w) r → r .state .clock ≤ top
     → every (isPayout (contractOf w)) (entriesBy (r .outcome) (r .state .clock) (paidBy r)) ≡ true
@@ -201,6 +202,7 @@ came-left c (calls i n g ps o) h = refl
 came-left c (fires k a d e) h = refl
 came-left c (fails k a d e) h = true-false (sym h)
 came-left c (ticks a d l) h = true-false (sym h)
+came-left c (jumps T a d l) h = true-false (sym h)
 
 answer-left : {w : List ℕ} {s : State} {a : Step} {r : Stepped} → Answers w s a r → sendsIn (r .outcome) ≡ true → r .state .clock ≡ s .clock
 answer-left (first-refusal n) h = refl

@@ -2,11 +2,12 @@
 use mathlib.Core.Path.{_≡_, refl, sym, ap, subst, _∙_}
 use mathlib.Core.Bool.{true, false, not}
 use mathlib.Core.List.{List, [], _∷_, _++_}
-use Prim.Native.Nat.{ℕ, suc, _<_, _≤_}
+use Prim.Native.Nat.{ℕ, zero, suc, _+_, _-_, _<_, _≤_}
 use native.Mathlib.Omega.{arith}
 use native.Mathlib.Nat.{zero-add}
 use lib.ListN.{length, getD, length-append}
 use lib.Dec.{eqb}
+use lib.IntN.{natAbs}
 use borrow.Author.Tests.{lt-ltb}
 use Rattle.laws.proofs.Choice.{by-cases, pick-true, pick-false}
 use Rattle.numbers.specs.Numbers.{within}
@@ -22,9 +23,10 @@ use Rattle.contract.proofs.Fitting.{FitsFunction, FitsContract, fits-event, fit
 use Rattle.contract_laws.proofs.Sound.{sound}
 use Rattle.state.specs.declared.State.{State}
 use Rattle.state.specs.declared.Pending.{Pending}
-use Rattle.state.specs.States.{maxPending, blank, freshAt, noFunction, noEvent, used, eventOf, live, stateOk, pendingOk, withPending, lapsed, removed, opened, later, timePassed}
+use Rattle.state.specs.States.{maxPending, blank, freshAt, noFunction, noEvent, used, eventOf, live, stateOk, pendingOk, withPending, lapsed, removed, opened, later, timePassed, passedTimes, timesUntilDue}
 use Rattle.state.proofs.Each.{Each, each-append, each-take, each-drop, without-length}
 use Rattle.state.proofs.Kept.{without}
+use Rattle.state.proofs.Passing.{first-stop}
 use Rattle.state.proofs.Within.{live-ok, lapsed-later, live-lapsed, live-removed}
 use Rattle.statements.specs.Running.{memoryIn}
 use Rattle.outcomes.specs.declared.Stepped.{Stepped}
@@ -32,13 +34,13 @@ use Rattle.holdings.specs.Holdings.{amounts}
 use Rattle.machine.specs.Steps.{Invocation, ended, step, Request, requested}
 use Rattle.agreements.specs.Agreement.{Part, setClauses}
 use Rattle.history.specs.Histories.{Step, answerTo, history, within64}
-use Rattle.history.proofs.Cases.{bodyRan, eventAt, handlerRan, CallOk, ComesOut, refusal, agrees, calls, fires, fails, ticks, request-came}
+use Rattle.history.proofs.Cases.{bodyRan, eventAt, handlerRan, CallOk, ComesOut, refusal, agrees, calls, fires, fails, ticks, jumps, request-came}
 use Rattle.history.proofs.ContractBounds.{anywhere}
 use Rattle.history.proofs.ValuesInRange.{Fields}
 use Rattle.history.proofs.Ranges.{Right, memory-in, ran-right}
 use Rattle.history.proofs.GoodState.{Assets, Good, good-within, good-ok, fresh-good, live-length, agreed-name, with-events}
 use Rattle.history.proofs.GoodWork.{values-in, amounts-most, begun-right, ended-good}
-use Rattle.history.proofs.Scheduling.{ScheduledIn, schedule-in}
+use Rattle.history.proofs.Scheduling.{time-in, ScheduledIn, schedule-in}
 use Rattle.history.proofs.Agreeing.{Filled, filled-so, set-clauses-filled, no-texts, more-fields, more-assets}
 
 -- ---- each step
@@ -146,15 +148,25 @@ module _ (c : Contract) (t : FitsContract c) where
                 (subst (Each (λ p. pendingOk c (suc (s .clock)) p ≡ true)) (live-lapsed s) (lapsed-later c s (good-ok g)));
           }
 
+  passed-good : (n : ℕ) {s : State} → Good c s → s .agreed ≡ true → s .clock + n ≤ top → Good c (passedTimes n s)
+  unfolding passedTimes lapsed withPending
+  passed-good zero g a h = g
+  passed-good (suc n) g a h = passed-good n (tick-good g a (omega arith)) a (omega arith)
+
+  module _ {s : State} (g : Good c s) where
     came-good : {q : Request} {r : Stepped} → within64 q ≡ true → ComesOut c s q r → Good c (r .state)
     unfolding within64
     came-good e (refusal n) = g
-    came-good e (agrees ps a) = agreement-good ps a e
+    came-good e (agrees ps a) = agreement-good g ps a e
     came-good e (calls i n f ps o) =
-        call-good (o .agreed) i n f ps o (both-left (every within (i .values)) (every within (i .assets)) e) (both-right (every within (i .values)) (every within (i .assets)) e)
-    came-good e (fires k a d h) = firing-good a k
-    came-good e (fails k a d h) = removed-good a k
-    came-good e (ticks a d l) = tick-good a l
+        call-good g (o .agreed) i n f ps o (both-left (every within (i .values)) (every within (i .assets)) e) (both-right (every within (i .values)) (every within (i .assets)) e)
+    came-good e (fires k a d h) = firing-good g a k
+    came-good e (fails k a d h) = removed-good g a k
+    came-good e (ticks a d l) = tick-good g a l
+    came-good e (jumps T a d l) =
+        let r = time-in (s .clock) T e l in
+        let m = natAbs T - s .clock in
+        passed-good (timesUntilDue c m s) g a (omega (arith, r .from, r .most, first-stop c m s .no-further))
 
   pub request-good : {s : State} → Good c s → (q : Request) → within64 q ≡ true → Good c (requested s q c .state)
   request-good {s} g q e = came-good g e (request-came c s q)

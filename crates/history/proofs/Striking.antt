@@ -10,7 +10,7 @@ use Rattle.laws.specs.Lists.{keep}
 use Rattle.state.specs.declared.State.{State}
 use Rattle.outcomes.specs.declared.Outcome.{Outcome}
 use Rattle.outcomes.specs.declared.Outcome.the-variants.{Accepted, Failed, Refused}
-use Rattle.machine.specs.Steps.{Request, agreement, call, firing, tick}
+use Rattle.machine.specs.Steps.{Request, agreement, call, firing, tick, jump}
 use Rattle.history.specs.Histories.{Step, answerTo, Returned, returned, deposit, payoutsOf, History, history, isRefused, Struck, end, stays, strikes, unrefused, stayed}
 use Rattle.history.specs.Demand.{Same}
 use Rattle.history.proofs.Untouched.{step-idle}
@@ -27,6 +27,7 @@ no-deposit (call i) (Refused n) e = refl
 no-deposit (agreement ps) o e = refl
 no-deposit firing o e = refl
 no-deposit tick o e = refl
+no-deposit (jump T) o e = refl
 
 no-payout : (r : Returned) (o : Outcome) → isRefused o ≡ true → payoutsOf r o ≡ []
 no-payout r (Accepted q) e = true-false (sym e)

@@ -1,6 +1,7 @@
--- Arguments are 64-bit integers because of their types: whatever a caller hands to `steps::call` and `steps::agree`, `within64` holds of the
--- request that they make of it. What a caller hands is `onEntry`, which the function's contract asks for: a token for each lifetime, and what the
--- parameters' types own. Assumes nothing: the model and its rules are those that the contracts' theorems are stated over.
+-- Arguments are 64-bit integers because of their types: whatever a caller hands to `steps::call`, `steps::agree` and `steps::jump`, `within64`
+-- holds of the request that they make of it. What a caller hands is `onEntry`, which the function's contract asks for: a token for each
+-- lifetime, and what the parameters' types own. Assumes nothing: the model and its rules are those that the contracts' theorems are stated
+-- over.
 use mathlib.Core.Path.{_≡_, refl, ap, _∙_}
 use mathlib.Core.Bool.{true}
 use mathlib.Core.List.{List, [], _∷_}
@@ -39,14 +40,15 @@ use Rattle.laws.proofs.Members.{every-first, every-second}
 use Rattle.numbers.specs.Numbers.{within}
 use Rattle.state.specs.declared.State.{State}
 use Rattle.statements.specs.declared.Label.{Label}
-use Rattle.machine.specs.Steps.{Request, agreement, call}
+use Rattle.machine.specs.Steps.{Request, agreement, call, jump, jumped, step}
 use Rattle.agreements.specs.Agreement.{Part as PartSaid, partsIn}
 use Rattle.steps.proofs.call as code-call
 use Rattle.steps.proofs.agree as code-agree
+use Rattle.steps.proofs.jump as code-jump
 use Rattle.steps.specs.Left.{agreeOf, callOf}
 use Rattle.history.specs.Histories.{answerTo, within64}
 
--- ---- the requests that `steps::call` and `steps::agree` make of what they are handed
+-- ---- the requests that `steps::call`, `steps::agree` and `steps::jump` make of what they are handed
 
 abbrev pub calling : List ℕ → List ℕ → List ℤ → List ℤ → Request
 calling caller function values assets = call (record { caller = caller; function = function; values = values; assets = assets })
@@ -64,6 +66,11 @@ pub agree-answers : (w : List ℕ) (s : State) (labels : List Label) (line parts
     → agreeOf w (length labels) s line parts spans values ≡ answerTo w s (record { request = agreeing line parts spans values; slice = labels })
 unfolding answerTo
 agree-answers w s labels line parts spans values = refl
+
+pub jump-answers : (w : List ℕ) (s : State) (labels : List Label) (to : ℤ)
+    → step w (length labels) s (λ c. jumped c s to) ≡ answerTo w s (record { request = jump to; slice = labels })
+unfolding answerTo
+jump-answers w s labels to = refl
 
 -- ---- integers
 
@@ -147,6 +154,13 @@ module _ {M : Type 1} {𝓤 : URA M} {H : Heap 𝓤} {A : Atoms 𝓤} (W : Given
       (fact-use 𝓤 (shadow (row i64 q′ (x .now) b o)) (shows-shadow 𝓤 H A (row i64 q′ (x .now) b o)) (λ h. guardI 𝓤 _ _ (row-within q′ (x .now) b o h))) $
       learn ! (λ e. shuts-slice ! tt i64 q′ (x .now) b o $ move ! (2 ∷ 1 ∷ []) $ fjoin ! $ move ! (2 ∷ 0 ∷ []) $ fjoin ! $ move ! (1 ∷ 0 ∷ []) $ at-last ! $ check ! e $ done !))
 
+  -- an i64 shows that it is of 64 bits
+  pub held-within : (z : ℤ) (vs : List Val) → Shown 𝓤 H A (sem 𝓤 H A (i64 .own z vs)) (within z ≡ true)
+  held-within z vs =
+      qed W (‵ (i64 .own z vs) ∷ []) ∵ updating ! $ use1 W (given (within z ≡ true) (‵ (i64 .own z vs)))
+      (fact-use 𝓤 (shadow (i64 .own z vs)) (shows-shadow 𝓤 H A (i64 .own z vs)) (λ h. guardI 𝓤 _ _ (lt-ltb (mag z) (2 ^ 63) (h .1)))) $
+      learn ! (λ e. at-last ! $ check ! e $ done !)
+
 -- ---- what a caller hands
 
 module _ {M : Type 1} (𝓤 : URA M) (H : Heap 𝓤) (𝓜 : Model 𝓤 H) (𝓖 : GhostRules 𝓤 H) (κs : Lfts 6) (qs : Shares 6) (table : RefT (List ℕ)) (s : State) (labels : RefT (List Label)) where
@@ -179,3 +193,11 @@ module _ {M : Type 1} (𝓤 : URA M) (H : Heap 𝓤) (𝓜 : Model 𝓤 H) (𝓖
       shown-by rules P (every within (values .now) ≡ true) _ (parts-within (line .now) (length (parts .now) / 4) (parts .now) (spans .now) (values .now))
       (pair rules (third (deeper rules (first rules))) (third (deeper rules (deeper rules (first rules)))))
       (lent-within rules (named 4) (κs .1 .1 .1 .1 .0) (qs .1 .1 .1 .1 .0) values (vss .1 .1 .1 .1 .1 .0))
+
+pub jump-within64 : {M : Type 1} (𝓤 : URA M) (H : Heap 𝓤) (𝓜 : Model 𝓤 H) (𝓖 : GhostRules 𝓤 H) (κs : Lfts 2) (qs : Shares 2) (table : RefT (List ℕ)) (s : State) (labels : RefT (List Label)) (to : ℤ) (vss : Vals code-jump.signature κs)
+    → Shown 𝓤 H (𝓖 .A) (onEntry 𝓤 H (𝓖 .A) code-jump.signature κs qs (table, (s, (to, (labels, tt)))) vss) (within64 (jump to) ≡ true)
+unfolding within64
+jump-within64 𝓤 H 𝓜 𝓖 κs qs table s labels to vss =
+    let W = givenOf 𝓤 H 𝓜 𝓖 in
+    let P = fsep (tokens 2 κs qs) (owns (typesAt (code-jump.signature .params) κs) (table, (s, (to, (labels, tt)))) vss) in
+    shown-by W P (within to ≡ true) _ (λ e. e) (deeper W (deeper W (deeper W (first W)))) (held-within W to (vss .1 .1 .0))

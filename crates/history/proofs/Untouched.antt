@@ -30,7 +30,7 @@ use Rattle.machine.specs.Sessions.{Session, session, notPlayed, played, reports
 use Rattle.steps.specs.Left.{copiedOf}
 use Rattle.history.specs.Histories.{Step, answerTo, returned, isRefused}
 use Rattle.history.specs.Untouched.{byRule, Untouched}
-use Rattle.history.proofs.Cases.{ComesOut, refusal, agrees, calls, fires, fails, ticks, Answers, first-refusal, by-rule, answered-so}
+use Rattle.history.proofs.Cases.{ComesOut, refusal, agrees, calls, fires, fails, ticks, jumps, Answers, first-refusal, by-rule, answered-so}
 
 -- an answer that no rule accepts has no label, and a refusal has the state it was given
 pub record Idle (s : State) (r : Stepped) : Type 0 where
@@ -47,6 +47,7 @@ came-idle c (calls i n f ps o) = accepted-idle _ refl refl
 came-idle c (fires k a d h) = accepted-idle _ refl refl
 came-idle c (fails k a d h) = record { no-labels = λ _. refl; state-same = λ f. true-false (sym f) }
 came-idle c (ticks a d l) = accepted-idle _ refl refl
+came-idle c (jumps T a d l) = accepted-idle _ refl refl
 
 answer-idle : {w : List ℕ} {s : State} {a : Step} {r : Stepped} → Answers w s a r → Idle s r
 answer-idle (first-refusal n) = record { no-labels = λ _. refl; state-same = λ _. refl }

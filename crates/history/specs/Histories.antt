@@ -1,4 +1,4 @@
--- Lists of agreements, calls, firings and ticks, each with any arguments and a lent label slice of any length.
+-- Lists of agreements, calls, firings, ticks and jumps, each with any arguments and a lent label slice of any length.
 use Prim.Native.Nat.{ℕ, suc, _+_, _*_}
 use mathlib.Core.Path.{_≡_}
 use mathlib.Core.Bool.{Bool, true, false, not, _&&_}
@@ -9,13 +9,18 @@ use lib.IntN.{ℤ, pos, _+ℤ_}
 use Rattle.laws.specs.Choice.{pick}
 use Rattle.laws.specs.Lists.{every, keep}
 use Rattle.numbers.specs.Numbers.{within}
+use Rattle.contract.specs.Decode.{contractOf}
 use Rattle.state.specs.declared.State.{State}
+use Rattle.state.specs.declared.Due.{Due}
+use Rattle.state.specs.declared.Due.the-variants as due
+use Rattle.state.specs.States.{dueIn}
 use Rattle.statements.specs.declared.Label.{Label}
 use Rattle.statements.specs.Running.{assetLabel}
+use Rattle.outcomes.specs.declared.Rule.the-variants.{Tick}
 use Rattle.outcomes.specs.declared.Outcome.{Outcome}
 use Rattle.outcomes.specs.declared.Outcome.the-variants.{Accepted, Failed, Refused}
 use Rattle.outcomes.specs.declared.Stepped.{Stepped}
-use Rattle.machine.specs.Steps.{Request, agreement, call, firing, tick, requested, step}
+use Rattle.machine.specs.Steps.{Request, agreement, call, firing, tick, jump, requested, step}
 use Rattle.steps.specs.declared.Left.{Left}
 use Rattle.steps.specs.Left.{leftOf, slotsOf}
 
@@ -46,6 +51,7 @@ deposit (call i) (Refused n) = []
 deposit (agreement ps) o = []
 deposit firing o = []
 deposit tick o = []
+deposit (jump T) o = []
 
 -- the asset payouts among some labels
 unfoldable pub payoutsIn : List Label → List Label
@@ -141,6 +147,29 @@ unfoldable pub firings : List (List Label) → List Step
 firings [] = []
 firings (l ∷ ls) = record { request = firing; slice = l } ∷ firings ls
 
+-- a tick with each of these label slices
+unfoldable pub ticks : List (List Label) → List Step
+ticks [] = []
+ticks (l ∷ ls) = record { request = tick; slice = l } ∷ ticks ls
+
+-- towards clock T: a firing where an event is due, else a jump to T
+abbrev pub towards : ℤ → Due → Request
+towards T (due.At k) = firing
+towards T due.Nothing = jump T
+
+abbrev pub stepTowards : List ℕ → ℤ → State → List Label → Step
+stepTowards w T s l = record { request = towards T (dueIn (contractOf w) s); slice = l }
+
+-- such a step with each of these label slices, each from the state that the one before it left
+unfoldable pub stepsTowards : List ℕ → ℤ → State → List (List Label) → List Step
+stepsTowards w T s [] = []
+stepsTowards w T s (l ∷ ls) = stepTowards w T s l ∷ stepsTowards w T (answerTo w s (stepTowards w T s l) .state) ls
+
+-- each of these answers is an accepted tick
+pub data AllTicks : List Returned → Type 0 where
+  none : AllTicks []
+  and : {r : Returned} {rs : List Returned} → r .left .outcome ≡ Accepted Tick → AllTicks rs → AllTicks (r ∷ rs)
+
 -- none of these answers is a refusal
 unfoldable pub noneRefused : List Returned → Bool
 noneRefused [] = true
@@ -152,3 +181,4 @@ within64 (agreement ps) = every (λ p. every within (p .values)) ps
 within64 (call i) = every within (i .values) && every within (i .assets)
 within64 firing = true
 within64 tick = true
+within64 (jump T) = within T

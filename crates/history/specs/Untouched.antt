@@ -49,7 +49,7 @@ pub record Untouched : Type 0 where
   pub session : (w : List ℕ) (s : State) (bytes : List ℕ) (room : ℕ) (numbers : List ℕ) (integers : List ℤ) → (played w s bytes room .question ≡ 0 → ⊥)
       → (sets numbers 0 (codedAll (reportsOf w s bytes room)) ≡ numbers) × (sets integers 0 (integersOf (reportsOf w s bytes room)) ≡ integers)
 
--- a refused step has one of document 01's numbers for steps and session lines, a failed firing one of questions 30 to 36
+-- a refused step has one of the documents' numbers for steps and session lines, a failed firing one of questions 30 to 36
 abbrev pub numberOk : Outcome → Bool
 numberOk (Accepted r) = true
 numberOk (Failed n) = ranges 30 n 36

@@ -9,16 +9,22 @@ use lib.ListN.{length, getD, drop, replicate, length-replicate, length-append}
 use lib.Seq.{sets, sets-eq, getD-drop}
 use lib.Dec.{eqb, leb}
 use borrow.Author.Tests.{eqb-true, le-leb, lt-leb}
+use types.Run.{OneOf, miss}
+use denote.Enum.Declared.{tagOf}
 use Rattle.laws.specs.Choice.{pick}
 use Rattle.laws.specs.Bytes.{bytes, startsWith}
 use Rattle.laws.proofs.Choice.{true-false, pick-true, pick-false}
 use Rattle.tokens.specs.Classes.{within as inRange, isLetter}
-use Rattle.lines.specs.Lines.{Span, Part, Names, Lists, Asked, refused, tick, call, Parsed, done, no, andThen, give, otherwise, skipped, isNext, mark, end, nameFrom, name, word, verb, integer, list, names, lists, part, parts, tickLine, callLine, agreementLine, orRefused, asked}
-use Rattle.lines.specs.Answers.{padded, partsOf, fieldsOf}
-use Rattle.lines.specs.Private.{isDone}
+use Rattle.lines.specs.Lines.{Span, Part, Names, Lists, Asked, refused, call, Parsed, done, no, andThen, give, otherwise, skipped, isNext, mark, end, nameFrom, name, verb, integer, list, names, lists, part, parts, tickLine, callLine, agreementLine, orRefused, asked}
+use Rattle.lines.specs.Answers.{padded, plain, lineOf, partsOf, fieldsOf}
+use Rattle.lines.specs.Private.{timeOf, requestOf, untimed}
+use Rattle.lines.specs.declared.Time.{Time}
+use Rattle.lines.specs.declared.Time.the-variants as time
+use Rattle.lines.proofs.Time.{the-type}
 use Rattle.lines.proofs.Ahead.{then-done, taken, mark-size}
 use Rattle.lines.proofs.Turns.{begin, missing, next-yes}
 use Rattle.lines.proofs.Size.{total, items-size, items-some, total-eight}
+use Rattle.lines.proofs.Times.{Timed, timed-parts, orElse, timed-told, tick-gives}
 use Rattle.lines.proofs.Calls.{integers-size}
 use Rattle.lines.proofs.Agreed.{part-size}
 
@@ -127,17 +133,9 @@ module _ (s : List ℕ) where
   unfolding isLetter inRange pick
   colon = refl
 
-  afterOpen : ℕ → Parsed Asked
-  afterOpen i = andThen (word s 39 i) (λ u j. andThen (mark s (bytes "]") j) (λ u k. andThen (end s k) (λ u. give tick)))
-
-  pub tick-alone : {a : Asked} {n : ℕ} → tickLine s 0 ≡ done a n → (a ≡ tick) × (agreementLine s 0 ≡ no)
-  unfolding tickLine afterOpen part
-  tick-alone {a} {n} e =
-      let x = then-done (mark s (bytes "[") 0) (λ u. afterOpen) e in
-      let y = then-done (word s 39 (x .place)) (λ u j. andThen (mark s (bytes "]") j) (λ u k. andThen (end s k) (λ u. give tick))) (x .rest) in
-      let z = then-done (mark s (bytes "]") (y .place)) (λ u k. andThen (end s k) (λ u. give tick)) (y .rest) in
-      let w = then-done (end s (z .place)) (λ u. give tick) (z .rest) in
-      (cc, no-part (rw (no-name 91 0 bracket (x .first))))
+  pub tick-alone : {a : Asked} {n : ℕ} → tickLine s 0 ≡ done a n → Timed a × (agreementLine s 0 ≡ no)
+  unfolding part
+  tick-alone e = let g = tick-gives s e in (g .timed, no-part (rw (no-name 91 0 bracket (g .opened))))
 
   afterNames : Names → ℕ → Parsed Asked
   afterNames m i = andThen (lists s i) (λ l. give (call (record { names = m; lists = l })))
@@ -166,31 +164,29 @@ module _ (s : List ℕ) (short : length s ≤ 512) where
   unfolding asked
   asked-short = pick-true _ _ _ (le-leb (length s) 512 short)
 
-  pub asked-tick : isDone (tickLine s 0) ≡ true → asked s ≡ tick
-  asked-tick e = asked-short ∙ go (tickLine s 0) refl e
+  -- by what `time_line` answers
+  pub asked-time : {t u : Time} → t ≡ timeOf (tickLine s 0) → t ≡ u → asked s ≡ orElse u (untimed s)
+  asked-time {t} {u} told e =
+      asked-short
+      ∙ go (tickLine s 0) refl
+      ∙ ap (λ (x : Time). orElse x (untimed s)) (sym told ∙ e)
     where
-      go : (p : Parsed Asked) → tickLine s 0 ≡ p → isDone p ≡ true → orRefused (otherwise p (otherwise (callLine s 0) (agreementLine s 0))) ≡ tick
-      go (done a n) q r = tick-alone s q .0
-      go no q r = true-false (sym r)
+      go : (p : Parsed Asked) → tickLine s 0 ≡ p → orRefused (otherwise p (otherwise (callLine s 0) (agreementLine s 0))) ≡ orElse (timeOf p) (untimed s)
+      go (done a n) q = timed-told n (untimed s) (tick-alone s q .0)
+      go no q = refl
 
-  no-tick : isDone (tickLine s 0) ≡ false → tickLine s 0 ≡ no
-  no-tick e = go (tickLine s 0) e
-    where
-      go : (p : Parsed Asked) → isDone p ≡ false → p ≡ no
-      go (done a n) r = true-false r
-      go no r = refl
-
-  pub asked-call : {a : Asked} {n : ℕ} → isDone (tickLine s 0) ≡ false → callLine s 0 ≡ done a n → asked s ≡ a
-  asked-call t e = asked-short ∙ rw (no-tick t, e)
-
-  pub asked-other : isDone (tickLine s 0) ≡ false → callLine s 0 ≡ no → asked s ≡ orRefused (agreementLine s 0)
-  asked-other t e = asked-short ∙ rw (no-tick t, e)
+  -- a line that is one of those
+  pub asked-timed : (t : Time) → t ≡ timeOf (tickLine s 0) → OneOf (0 ∷ 1 ∷ []) (tagOf the-type t) → plain (requestOf t) ≡ lineOf (asked s)
+  unfolding lineOf
+  asked-timed time.Tick told k = sym (ap lineOf (asked-time told refl))
+  asked-timed (time.Jump T) told k = sym (ap lineOf (asked-time told refl))
+  asked-timed time.Nothing told k = absurd (miss (0 ∷ 1 ∷ []) 2 tt k)
 
   -- the parts of any line are those of an agreement
   pub asked-parts : partsOf (orRefused (agreementLine s 0)) ≡ partsOf (asked s)
   asked-parts = go (tickLine s 0) (callLine s 0) refl refl ∙ sym (ap partsOf asked-short)
     where
       go : (p q : Parsed Asked) → tickLine s 0 ≡ p → callLine s 0 ≡ q → partsOf (orRefused (agreementLine s 0)) ≡ partsOf (orRefused (otherwise p (otherwise q (agreementLine s 0))))
-      go (done a n) q e f = ap (λ (x : Parsed Asked). partsOf (orRefused x)) (tick-alone s e .1) ∙ sym (ap partsOf (tick-alone s e .0))
+      go (done a n) q e f = ap (λ (x : Parsed Asked). partsOf (orRefused x)) (tick-alone s e .1) ∙ sym (timed-parts (tick-alone s e .0))
       go no (done a n) e f = ap (λ (x : Parsed Asked). partsOf (orRefused x)) (call-alone s f .1) ∙ sym (call-alone s f .0)
       go no no e f = refl

@@ -10,7 +10,7 @@ use lib.Dec.{leb}
 use Rattle.laws.specs.Choice.{pick}
 use Rattle.laws.proofs.Choice.{true-false}
 use Rattle.tokens.specs.Classes.{isLetter, isNameByte, run}
-use Rattle.lines.specs.Lines.{Span, Verb, Field, tick, Parsed, done, no, andThen, give, skipped, end, nameFrom, name, mark, integer, verb, field}
+use Rattle.lines.specs.Lines.{Span, Verb, Field, Parsed, done, no, skipped, end, nameFrom, name, mark, integer, verb, field}
 use Rattle.lines.specs.Private.{placeOf, isDone, nameOf, verbOf, wholeOf, pairOf}
 use Rattle.lines.specs.declared.Place.{Place}
 use Rattle.lines.specs.declared.Place.the-variants as place
@@ -95,14 +95,6 @@ module _ (s : List ℕ) where
 
   pub field-missed : {r : Pair} (at : ℕ) → r ≡ pairOf (field s at) → r ≡ pair.Nothing → field s at ≡ no
   field-missed at = pair-missed (field s at)
-
-  -- nothing follows the line's end
-  pub end-then : (at : ℕ) → isDone (end s at) ≡ isDone (andThen (end s at) (λ u. give tick))
-  end-then at = go (end s at)
-    where
-      go : (p : Parsed Unit) → isDone p ≡ isDone (andThen p (λ u. give tick))
-      go (done u n) = refl
-      go no = refl
 
   pub end-yes : (at : ℕ) → isDone (end s at) ≡ true → end s at ≡ done tt at
   unfolding end pick

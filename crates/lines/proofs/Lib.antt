@@ -7,6 +7,7 @@ pub mod Flat
 pub mod Turns
 pub mod Loops
 pub mod Size
+pub mod Times
 pub mod Calls
 pub mod Agreed
 pub mod Forms

@@ -1,6 +1,5 @@
 -- The structs that are answered, from what was read and stored. Assumes nothing.
 use mathlib.Core.Path.{_≡_, refl, sym, ap, _∙_}
-use mathlib.Core.Bool.{false}
 use mathlib.Core.List.{List, [], _∷_, _++_}
 use Prim.Native.Nat.{ℕ, _+_, _≤_}
 use native.Mathlib.Omega.{arith}
@@ -8,9 +7,9 @@ use lib.ListN.{length, replicate}
 use lib.Seq.{sets}
 use lib.IntN.{ℤ, pos}
 use Rattle.laws.specs.Bytes.{bytes}
-use Rattle.lines.specs.Lines.{Part, Names, Lists, call, agreement, Parsed, done, no, andThen, give, mark, name, names, lists, parts, tickLine, callLine, agreementLine, orRefused, asked}
+use Rattle.lines.specs.Lines.{Part, Names, Lists, call, agreement, Parsed, done, no, andThen, give, mark, name, names, lists, parts, callLine, agreementLine, orRefused}
 use Rattle.lines.specs.Answers.{plain, lineOf, partsOf, fieldsOf, headsOf, spansOf, valuesOf, agreementOf}
-use Rattle.lines.specs.Private.{isDone, namesOf, StoredCall, StoredParts}
+use Rattle.lines.specs.Private.{namesOf, untimed, StoredCall, StoredParts}
 use Rattle.lines.specs.declared.Request.the-variants as request
 use Rattle.lines.specs.declared.Line.{Line}
 use Rattle.lines.specs.declared.Agreement.{Agreement}
@@ -21,7 +20,7 @@ use Rattle.lines.specs.declared.Names.the-variants as told-names
 use Rattle.lines.proofs.Ahead.{then-done}
 use Rattle.lines.proofs.Flat.{spans-length, values-length, heads-length}
 use Rattle.lines.proofs.Agreed.{name-span}
-use Rattle.lines.proofs.Forms.{padded-by, parts-fit, fields-fit, lists-fit, some-part, asked-call, asked-other}
+use Rattle.lines.proofs.Forms.{padded-by, parts-fit, fields-fit, lists-fit, some-part}
 
 -- ---- an agreement
 
@@ -71,7 +70,7 @@ module _ (s : List ℕ) where
       (λ j. record { parts = g .count j; fields = g .fields j; heads = h j; spans = t j; values = v j })
       ∙ sym (ap agreementOf (all-parts (g .parsed)))
 
-  -- a line that is no tick and no call, by the number of parts
+  -- a line that is no tick, no jump and no call, by the number of parts
   pub other-none : {a : Agreement} → a ≡ agreementOf (partsOf (orRefused (agreementLine s 0))) → a .parts ≡ 0 → plain (request.Refused 51) ≡ lineOf (orRefused (agreementLine s 0))
   unfolding agreementLine agreementOf lineOf
   other-none {a} e q = go (parts s 0) refl (sym (ap (λ (x : Agreement). x .parts) e) ∙ q)
@@ -145,24 +144,24 @@ module _ (s : List ℕ) where
       go (done x n) h = let z : _≡_ {A = ℕ} 0 1 = cc in absurd (omega arith)
       go no h = refl
 
-  module _ (short : length s ≤ 512) (not-tick : isDone (tickLine s 0) ≡ false) where
-    pub no-names : names s 0 ≡ no → asked s ≡ orRefused (agreementLine s 0)
+  -- a line that is no tick and no jump
+  pub no-names : names s 0 ≡ no → untimed s ≡ orRefused (agreementLine s 0)
+  unfolding callLine
+  no-names e = rw e
+
+  module _ {m : Names} {d : ℕ} (e : names s 0 ≡ done m d) where
+    pub no-lists : lists s d ≡ no → untimed s ≡ orRefused (agreementLine s 0)
     unfolding callLine
-    no-names e = asked-other s short not-tick (rw e)
+    no-lists f = rw (e, f)
 
-    module _ {m : Names} {d : ℕ} (e : names s 0 ≡ done m d) where
-      pub no-lists : lists s d ≡ no → asked s ≡ orRefused (agreementLine s 0)
-      unfolding callLine
-      no-lists f = asked-other s short not-tick (rw (e, f))
+    called : {l : Lists} {n : ℕ} → lists s d ≡ done l n → untimed s ≡ call (record { names = m; lists = l })
+    unfolding callLine
+    called f = rw (e, f)
 
-      called : {l : Lists} {n : ℕ} → lists s d ≡ done l n → callLine s 0 ≡ done (call (record { names = m; lists = l })) n
-      unfolding callLine
-      called f = rw (e, f)
-
-      pub line-made : {new : List ℤ} {k n : ℕ} → CallGave (lists s d) (replicate 256 (pos 0)) new k n → _≡_ {A = Line} (record { request = request.Call; «party_start» = m .party .start; «party_end» = m .party .end; «function_start» = m .function .start; «function_end» = m .function .end; values = k; assets = n; numbers = new }) (lineOf (asked s))
-      unfolding lineOf
-      line-made {new} {k} {n} g =
-          let l = g .read in
-          let h = g .stored ∙ padded-by (pos 0) 256 (l .values ++ l .assets) (omega (arith, lists-fit s short d l (g .place) (g .parsed))) in
-          (λ j. record { request = request.Call; «party_start» = m .party .start; «party_end» = m .party .end; «function_start» = m .function .start; «function_end» = m .function .end; values = g .values j; assets = g .assets j; numbers = h j })
-          ∙ sym (ap lineOf (asked-call s short not-tick (called (g .parsed))))
+    pub line-made : {new : List ℤ} {k n : ℕ} → length s ≤ 512 → CallGave (lists s d) (replicate 256 (pos 0)) new k n → _≡_ {A = Line} (record { request = request.Call; «party_start» = m .party .start; «party_end» = m .party .end; «function_start» = m .function .start; «function_end» = m .function .end; values = k; assets = n; numbers = new }) (lineOf (untimed s))
+    unfolding lineOf
+    line-made {new} {k} {n} short g =
+        let l = g .read in
+        let h = g .stored ∙ padded-by (pos 0) 256 (l .values ++ l .assets) (omega (arith, lists-fit s short d l (g .place) (g .parsed))) in
+        (λ j. record { request = request.Call; «party_start» = m .party .start; «party_end» = m .party .end; «function_start» = m .function .start; «function_end» = m .function .end; values = g .values j; assets = g .assets j; numbers = h j })
+        ∙ sym (ap lineOf (called (g .parsed)))

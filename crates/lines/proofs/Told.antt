@@ -4,8 +4,9 @@ use mathlib.Core.List.{List, _++_, append-assoc}
 use Prim.Native.Nat.{ℕ, _+_, _-_, _≤_}
 use native.Mathlib.Omega.{arith}
 use lib.ListN.{length, take, drop, replicate, length-append}
+use lib.IntN.{ℤ}
 use lib.Seq.{take-append-seam, drop-append-seam}
-use Rattle.lines.specs.Lines.{Part, Call, Asked, refused, tick, call, agreement}
+use Rattle.lines.specs.Lines.{Part, Call, Asked, refused, tick, jump, call, agreement}
 use Rattle.lines.specs.Answers.{padded, lineOf}
 use Rattle.lines.specs.declared.Request.the-variants as request
 
@@ -15,6 +16,7 @@ pub told-refused : {q : ℕ} (a : Asked) → lineOf a .request ≡ request.Refus
 unfolding lineOf
 told-refused {q} (refused p) e = let h : p ≡ q = cc in ap refused h
 told-refused tick e = let z : _≡_ {A = ℕ} 0 1 = cc in absurd (omega arith)
+told-refused (jump y) e = let z : _≡_ {A = ℕ} 0 1 = cc in absurd (omega arith)
 told-refused (call c) e = let z : _≡_ {A = ℕ} 0 1 = cc in absurd (omega arith)
 told-refused (agreement ps) e = let z : _≡_ {A = ℕ} 0 1 = cc in absurd (omega arith)
 
@@ -22,8 +24,17 @@ pub told-tick : (a : Asked) → lineOf a .request ≡ request.Tick → a ≡ tic
 unfolding lineOf
 told-tick (refused p) e = let z : _≡_ {A = ℕ} 0 1 = cc in absurd (omega arith)
 told-tick tick e = refl
+told-tick (jump y) e = let z : _≡_ {A = ℕ} 0 1 = cc in absurd (omega arith)
 told-tick (call c) e = let z : _≡_ {A = ℕ} 0 1 = cc in absurd (omega arith)
 told-tick (agreement ps) e = let z : _≡_ {A = ℕ} 0 1 = cc in absurd (omega arith)
+
+pub told-jump : {z : ℤ} (a : Asked) → lineOf a .request ≡ request.Jump z → a ≡ jump z
+unfolding lineOf
+told-jump (refused p) e = let z : _≡_ {A = ℕ} 0 1 = cc in absurd (omega arith)
+told-jump tick e = let z : _≡_ {A = ℕ} 0 1 = cc in absurd (omega arith)
+told-jump {z} (jump y) e = let h : y ≡ z = cc in ap jump h
+told-jump (call c) e = let z : _≡_ {A = ℕ} 0 1 = cc in absurd (omega arith)
+told-jump (agreement ps) e = let z : _≡_ {A = ℕ} 0 1 = cc in absurd (omega arith)
 
 pub record IsCall (a : Asked) : Type 0 where
   pub asks : Call
@@ -33,6 +44,7 @@ pub told-call : (a : Asked) → lineOf a .request ≡ request.Call → IsCall a
 unfolding lineOf
 told-call (refused p) e = let z : _≡_ {A = ℕ} 0 1 = cc in absurd (omega arith)
 told-call tick e = let z : _≡_ {A = ℕ} 0 1 = cc in absurd (omega arith)
+told-call (jump y) e = let z : _≡_ {A = ℕ} 0 1 = cc in absurd (omega arith)
 told-call (call c) e = record { asks = c; is = refl }
 told-call (agreement ps) e = let z : _≡_ {A = ℕ} 0 1 = cc in absurd (omega arith)
 
@@ -44,6 +56,7 @@ pub told-agreement : (a : Asked) → lineOf a .request ≡ request.Agreement →
 unfolding lineOf
 told-agreement (refused p) e = let z : _≡_ {A = ℕ} 0 1 = cc in absurd (omega arith)
 told-agreement tick e = let z : _≡_ {A = ℕ} 0 1 = cc in absurd (omega arith)
+told-agreement (jump y) e = let z : _≡_ {A = ℕ} 0 1 = cc in absurd (omega arith)
 told-agreement (call c) e = let z : _≡_ {A = ℕ} 0 1 = cc in absurd (omega arith)
 told-agreement (agreement ps) e = record { asks = ps; is = refl }
 

@@ -3,7 +3,7 @@ use Prim.Native.Nat.{ℕ, _-_}
 use mathlib.Core.List.{List, [], _∷_, _++_}
 use lib.ListN.{length, replicate}
 use lib.IntN.{ℤ, pos}
-use Rattle.lines.specs.Lines.{Verb, set, ok, Field, Part, Call, Asked, refused, tick, call, agreement}
+use Rattle.lines.specs.Lines.{Verb, set, ok, Field, Part, Call, Asked, refused, tick, jump, call, agreement}
 use Rattle.lines.specs.declared.Request as declared
 use Rattle.lines.specs.declared.Request.the-variants as request
 use Rattle.lines.specs.declared.Line.{Line}
@@ -32,6 +32,7 @@ plain r =
 unfoldable pub lineOf : Asked → Line
 lineOf (refused q) = plain (request.Refused q)
 lineOf tick = plain request.Tick
+lineOf (jump T) = plain (request.Jump T)
 lineOf (agreement ps) = plain request.Agreement
 lineOf (call c) =
     record {
@@ -51,6 +52,7 @@ abbrev pub partsOf : Asked → List Part
 partsOf (agreement ps) = ps
 partsOf (refused q) = []
 partsOf tick = []
+partsOf (jump T) = []
 partsOf (call c) = []
 
 -- the fields of all parts

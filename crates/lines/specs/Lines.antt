@@ -51,6 +51,7 @@ pub record Call : Type 0 where
 pub data Asked : Type 0 where
   refused : ℕ → Asked
   tick : Asked
+  jump : ℤ → Asked
   call : Call → Asked
   agreement : List Part → Asked
 
@@ -163,16 +164,27 @@ module _ (s : List ℕ) where
     mark opening
     ifNext closing (do mark closing; give []) (items item (bytes ",") (mark closing) (length s))
 
-  -- ---- the three forms
+  -- ---- the forms of a line
 
-  -- [TICK], three tokens
+  -- the closing bracket and the line's end
+  unfoldable pub closed : Asked → Parser Asked
+  closed a = do
+    mark (bytes "]")
+    end
+    give a
+
+  -- the clock that a jump goes to, and the line's end after it
+  unfoldable pub jumpEnd : Parser Asked
+  jumpEnd = do
+    T ← integer
+    closed (jump T)
+
+  -- [TICK], three tokens, or [TICK T], four, which is a jump (document 02, F-3)
   unfoldable pub tickLine : Parser Asked
   tickLine = do
     mark (bytes "[")
     word tickWord
-    mark (bytes "]")
-    end
-    give tick
+    ifNext (bytes "]") (closed tick) jumpEnd
 
   -- a call's names
   unfoldable pub names : Parser Names

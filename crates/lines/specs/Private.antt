@@ -6,9 +6,11 @@ use mathlib.Core.List.{List, [], _∷_, _++_}
 use lib.ListN.{length}
 use lib.Seq.{sets}
 use lib.IntN.{ℤ}
-use Rattle.lines.specs.Lines.{Span, Verb, Field, Part, Parsed, done, no}
+use Rattle.lines.specs.Lines.{Span, Verb, Field, Part, Asked, refused, tick, jump, call, agreement, Parsed, done, no, otherwise, callLine, agreementLine, orRefused}
 use Rattle.lines.specs.Lines as lines
 use Rattle.lines.specs.Answers.{verbNumber, fieldsOf, headsOf, spansOf, valuesOf}
+use Rattle.lines.specs.declared.Request as declared
+use Rattle.lines.specs.declared.Request.the-variants as request
 use Rattle.lines.specs.declared.Place.{Place}
 use Rattle.lines.specs.declared.Place.the-variants as place
 use Rattle.lines.specs.declared.Found.{Found}
@@ -17,6 +19,8 @@ use Rattle.lines.specs.declared.Whole.{Whole}
 use Rattle.lines.specs.declared.Whole.the-variants as whole
 use Rattle.lines.specs.declared.Pair.{Pair}
 use Rattle.lines.specs.declared.Pair.the-variants as pair
+use Rattle.lines.specs.declared.Time.{Time}
+use Rattle.lines.specs.declared.Time.the-variants as time
 use Rattle.lines.specs.declared.Names.{Names}
 use Rattle.lines.specs.declared.Names.the-variants as names
 
@@ -46,9 +50,28 @@ abbrev pub pairOf : Parsed Field → Pair
 pairOf (done f n) = pair.Of (f .name .start) (f .name .end) (f .value) n
 pairOf no = pair.Nothing
 
+-- the last three don't occur
+abbrev pub timeOf : Parsed Asked → Time
+timeOf (done tick n) = time.Tick
+timeOf (done (jump z) n) = time.Jump z
+timeOf no = time.Nothing
+timeOf (done (refused q) n) = time.Nothing
+timeOf (done (call c) n) = time.Nothing
+timeOf (done (agreement ps) n) = time.Nothing
+
 abbrev pub namesOf : Parsed lines.Names → Names
 namesOf (done n e) = names.At (n .party .start) (n .party .end) (n .function .start) (n .function .end)
 namesOf no = names.Nothing
+
+-- what a tick or a jump asks for; what is neither does not occur there
+abbrev pub requestOf : Time → declared.Request
+requestOf time.Tick = request.Tick
+requestOf (time.Jump T) = request.Jump T
+requestOf time.Nothing = request.Refused 51
+
+-- what a line asks for that is no tick and no jump
+abbrev pub untimed : List ℕ → Asked
+untimed s = orRefused (otherwise (callLine s 0) (agreementLine s 0))
 
 -- Integers that were read, stored from a place on: the place after them in the lent slice, and in the line. After a no the slice is free.
 unfoldable pub Stored : Parsed (List ℤ) → ℕ → List ℤ → Found → List ℤ → Type 0

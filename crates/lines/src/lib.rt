@@ -1,4 +1,4 @@
-// A reader of one session line, the bytes before its LF: an agreement, a call or a tick, or the question that refuses it.
+// A reader of one session line, the bytes before its LF: an agreement, a call, a tick or a jump, or the question that refuses it.
 ghost use mathlib.Core.Path.{_≡_};
 ghost use mathlib.Core.List.{[], _∷_};
 ghost use Prim.Native.Nat.{_+_, _*_, _≤_, _<_};
@@ -10,9 +10,9 @@ ghost use Rattle.laws.specs.Bytes.{sameBytes};
 ghost use Rattle.numbers.specs.Numbers.{within as inside};
 ghost use Rattle.words.specs.Words.{spelled};
 ghost use Rattle.tokens.specs.Tokens.{between};
-ghost use Rattle.lines.specs.Lines.{asked, skipped, mark, end, name, digits, integer, verb, field, list, items, names, lists, part, parts, tickLine, agreementLine, orRefused};
+ghost use Rattle.lines.specs.Lines.{asked, skipped, mark, end, name, digits, integer, verb, field, list, items, names, lists, part, parts, jumpEnd, tickLine, agreementLine, orRefused};
 ghost use Rattle.lines.specs.Answers.{plain, lineOf, agreementOf, partsOf};
-ghost use Rattle.lines.specs.Private.{placeOf, isDone, nameOf, verbOf, wholeOf, pairOf, namesOf, Stored, StoredCall, StoredFields, StoredPart, StoredParts};
+ghost use Rattle.lines.specs.Private.{placeOf, isDone, nameOf, verbOf, wholeOf, pairOf, timeOf, requestOf, namesOf, Stored, StoredCall, StoredFields, StoredPart, StoredParts};
 use numbers::Value;
 
 // What a session line asks for.
@@ -20,6 +20,8 @@ pub enum Request {
     Agreement,
     Call,
     Tick,
+    // To this clock.
+    Jump(i64),
     Refused(u8),
 }
 
@@ -88,6 +90,13 @@ enum Whole {
 // A field: its name's start and end, its value, and the place after it.
 enum Pair {
     Of(usize, usize, i64, usize),
+    Nothing,
+}
+
+// A tick, or a jump to this clock.
+enum Time {
+    Tick,
+    Jump(i64),
     Nothing,
 }
 
@@ -258,24 +267,44 @@ fn field(line: &[u8], at: usize) -> Pair
     Pair::Of(start, end, z, next)
 }
 
-// ---- a tick
+// ---- a tick or a jump
 
-fn is_tick(line: &[u8]) -> bool
-    ensures { λ r. ⌜ r ≡ isDone (tickLine (now (line .entry)) 0) ⌝ }
+// `T]` and the line's end, after `[TICK`.
+fn jump_end(line: &[u8], at: usize) -> Time
+    ensures { λ r. ⌜ r ≡ timeOf (jumpEnd (now (line .entry)) at) ⌝ }
+{
+    let Whole::Is(z, i) = integer(line, at) else {
+        return Time::Nothing;
+    };
+    let Place::At(j) = mark(line, i, b']') else {
+        return Time::Nothing;
+    };
+    if ends(line, j) {
+        return Time::Jump(z);
+    }
+    Time::Nothing
+}
+
+// `[TICK]` or `[TICK T]`
+fn time_line(line: &[u8]) -> Time
+    ensures { λ r. ⌜ r ≡ timeOf (tickLine (now (line .entry)) 0) ⌝ }
 {
     let Place::At(i) = mark(line, 0, b'[') else {
-        return false;
+        return Time::Nothing;
     };
     let Found::At(start, end) = name(line, i) else {
-        return false;
+        return Time::Nothing;
     };
     if is_word(line, start, end, words::TICK) {
         let Place::At(j) = mark(line, end, b']') else {
-            return false;
+            return jump_end(line, end);
         };
-        return ends(line, j);
+        if ends(line, j) {
+            return Time::Tick;
+        }
+        return Time::Nothing;
     }
-    false
+    Time::Nothing
 }
 
 // ---- a call
@@ -540,7 +569,7 @@ fn plain(request: Request) -> Line
     }
 }
 
-// A line that is no tick and no call.
+// A line that is no tick, no jump and no call.
 fn other(line: &[u8]) -> Line
     requires { ⌜ length (now line) ≤ 512 ⌝ }
     ensures { λ r. ⌜ r ≡ lineOf (orRefused (agreementLine (now (line .entry)) 0)) ⌝ }
@@ -552,6 +581,17 @@ fn other(line: &[u8]) -> Line
     plain(Request::Agreement)
 }
 
+// What a tick or a jump asks for; what is neither, which `read` does not ask of it, is 51.
+fn request_of(time: Time) -> Request
+    ensures { λ r. ⌜ r ≡ requestOf time ⌝ }
+{
+    match time {
+        Time::Tick => Request::Tick,
+        Time::Jump(to) => Request::Jump(to),
+        Time::Nothing => Request::Refused(questions::LINE_FORM),
+    }
+}
+
 // What a line asks for.
 pub fn read(line: &[u8]) -> Line
     ensures { λ r. ⌜ r ≡ lineOf (asked (now (line .entry))) ⌝ }
@@ -559,9 +599,10 @@ pub fn read(line: &[u8]) -> Line
     if Line::BYTES < line.len() {
         return plain(Request::Refused(questions::LINE_LENGTH));
     }
-    if is_tick(line) {
-        return plain(Request::Tick);
-    }
+    let time = time_line(line);
+    let Time::Nothing = time else {
+        return plain(request_of(time));
+    };
     let Names::At(party_start, party_end, function_start, function_end) = call_names(line) else {
         return other(line);
     };

@@ -3,7 +3,8 @@ use mathlib.Core.Path.{_≡_, refl, _∙_}
 use mathlib.Core.Bool.{Bool, true, false}
 use mathlib.Core.List.{List}
 use Prim.Native.Nat.{ℕ}
-use lib.IntN.{ℤ}
+use lib.IntN.{ℤ, pos}
+use lib.Signed.{leZ}
 use lib.Dec.{ltb}
 use Rattle.laws.specs.Choice.{pick}
 use Rattle.contract.specs.Limits.{top}
@@ -18,7 +19,7 @@ use Rattle.outcomes.specs.declared.Stepped.{Stepped}
 use Rattle.machine.specs.declared.Reply.{Reply}
 use Rattle.outcomes.specs.Outcomes.{noLabels, answered}
 use Rattle.holdings.specs.Holdings.{amounts}
-use Rattle.machine.specs.Steps.{begun, tickByDue, ticked}
+use Rattle.machine.specs.Steps.{begun, tickByDue, ticked, jumpByDue, jumped}
 use Rattle.holdings.specs.Holdings.{holdingsOf}
 use Rattle.machine.specs.Private.{replyOf}
 
@@ -33,7 +34,7 @@ pub started : (s : State) (zs : List ℤ) (h : List ℕ) (ls : List Label) → h
 unfolding holdingsOf
 started s zs h ls e f = λ i. workFrom (s .kinds) (s .numbers) (s .texts) (e i) (f i) 0 0
 
--- ---- a tick sends nothing
+-- ---- a tick and a jump send nothing
 abbrev Plain : Stepped → Type 0
 Plain t = answered (t .outcome) (t .state) ≡ t
 
@@ -49,3 +50,11 @@ plain-due s due.Nothing = plain-pick (ltb (s .clock) top) _ _ refl refl
 pub tick-plain : (c : Contract) (s : State) (r : Reply) → r ≡ replyOf (ticked c s) → answered (r .outcome) (r .state) ≡ ticked c s
 unfolding ticked
 tick-plain c s r e = (λ i. answered (e i .outcome) (e i .state)) ∙ plain-pick (s .agreed) _ _ (plain-due s (dueIn c s)) refl
+
+plain-jump : (c : Contract) (s : State) (T : ℤ) (d : Due) → Plain (jumpByDue c s T d)
+plain-jump c s T (due.At k) = refl
+plain-jump c s T due.Nothing = plain-pick (leZ (pos (s .clock)) T) _ _ refl refl
+
+pub jump-plain : (c : Contract) (s : State) (T : ℤ) (r : Reply) → r ≡ replyOf (jumped c s T) → answered (r .outcome) (r .state) ≡ jumped c s T
+unfolding jumped
+jump-plain c s T r e = (λ i. answered (e i .outcome) (e i .state)) ∙ plain-pick (s .agreed) _ _ (plain-jump c s T (dueIn c s)) refl

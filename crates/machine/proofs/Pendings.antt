@@ -2,11 +2,11 @@
 use mathlib.Core.Path.{_≡_, refl, _∙_}
 use mathlib.Core.Bool.{true, false, not}
 use mathlib.Core.List.{List, [], _∷_, _++_}
-use Prim.Native.Nat.{ℕ, suc, _+_, _-_, _≤_}
+use Prim.Native.Nat.{ℕ, zero, suc, _+_, _-_, _≤_}
 use native.Mathlib.Omega.{arith}
 use lib.ListN.{length, getD, length-set, length-append, length-take}
 use lib.Dec.{eqb}
-use lib.IntN.{ℤ, pos, negsuc}
+use lib.IntN.{ℤ, pos, negsuc, natAbs}
 use borrow.Author.Tests.{leb-true}
 use Rattle.laws.proofs.Choice.{by-cases}
 use Rattle.numbers.specs.declared.Value.{Value}
@@ -22,7 +22,7 @@ use Rattle.state.specs.declared.State.{State}
 use Rattle.state.specs.declared.Pending.{Pending}
 use Rattle.state.specs.declared.Due.{Due}
 use Rattle.state.specs.declared.Due.the-variants as due
-use Rattle.state.specs.States.{blank, live, eventOf, dueIn, withPending, lapsed, removed, withInteger, opened, timePassed}
+use Rattle.state.specs.States.{blank, live, eventOf, dueIn, withPending, lapsed, removed, withInteger, opened, timePassed, passedTimes, timesUntilDue}
 use Rattle.laws.proofs.Members.{keep-length}
 use Rattle.laws.specs.Lists.{repeated, keep}
 use Rattle.state.proofs.Each.{without-length}
@@ -37,7 +37,7 @@ use Rattle.outcomes.specs.declared.Outcome.the-variants.{Accepted, Failed}
 use Rattle.outcomes.specs.declared.Stepped.{Stepped}
 use Rattle.outcomes.specs.Outcomes.{noLabel, noLabels, answered, refused}
 use Rattle.holdings.specs.Holdings.{amounts}
-use Rattle.machine.specs.Steps.{accepted, begun, ended, Invocation, Chosen, chosen, answersTo, choose, preconditionHolds, Scheduled, times, no, schedule, withScheduled, finished, byPrecondition, invoked, byChosen, callByDue, called, handled, fireByDue, fired, tickByDue, ticked}
+use Rattle.machine.specs.Steps.{accepted, begun, ended, Invocation, Chosen, chosen, answersTo, choose, preconditionHolds, Scheduled, times, no, schedule, withScheduled, finished, byPrecondition, invoked, byChosen, callByDue, called, handled, fireByDue, fired, tickByDue, ticked, jumpByDue, jumped}
 use Rattle.agreements.specs.Agreement.{Part, setFields, setClause, setClauses, agreedOn}
 use Rattle.machine.specs.Sessions.{partsSaid, invocationIn}
 use Rattle.machine.specs.Private.{takenBy, taken}
@@ -54,6 +54,7 @@ pub data Outcomes (s : State) : Stepped → Type 0 where
       → Outcomes s (accepted EventMatch (ended s (ran [] (s .clock) (begun s []) b) q (live (removed s k))) (ran [] (s .clock) (begun s []) b))
   fails : (k n : ℕ) → Outcomes s (answered (Failed n) (removed s k))
   ticks : Outcomes s (answered (Accepted Tick) (timePassed s))
+  jumps : (n : ℕ) → Outcomes s (answered (Accepted Tick) (passedTimes n s))
 
 module _ (c : Contract) (s : State) where
   agreement-outcomes : (ps : List Part) → Outcomes s (agreedOn c s ps)
@@ -69,6 +70,14 @@ module _ (c : Contract) (s : State) where
       go : (d : Due) → Outcomes s (tickByDue s d)
       go (due.At k) = refusal 25
       go due.Nothing = by-cases (Outcomes s) _ _ _ (λ _. ticks) (λ _. refusal 40)
+
+  jump-outcomes : (T : ℤ) → Outcomes s (jumped c s T)
+  unfolding jumped
+  jump-outcomes T = by-cases (Outcomes s) _ _ _ (λ _. go (dueIn c s)) (λ _. refusal 22)
+    where
+      go : (d : Due) → Outcomes s (jumpByDue c s T d)
+      go (due.At k) = refusal 25
+      go due.Nothing = by-cases (Outcomes s) _ _ _ (λ _. jumps (timesUntilDue c (natAbs T - s .clock) s)) (λ _. refusal 62)
 
   fired-outcomes : Outcomes s (fired c s)
   unfolding fired handled
@@ -131,6 +140,7 @@ module _ (c : Contract) (s : State) where
   unfolding takenBy
   taken-outcomes line (lines.refused q) = refusal q
   taken-outcomes line lines.tick = tick-outcomes
+  taken-outcomes line (lines.jump T) = jump-outcomes T
   taken-outcomes line (lines.call k) = call-outcomes (invocationIn line k)
   taken-outcomes line (lines.agreement ps) = agreement-outcomes (partsSaid line ps)
 
@@ -170,6 +180,12 @@ module _ (s : State) (h : s .pending ≤ 64) where
       let o = with-slotted s (keep p (live s)) (omega (arith, keep-length p (live s), live-few)) in
       record { events = o .events; pending = o .pending }
 
+-- and so after any number of them
+passed-slotted : (n : ℕ) (s : State) → Slotted s → Slotted (passedTimes n s)
+unfolding passedTimes
+passed-slotted zero s h = h
+passed-slotted (suc n) s h = passed-slotted n (timePassed s) (lapsed-slotted s (h .pending))
+
 -- an agreement leaves them
 fields-slotted : (s : State) (xs : List ℕ) (zs : List ℤ) → Slotted s → Slotted (setFields s xs zs)
 unfolding setFields
@@ -194,6 +210,7 @@ outcome-slotted {s} h (calls v hs b q ps l) = with-slotted _ (live s ++ ps) (ome
 outcome-slotted {s} h (fires k b q) = with-slotted _ (live (removed s k)) (removed-few s (h .pending) k)
 outcome-slotted {s} h (fails k n) = removed-slotted s (h .pending) k
 outcome-slotted {s} h ticks = lapsed-slotted s (h .pending)
+outcome-slotted {s} h (jumps n) = passed-slotted n s h
 
 -- ---- the labels
 
@@ -266,6 +283,7 @@ outcome-labels {s} (calls v hs b q ps l) = ran-labels v (s .clock) (begun s hs) 
 outcome-labels {s} (fires k b q) = ran-labels [] (s .clock) (begun s []) b (repeated-length 64 noLabel)
 outcome-labels (fails k n) = repeated-length 64 noLabel
 outcome-labels ticks = repeated-length 64 noLabel
+outcome-labels (jumps n) = repeated-length 64 noLabel
 
 -- a step that sent no label left none
 outcome-blank : {s : State} {r : Stepped} → Outcomes s r → r .count ≡ 0 → r .labels ≡ noLabels
@@ -275,6 +293,7 @@ outcome-blank {s} (calls v hs b q ps l) e = ran-silent v (s .clock) (begun s hs)
 outcome-blank {s} (fires k b q) e = ran-silent [] (s .clock) (begun s []) b e .1
 outcome-blank (fails k n) e = refl
 outcome-blank ticks e = refl
+outcome-blank (jumps n) e = refl
 
 -- ---- firings and lines
 

@@ -32,10 +32,10 @@ use Rattle.lines.specs.declared.Request.the-variants as request
 use Rattle.lines.proofs.Line as line
 use Rattle.lines.proofs.Agreement as agreement
 use Rattle.lines.proofs.Flat.{spans-append, values-append, spans-length, values-length, heads-length}
-use Rattle.lines.proofs.Told.{told-refused, told-tick, told-call, told-agreement, padded-room, padded-front, padded-first, padded-second}
+use Rattle.lines.proofs.Told.{told-refused, told-tick, told-jump, told-call, told-agreement, padded-room, padded-front, padded-first, padded-second}
 use Rattle.outcomes.specs.declared.Stepped.{Stepped}
 use Rattle.outcomes.specs.Outcomes.{noLabels, answered, refused}
-use Rattle.machine.specs.Steps.{tickByDue, ticked}
+use Rattle.machine.specs.Steps.{tickByDue, ticked, jumpByDue, jumped}
 use Rattle.agreements.specs.Agreement.{Part, wordsIn, partsIn, agreedOn}
 use Rattle.machine.specs.Private.{replyOf, calledBy, takenBy}
 use Rattle.machine.specs.Sessions.{nameIn, verbIn, namesIn, partsSaid, endOfLine}
@@ -125,6 +125,14 @@ silent-ticked c s = by-cases Silent _ _ _ (λ _. go (dueIn c s)) (λ _. silent-r
     go (due.At k) = silent-refused s 25
     go due.Nothing = by-cases Silent _ _ _ (λ _. record { labels = refl; count = refl }) (λ _. silent-refused s 40)
 
+silent-jumped : (c : Contract) (s : State) (T : ℤ) → Silent (jumped c s T)
+unfolding jumped
+silent-jumped c s T = by-cases Silent _ _ _ (λ _. go (dueIn c s)) (λ _. silent-refused s 22)
+  where
+    go : (d : Due) → Silent (jumpByDue c s T d)
+    go (due.At k) = silent-refused s 25
+    go due.Nothing = by-cases Silent _ _ _ (λ _. record { labels = refl; count = refl }) (λ _. silent-refused s 62)
+
 silent-agreed : (c : Contract) (s : State) (ps : List Part) → Silent (agreedOn c s ps)
 unfolding agreedOn
 silent-agreed c s ps =
@@ -146,12 +154,19 @@ module _ (c : Contract) (s : State) (line : List ℕ) where
   unfolding takenBy
   does-tick a e = ap (takenBy c s line) (sym (told-tick a e))
 
+  pub does-jump : {T : ℤ} (a : Asked) → lineOf a .request ≡ request.Jump T → jumped c s T ≡ takenBy c s line a
+  unfolding takenBy
+  does-jump a e = ap (takenBy c s line) (sym (told-jump a e))
+
   -- lines that send nothing
   pub silent-refusal : {q : ℕ} (a : Asked) → lineOf a .request ≡ request.Refused q → Silent (takenBy c s line a)
   silent-refusal {q} a e = subst Silent (does-refused a e) (silent-refused s q)
 
   pub silent-tick : (a : Asked) → lineOf a .request ≡ request.Tick → Silent (takenBy c s line a)
   silent-tick a e = subst Silent (does-tick a e) (silent-ticked c s)
+
+  pub silent-jump : {T : ℤ} (a : Asked) → lineOf a .request ≡ request.Jump T → Silent (takenBy c s line a)
+  silent-jump {T} a e = subst Silent (does-jump a e) (silent-jumped c s T)
 
   pub silent-agreement : (a : Asked) → lineOf a .request ≡ request.Agreement → Silent (takenBy c s line a)
   unfolding takenBy

@@ -16,6 +16,8 @@ use Rattle.contract.specs.Decode.{blockBetween, functionAt, contractOf}
 use Rattle.contract.specs.Check.{passes}
 use Rattle.lines.specs.Lines.{Asked, asked}
 use Rattle.state.specs.declared.State.{State}
+use Rattle.state.specs.declared.Due.{Due}
+use Rattle.state.specs.declared.Due.the-variants as due
 use Rattle.state.specs.States.{freshAt, withState, stateOk}
 use Rattle.statements.specs.declared.Label.{Label}
 use Rattle.statements.specs.declared.Work.{Work}
@@ -54,6 +56,16 @@ abbrev pub isAccepted : Outcome → Bool
 isAccepted (Accepted r) = true
 isAccepted (Failed n) = false
 isAccepted (outcome.Refused n) = false
+
+-- whether an event was found
+abbrev pub isAt : Due → Bool
+isAt (due.At k) = true
+isAt due.Nothing = false
+
+-- the question that refuses a jump of an agreed state, by whether an event is due and whether the jump's time is before the clock; 0
+-- where none does
+abbrev pub jumpNo : Bool → Bool → ℕ
+jumpNo due past = pick due 25 (pick past 62 0)
 
 -- what a line does, by what it asks
 unfoldable pub takenBy : Contract → State → List ℕ → Asked → Stepped

@@ -23,7 +23,7 @@ use Rattle.outcomes.specs.declared.Stepped.{Stepped}
 use Rattle.step_reports.specs.Reports.{told, maxTold}
 use Rattle.machine.specs.declared.Played.{Played}
 use Rattle.outcomes.specs.Outcomes.{refused}
-use Rattle.machine.specs.Steps.{Invocation, Request, agreement, call, firing, tick, requested}
+use Rattle.machine.specs.Steps.{Invocation, Request, agreement, call, firing, tick, jump, requested}
 use Rattle.agreements.specs.Agreement.{Part}
 
 -- ---- what a line says, in the machine's terms
@@ -70,6 +70,7 @@ pub data Said : Type 0 where
 abbrev pub saidBy : List ℕ → Asked → Said
 saidBy line (lines.refused q) = unread q
 saidBy line lines.tick = asks tick
+saidBy line (lines.jump T) = asks (jump T)
 saidBy line (lines.call k) = asks (call (invocationIn line k))
 saidBy line (lines.agreement ps) = asks (agreement (partsSaid line ps))
 

@@ -1,5 +1,6 @@
--- The steps of the machine on a contract and a state: call, firing and tick, each with its questions in document 01's order; the requests.
-use Prim.Native.Nat.{ℕ, suc, _+_}
+-- The steps of the machine on a contract and a state: call, firing, tick and jump, each with its questions in the documents' order; the
+-- requests.
+use Prim.Native.Nat.{ℕ, suc, _+_, _-_}
 use mathlib.Core.Bool.{Bool, true, false, _&&_}
 use mathlib.Core.List.{List, [], _∷_, _++_}
 use lib.ListN.{length, getD, take, drop}
@@ -24,7 +25,7 @@ use Rattle.state.specs.declared.State.{State}
 use Rattle.state.specs.declared.Pending.{Pending}
 use Rattle.state.specs.declared.Due.{Due}
 use Rattle.state.specs.declared.Due.the-variants as due
-use Rattle.state.specs.States.{blank, eventOf, live, stateOk, dueIn, withPending, removed, timePassed, partyName, maxPending}
+use Rattle.state.specs.States.{blank, eventOf, live, stateOk, dueIn, withPending, removed, timePassed, passedTimes, timesUntilDue, partyName, maxPending}
 use Rattle.statements.specs.declared.Work.{Work}
 use Rattle.statements.specs.Running.{maxLabels, memoryIn, ran}
 use Rattle.outcomes.specs.declared.Rule.{Rule}
@@ -182,6 +183,20 @@ tickByDue s due.Nothing = pick (ltb (s .clock) top) (answered (Accepted Tick) (t
 unfoldable pub ticked : Contract → State → Stepped
 ticked c s = pick (s .agreed) (tickByDue s (dueIn c s)) (refused s 22)
 
+-- ---- jump to clock T (document 02, F-3)
+
+-- 25, then 62; then time passes until an event is due or T is reached, and nothing is asked again. 40 is not asked: T is at most top.
+abbrev pub jumpByDue : Contract → State → ℤ → Due → Stepped
+jumpByDue c s T (due.At k) = refused s 25
+jumpByDue c s T due.Nothing =
+    pick (leZ (pos (s .clock)) T)
+    (answered (Accepted Tick) (passedTimes (timesUntilDue c (natAbs T - s .clock) s) s))
+    (refused s 62)
+
+-- 22
+unfoldable pub jumped : Contract → State → ℤ → Stepped
+jumped c s T = pick (s .agreed) (jumpByDue c s T (dueIn c s)) (refused s 22)
+
 -- ---- requests
 
 -- what a step can be asked for
@@ -190,12 +205,14 @@ pub data Request : Type 0 where
   call : Invocation → Request
   firing : Request
   tick : Request
+  jump : ℤ → Request
 
 abbrev pub requested : State → Request → Contract → Stepped
 requested s (agreement ps) c = agreedOn c s ps
 requested s (call i) c = called c s i
 requested s firing c = fired c s
 requested s tick c = ticked c s
+requested s (jump T) c = jumped c s T
 
 -- the clause of the contract that a step runs, if it runs one: function n, or event j of function n
 pub data Runs : Type 0 where
@@ -216,6 +233,7 @@ clauseRun c s (agreement ps) = neither
 clauseRun c s (call i) = clauseChosen (choose c s i 0 (c .functions))
 clauseRun c s firing = clauseDue s (dueIn c s)
 clauseRun c s tick = neither
+clauseRun c s (jump T) = neither
 
 -- how many entries a label slice needs
 abbrev pub roomNeeded : Contract → ℕ

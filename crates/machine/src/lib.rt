@@ -1,4 +1,4 @@
-// The four steps of the machine. Each answers with the state, what came of it, and the labels sent.
+// The five steps of the machine. Each answers with the state, what came of it, and the labels sent.
 ghost use mathlib.Core.Path.{_≡_};
 ghost use mathlib.Core.Bool.{true};
 ghost use mathlib.Core.List.{[]};
@@ -13,17 +13,17 @@ ghost use Rattle.contract.specs.Decode.{blockBetween, preconditionAt, eventAt, 
 ghost use Rattle.contract.specs.Check.{passes};
 ghost use Rattle.evaluation.specs.Memory.{memoryOf};
 ghost use Rattle.evaluation.specs.Meaning.{valueOf};
-ghost use Rattle.state.specs.States.{live, eventOf};
+ghost use Rattle.state.specs.States.{live, eventOf, dueIn};
 ghost use Rattle.state.specs.declared.Due.the-variants as due;
 ghost use Rattle.statements.specs.Running.{ran, labelsFrom, workFrom};
 ghost use Rattle.outcomes.specs.Outcomes.{noLabels, answered, refused};
 ghost use Rattle.holdings.specs.Holdings.{amounts};
-ghost use Rattle.machine.specs.Steps.{answersTo, preconditionHolds, finished, invoked, fireByDue, step, called, fired, ticked};
+ghost use Rattle.machine.specs.Steps.{answersTo, preconditionHolds, finished, invoked, fireByDue, step, called, fired, ticked, jumped};
 ghost use Rattle.results.specs.Coded.{codedAll, integersOf};
 ghost use Rattle.step_reports.specs.Reports.{roomIn};
 ghost use Rattle.machine.specs.Sessions.{played, reportsOf};
 ghost use Rattle.agreements.specs.Agreement.{partsIn, agreedOn};
-ghost use Rattle.machine.specs.Private.{firstNo, replyOf, isAccepted, truthRefusal, naming, inState, arguments, FoundIn, HandlerOf, ranOn, handledBy, concluded};
+ghost use Rattle.machine.specs.Private.{firstNo, replyOf, isAccepted, isAt, jumpNo, truthRefusal, naming, inState, arguments, FoundIn, HandlerOf, ranOn, handledBy, concluded};
 use contract::Contract;
 use contract::Event;
 use contract::Function;
@@ -148,8 +148,48 @@ fn tick_on(table: &[u64], s: State) -> Reply
     if State::TOP <= clock {
         return turn_down(s, questions::CLOCK_BELOW_TOP);
     }
-    let mut next = state::lapse(s);
-    next.clock = clock + 1;
+    let next = state::pass(s, clock + 1);
+    without_labels(Outcome::Accepted(Rule::Tick), next)
+}
+
+// ---- Jump.
+
+// Whether an event is due.
+fn is_due(table: &[u64], s: State) -> bool
+    ensures { λ r. ⌜ r ≡ isAt (dueIn (contractOf (now (table .entry))) s) ⌝ }
+{
+    match state::first_due(table, s) {
+        Due::At(_) => true,
+        Due::Nothing => false,
+    }
+}
+
+// The question that refuses a jump of an agreed state, and 0 where none does.
+fn jump_no(due: bool, past: bool) -> u8
+    ensures { λ r. ⌜ r ≡ jumpNo due past ⌝ }
+{
+    if due {
+        return questions::NOTHING_DUE;
+    }
+    if past {
+        return questions::TIME_NOT_PAST;
+    }
+    0
+}
+
+// A jump on a contract's state: its cost goes by the pending events, however far it goes.
+fn jump_on(table: &[u64], s: State, to: i64) -> Reply
+    ensures { λ r. ⌜ r ≡ replyOf (jumped (contractOf (now (table .entry))) s to) ⌝ }
+{
+    if !s.agreed {
+        return turn_down(s, questions::AGREED);
+    }
+    let no = jump_no(is_due(table, s), !not_before(s.clock, to));
+    if no != 0 {
+        return turn_down(s, no);
+    }
+    let stop = state::next_stop(table, s, numbers::magnitude(to));
+    let next = state::pass(s, stop);
     without_labels(Outcome::Accepted(Rule::Tick), next)
 }
 
@@ -690,6 +730,20 @@ pub fn tick(table: &[u64], s: State, room: usize) -> Stepped
         return outcomes::refuse(s, no);
     }
     let r = tick_on(table, s);
+    let outcome = r.outcome;
+    let state = r.state;
+    outcomes::answer(outcome, state)
+}
+
+// The clock rises until an event is due, and to `to` at most.
+pub fn jump(table: &[u64], s: State, room: usize, to: i64) -> Stepped
+    ensures { λ r. ⌜ r ≡ step (now (table .entry)) room s (λ c. jumped c s to) ⌝ }
+{
+    let no = first_no(table, s, room);
+    if no != 0 {
+        return outcomes::refuse(s, no);
+    }
+    let r = jump_on(table, s, to);
     let outcome = r.outcome;
     let state = r.state;
     outcomes::answer(outcome, state)

@@ -124,6 +124,7 @@ fn take_line(table: &[u64], s: State, line: &[u8], labels: &mut [i64; Label::ROO
     match request {
         Request::Refused(n) => crate::turn_down(s, n),
         Request::Tick => crate::tick_on(table, s),
+        Request::Jump(to) => crate::jump_on(table, s, to),
         Request::Call => take_call(table, s, line, read, labels),
         Request::Agreement => take_agreement(table, s, line),
     }

@@ -5,7 +5,7 @@ ghost use Rattle.outcomes.specs.Outcomes.{noLabels, answered, refused};
 use state::State;
 use statements::Label;
 
-// The published rules, as they are printed: AGREE, FUNCTION, EVENT MATCH, TICK.
+// The published rules, as they are printed: AGREE, FUNCTION, EVENT MATCH, TICK; a jump answers as TICK.
 pub enum Rule {
     Agree,
     Call,

@@ -8,6 +8,7 @@ pub mod Finding
 pub mod Guards
 pub mod Idle
 pub mod Ticks
+pub mod Jumps
 pub mod Firings
 pub mod Calls
 pub mod Agreements

@@ -13,9 +13,9 @@ use Rattle.outcomes.specs.declared.Rule.the-variants.{Agree, Call, EventMatch, 
 use Rattle.outcomes.specs.declared.Outcome.{Outcome}
 use Rattle.outcomes.specs.declared.Outcome.the-variants.{Accepted, Failed}
 use Rattle.outcomes.specs.declared.Stepped.{Stepped}
-use Rattle.machine.specs.Steps.{Request, agreement, call, firing, tick}
+use Rattle.machine.specs.Steps.{Request, agreement, call, firing, tick, jump}
 use Rattle.history.specs.Histories.{isRefused}
-use Rattle.history.proofs.Cases.{ComesOut, refusal, agrees, calls, fires, fails, ticks}
+use Rattle.history.proofs.Cases.{ComesOut, refusal, agrees, calls, fires, fails, ticks, jumps}
 use Rattle.history.proofs.ContractBounds.{Bounded}
 use Rattle.published.specs.Published.{Configuration, idle, IsRefused, Comes}
 use Rattle.published.proofs.Calls.{call-counts}
@@ -31,6 +31,7 @@ ByRule (agreement ps) r = Comes r (Accepted Agree) [] (idle (r .state))
 ByRule (call i) r = By (Accepted Call) r
 ByRule firing r = By (Accepted EventMatch) r ⊎ ((n : ℕ) × Comes r (Failed n) [] (idle (r .state)))
 ByRule tick r = Comes r (Accepted Tick) [] (idle (r .state))
+ByRule (jump T) r = Comes r (Accepted Tick) [] (idle (r .state))
 
 pub refused-or-by : (c : Contract) → FitsContract c → Bounded c → {s : State} {q : Request} {r : Stepped} → ComesOut c s q r → IsRefused s r ⊎ ByRule q r
 refused-or-by c t b (refusal n) = inl (n, refl)
@@ -39,6 +40,7 @@ refused-or-by c t b {s} (calls i n f ps o) = inr (record { outcome-is = refl; co
 refused-or-by c t b {s} (fires k a d h) = inr (inl (record { outcome-is = refl; count-is = handler-counts c b s k h; labels-are = refl; leads-to = refl }))
 refused-or-by c t b (fails k a d h) = inr (inr (_, record { outcome-is = refl; count-is = refl; labels-are = refl; leads-to = refl }))
 refused-or-by c t b (ticks a d l) = inr (record { outcome-is = refl; count-is = refl; labels-are = refl; leads-to = refl })
+refused-or-by c t b (jumps T a d l) = inr (record { outcome-is = refl; count-is = refl; labels-are = refl; leads-to = refl })
 
 pub not-fired : {r : Stepped} → (By (Accepted EventMatch) r → ⊥) → ((n : ℕ) → Comes r (Failed n) [] (idle (r .state)) → ⊥) → ByRule firing r → ⊥
 not-fired f g (inl x) = f x

@@ -40,6 +40,7 @@ use Rattle.published.proofs.Calls.{call-derives, call-comes}
 use Rattle.published.proofs.Firings.{firing-derives, firing-comes, failure-derives, failure-comes, failure-stops}
 use Rattle.published.proofs.IdleDetermines.{idle-tells}
 use Rattle.published.proofs.Ticks.{tick-derives, tick-comes}
+use Rattle.published.proofs.Jumps.{jump-derives, jump-comes}
 use Rattle.published.proofs.RefusedSteps.{ByRule, refused-or-by, not-fired, comes-refused}
 
 pub first-questions : (w : List ℕ) (s : State) (room : ℕ) (q : Request) → FirstQuestions w s room q
@@ -101,6 +102,8 @@ module _ (w : List ℕ) (s : State) (room : ℕ) (p : passes w ≡ true) (o : st
         );
         ticks = λ C. (λ x. tick-derives c s (here steps.tick x), λ d. there steps.tick (tick-comes c s d));
         ticks-refused = (λ r C d. never steps.tick r refl (tick-comes c s d), λ f. unless steps.tick (λ x. f _ (tick-derives c s x)));
+        jumps = λ T e C. (λ x. jump-derives c s T e (here (steps.jump T) x), λ d. there (steps.jump T) (jump-comes c s T d));
+        jumps-refused = λ T e. (λ r C d. never (steps.jump T) r refl (jump-comes c s T d), λ f. unless (steps.jump T) (λ x. f _ (jump-derives c s T e x)));
         in-range = λ a q e. good-ok (answer-good w p (stored-good c s a o) room q e);
       }
 

@@ -8,6 +8,8 @@ use mathlib.Core.Path.{_≡_}
 use mathlib.Core.Bool.{true, false}
 use mathlib.Core.Logic.{_↔_}
 use mathlib.Core.List.{List, []}
+use lib.IntN.{ℤ}
+use Rattle.numbers.specs.Numbers.{within}
 use Rattle.contract.specs.Decode.{contractOf}
 use Rattle.contract.specs.Check.{passes}
 use Rattle.state.specs.declared.State.{State}
@@ -22,7 +24,7 @@ use Rattle.machine.specs.Steps as steps
 use Rattle.agreements.specs.Agreement.{Part}
 use Rattle.history.specs.Histories.{within64}
 use Rattle.history.specs.Sessions.{Stored}
-use Rattle.published.specs.Published.{Configuration, agreement, call, match, failure, time, Table2, Whole, idle, Comes, IsRefused}
+use Rattle.published.specs.Published.{Configuration, agreement, call, match, failure, time, Table2, Whole, Jump, idle, Comes, IsRefused}
 
 -- the machine's answer
 abbrev pub answer : List ℕ → State → ℕ → Request → Stepped
@@ -57,5 +59,10 @@ pub record Exactly (w : List ℕ) (s : State) (room : ℕ) : Type 0 where
   pub ticks : (C : Configuration)
       → Comes (answer w s room steps.tick) (Accepted Tick) [] C ↔ Table2 (contractOf w) (idle s) time C
   pub ticks-refused : IsRefused s (answer w s room steps.tick) ↔ ((C : Configuration) → Table2 (contractOf w) (idle s) time C → ⊥)
+  -- TICK so many times, maybe none, for a signed 64-bit T
+  pub jumps : (T : ℤ) → within T ≡ true → (C : Configuration)
+      → Comes (answer w s room (steps.jump T)) (Accepted Tick) [] C ↔ Jump (contractOf w) T (idle s) C
+  pub jumps-refused : (T : ℤ) → within T ≡ true
+      → IsRefused s (answer w s room (steps.jump T)) ↔ ((C : Configuration) → Jump (contractOf w) T (idle s) C → ⊥)
   -- from a state that code can hold, any step with 64-bit arguments leads to a state that is again within question 4
   pub in-range : Stored s → (q : Request) → within64 q ≡ true → stateOk (contractOf w) (answer w s room q .state) ≡ true

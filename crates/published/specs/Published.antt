@@ -1,5 +1,6 @@
 -- The published rules (source 000, section 4): Table 2 and Table 3 as relations, one constructor a rule; [ASSET UPDATE] has two
--- constructors, and `eventFailed` is document 01's. Where document 01 changes a rule or completes it, its words stand at that place.
+-- constructors, and `eventFailed` is document 01's. Where document 01 changes a rule or completes it, its words stand at that place. A jump
+-- (document 02) is so many [TICK]s.
 use Prim.Native.Nat.{ℕ, suc, _+_, _-_, _<_, _≤_}
 use mathlib.Core.Path.{_≡_}
 use mathlib.Core.Logic.{_↔_}
@@ -346,6 +347,24 @@ pub data Whole (c : Contract) : Configuration → Mark → List Label → Config
       → Statements m ss ls m' []
       → Table2 c (runtime Φ m' (left [] n W q) Ψ) change C'
       → Whole c C μ ls C'
+
+-- so many [TICK]s
+pub data Ticks (c : Contract) : ℕ → Configuration → Configuration → Type 0 where
+  no-tick : {C : Configuration} → Ticks c 0 C C
+  one-more : {n : ℕ} {C C' C'' : Configuration} → Table2 c C time C' → Ticks c n C' C'' → Ticks c (suc n) C C''
+
+-- where a jump to T ends: at T, or not after it where an event is ready
+pub data Stop (c : Contract) (T : ℤ) (q : ℕ) (m : Memory) (Ψ : List Pending) : Type 0 where
+  at-time : pos (m .clock) ≡ T → Stop c T q m Ψ
+  at-event : {k : ℕ} {p : Pending} → leZ (pos (m .clock)) T ≡ true → First (Ready c q (m .clock)) k p Ψ → Stop c T q m Ψ
+
+-- a jump to T, where no event is ready now: so many [TICK]s, maybe none
+pub data Jump (c : Contract) (T : ℤ) : Configuration → Configuration → Type 0 where
+  jump : {n q : ℕ} {m m' : Memory} {Ψ Ψ' : List Pending}
+      → NothingReady c q m Ψ
+      → Ticks c n (runtime (inState q) m nothing Ψ) (runtime (inState q) m' nothing Ψ')
+      → Stop c T q m' Ψ'
+      → Jump c T (runtime (inState q) m nothing Ψ) (runtime (inState q) m' nothing Ψ')
 
 -- ---- the configuration of a state: idle
 

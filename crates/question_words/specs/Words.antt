@@ -55,6 +55,7 @@ table =
     ∷ record { number = 53; words = "a number that names nothing of its kind" }
     ∷ record { number = 60; words = "the page buffer is under 5185 bytes" }
     ∷ record { number = 61; words = "not an asset payout to a known party" }
+    ∷ record { number = 62; words = "that time is past" }
     ∷ []
 
 -- the words in the first of these rows with a number, none where no row has it

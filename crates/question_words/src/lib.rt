@@ -142,7 +142,7 @@ fn of_lines(number: u8, buffer: &mut [u8; Sentence::BYTES]) -> usize
     )
 }
 
-// Those of document 02: 60 and 61.
+// Those of document 02: 60 to 62.
 fn of_requests(number: u8, buffer: &mut [u8; Sentence::BYTES]) -> usize
     requires { ⌜ 60 ≤ number ⌝ }
     ensures { λ r. ⌜ Said (now (buffer .entry)) (wordsOf number) r (now (buffer .exit)) ⌝ }
@@ -150,7 +150,8 @@ fn of_requests(number: u8, buffer: &mut [u8; Sentence::BYTES]) -> usize
     put(
         b"\
             the page buffer is under 5185 bytes\n\
-            not an asset payout to a known party\n",
+            not an asset payout to a known party\n\
+            that time is past\n",
         number - 60,
         buffer,
     )

@@ -1,4 +1,4 @@
-// The questions that can refuse, by document 01's number. Definitions in specs/ write the number itself, code the name.
+// The questions that can refuse, by the documents' number. Definitions in specs/ write the number itself, code the name.
 
 // Reading.
 
@@ -63,7 +63,7 @@ pub const SAME_CLAUSES: u8 = 23;
 // Agreed values equal to those set?
 pub const SAME_VALUES: u8 = 24;
 
-// Call; 22 and 25 are a tick's too, 22 a firing's.
+// Call; 22 and 25 are a tick's and a jump's too, 22 a firing's.
 
 // Agreed?
 pub const AGREED: u8 = 22;
@@ -129,7 +129,7 @@ pub const SOMETHING_DUE: u8 = 41;
 // Session line within 512 bytes before its LF?
 pub const LINE_LENGTH: u8 = 50;
 
-// An agreement, a call or a tick?
+// An agreement, a call, a tick or a jump?
 pub const LINE_FORM: u8 = 51;
 
 // Result buffer of at least 128 bytes?
@@ -145,3 +145,8 @@ pub const PAGE_ROOM: u8 = 60;
 
 // Is each entry an asset payout by one of the two rules to a known party, with clock and amount 0 to top?
 pub const PAGE_ENTRIES: u8 = 61;
+
+// Jump (document 02, F-3), after a tick's 22 and 25.
+
+// Is the time not before the clock?
+pub const TIME_NOT_PAST: u8 = 62;

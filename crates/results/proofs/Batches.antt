@@ -47,7 +47,8 @@ refusal-byte n h =
     of-either (eqb n 3) _ h (λ t. omega (arith, eqb-true n 3 t)) λ h.
     of-either (eqb n 4) _ h (λ t. omega (arith, eqb-true n 4 t)) λ h.
     of-either (ranges 20 n 37) _ h (λ t. omega (arith, ranges-of 20 n 37 t .1)) λ h.
-    of-either (ranges 39 n 41) _ h (λ t. omega (arith, ranges-of 39 n 41 t .1)) λ t. omega (arith, ranges-of 50 n 51 t .1)
+    of-either (ranges 39 n 41) _ h (λ t. omega (arith, ranges-of 39 n 41 t .1)) λ h.
+    of-either (ranges 50 n 51) _ h (λ t. omega (arith, ranges-of 50 n 51 t .1)) λ t. omega (arith, eqb-true n 62 t)
 
 -- a report in range has a byte there: at most 256 assets are enough
 ok-byte : (c : Contract) → length (c .assets) ≤ 256 → (r : Report) → reportOk c r ≡ true → getD (coded r) 1 0 < 256

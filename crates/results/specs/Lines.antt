@@ -27,7 +27,7 @@ valueOk c kind value =
 
 -- the numbers that refuse a step or a session line
 unfoldable pub refusal : ℕ → Bool
-refusal n = eqb n 3 || (eqb n 4 || (ranges 20 n 37 || (ranges 39 n 41 || ranges 50 n 51)))
+refusal n = eqb n 3 || (eqb n 4 || (ranges 20 n 37 || (ranges 39 n 41 || (ranges 50 n 51 || eqb n 62))))
 
 -- the numbers that refuse a text
 unfoldable pub textRefusal : ℕ → Bool
@@ -42,7 +42,7 @@ reportOk c (Failed n) = ranges 30 n 36
 
 -- ---- the lines
 
--- the printed name of a rule: 0 an agreement, 1 a call, 2 a firing, 3 a tick
+-- the printed name of a rule: 0 an agreement, 1 a call, 2 a firing, 3 a tick or a jump
 unfoldable pub ruleName : ℕ → List ℕ
 ruleName rule =
     pick (eqb rule 0) (spelled agree) (pick (eqb rule 1) (spelled function) (pick (eqb rule 2) (spelled eventMatch) (spelled tick)))

@@ -11,7 +11,7 @@ mod reports;
 
 // A line that the desk prints.
 pub enum Report {
-    // A rule (0 an agreement, 1 a call, 2 a firing, 3 a tick), and the state's number and the clock after it.
+    // A rule (0 an agreement, 1 a call, 2 a firing, 3 a tick or a jump), and the state's number and the clock after it.
     Ruled(u8, usize, u64),
     // A label: its kind (1 an integer, 2 a string, 3 an asset), its party and its value.
     Sent(u8, usize, i64),

@@ -33,7 +33,8 @@ fn is_refusal(n: u8) -> bool
         | ((n == questions::STATE_RANGES)
             | (between(questions::LABEL_ROOM, n, questions::PARAMETERS_EMPTY)
                 | (between(questions::PENDING_ROOM, n, questions::SOMETHING_DUE)
-                    | between(questions::LINE_LENGTH, n, questions::LINE_FORM))))
+                    | (between(questions::LINE_LENGTH, n, questions::LINE_FORM)
+                        | (n == questions::TIME_NOT_PAST)))))
 }
 
 pub(crate) fn is_text_refusal(n: u8) -> bool

@@ -8,3 +8,4 @@ pub mod Each
 pub mod Dues
 pub mod Fresh
 pub mod Within
+pub mod Passing

@@ -1,7 +1,8 @@
--- The state of a contract: fresh, within its ranges (question 4), and which pending event is due.
-use Prim.Native.Nat.{ℕ, zero, suc, _-_}
+-- The state of a contract: fresh, within its ranges (question 4), which pending event is due, and how time passes.
+use Prim.Native.Nat.{ℕ, zero, suc, _-_, _≤_, _<_}
 use mathlib.Core.Bool.{Bool, true, false, not, _&&_}
 use mathlib.Core.List.{List, [], _∷_, _++_}
+use mathlib.Core.Path.{_≡_}
 use lib.ListN.{length, getD, take, drop, set}
 use lib.Dec.{eqb, leb, ltb}
 use lib.IntN.{ℤ, pos}
@@ -197,6 +198,28 @@ joinedBy s p = pick (ltb (s .pending) maxPending) (withTimes s (s .clock) (suc (
 -- time passes: the events of the old clock are dropped, and the clock rises by 1
 abbrev pub timePassed : State → State
 timePassed s = later (lapsed s)
+
+-- time passes n times
+unfoldable pub passedTimes : ℕ → State → State
+passedTimes zero s = s
+passedTimes (suc n) s = passedTimes n (timePassed s)
+
+-- 0 where an event is due
+abbrev pub unlessDue : ℕ → Due → ℕ
+unlessDue n (At k) = 0
+unlessDue n Nothing = n
+
+-- how many times time passes until an event is due, `most` if none is due before
+unfoldable pub timesUntilDue : Contract → ℕ → State → ℕ
+timesUntilDue c zero s = 0
+timesUntilDue c (suc most) s = unlessDue (suc (timesUntilDue c most (timePassed s))) (dueIn c s)
+
+-- n is the least number of times after which an event is due, or `most` if there is no such number below `most`; proved (`first-stop`) of
+-- `timesUntilDue c most s`, and of no other number (`one-stop`)
+pub record FirstStop (c : Contract) (most : ℕ) (s : State) (n : ℕ) : Type 0 where
+  pub no-further : n ≤ most
+  pub not-before : (k : ℕ) → k < n → dueIn c (passedTimes k s) ≡ Nothing
+  pub due-or-most : dueIn c (passedTimes n s) ≡ Nothing → n ≡ most
 
 -- ---- names
 

@@ -1,7 +1,7 @@
 // The state of a contract, handed on by value.
 ghost use mathlib.Core.Path.{_≡_};
-ghost use mathlib.Core.Bool.{true, not, _&&_};
-ghost use Prim.Native.Nat.{suc};
+ghost use mathlib.Core.Bool.{true, _&&_};
+ghost use Prim.Native.Nat.{suc, _+_, _-_};
 ghost use mathlib.Core.List.{_++_};
 ghost use lib.IntN.{pos};
 ghost use lib.ListN.{take, drop};
@@ -11,8 +11,8 @@ ghost use Rattle.numbers.specs.Numbers.{eqZ};
 ghost use Rattle.contract.specs.Limits.{top, maxFields, maxAssets};
 ghost use Rattle.laws.specs.Lists.{allBelow, keep};
 ghost use Rattle.contract.specs.Decode.{contractOf};
-ghost use Rattle.state.specs.States.{freshAt, eventOf, fieldOk, fieldSlotOk, assetSlotOk, maxPending, pendingOk, isBlank, pendingSlotOk, stateOk, dueIn, lapsed, removed, joinedBy};
-ghost use Rattle.state.specs.Private.{slotsOf};
+ghost use Rattle.state.specs.States.{freshAt, eventOf, fieldOk, fieldSlotOk, assetSlotOk, maxPending, pendingOk, isBlank, pendingSlotOk, stateOk, dueIn, removed, joinedBy, passedTimes, timesUntilDue};
+ghost use Rattle.state.specs.Private.{slotsOf, notDropped, comesDue};
 use contract::Contract;
 
 // A pending event: its function, which of that function's events it is, and its time.
@@ -318,9 +318,19 @@ pub fn first_due(table: &[u64], s: State) -> Due
 
 // ---- The pending events change.
 
-// The pending events without those whose time equals the clock.
-fn without_time(events: [Pending; State::PENDING], pending: usize, clock: u64) -> Slots
-    ensures { λ r. ⌜ r ≡ slotsOf (keep (λ p. not (eqb (p .time) clock)) (take pending events)) ⌝ }
+// Whether an event of this time is not dropped while the clock rises from one value to another.
+fn stays(time: u64, from: u64, to: u64) -> bool
+    ensures { λ r. ⌜ r ≡ notDropped from to time ⌝ }
+{
+    if time < from {
+        return true;
+    }
+    to <= time
+}
+
+// The pending events without those that are dropped while the clock rises from one value to another.
+fn without_lapsed(events: [Pending; State::PENDING], pending: usize, from: u64, to: u64) -> Slots
+    ensures { λ r. ⌜ r ≡ slotsOf (keep (λ p. notDropped from to (p .time)) (take pending events)) ⌝ }
 {
     let blank = Pending {
         function: 0,
@@ -335,7 +345,7 @@ fn without_time(events: [Pending; State::PENDING], pending: usize, clock: u64) -
             break;
         }
         let p = events[i];
-        if p.time != clock {
+        if stays(p.time, from, to) {
             out[count] = p;
             count += 1;
         }
@@ -375,19 +385,6 @@ fn without_place(events: [Pending; State::PENDING], pending: usize, place: usize
     }
 }
 
-// The state without the pending events whose time equals the clock.
-pub fn lapse(s: State) -> State
-    ensures { λ r. ⌜ r ≡ lapsed s ⌝ }
-{
-    let events = s.events;
-    let kept = without_time(events, s.pending, s.clock);
-    let left = kept.events;
-    let mut next = s;
-    next.pending = kept.pending;
-    next.events = left;
-    next
-}
-
 // The state without the pending event at place i.
 pub fn remove(s: State, i: usize) -> State
     ensures { λ r. ⌜ r ≡ removed s i ⌝ }
@@ -414,5 +411,66 @@ pub fn join(s: State, p: Pending) -> State
     let mut next = s;
     next.pending = pending + 1;
     next.events = events;
+    next
+}
+
+// ---- Time passes.
+
+// The time of an event that comes due in this state, from `from` on and before `stop`; else `stop`.
+fn sooner(table: &[u64], p: Pending, state: usize, from: u64, stop: u64) -> u64
+    ensures { λ r. ⌜ r ≡ pick (comesDue (contractOf (now (table .entry))) state from stop p) (p .time) stop ⌝ }
+{
+    let time = p.time;
+    if time < from {
+        return stop;
+    }
+    if stop <= time {
+        return stop;
+    }
+    if event_state(table, p) == state {
+        return time;
+    }
+    stop
+}
+
+// The first clock value, from the state's on, at which an event is due, and `to` if none is due before it; the state's clock where `to` is before that.
+pub fn next_stop(table: &[u64], s: State, to: u64) -> u64
+    ensures { λ r. ⌜ r ≡ s .clock + timesUntilDue (contractOf (now (table .entry))) (to - s .clock) s ⌝ }
+{
+    let state = s.state;
+    let clock = s.clock;
+    let pending = s.pending;
+    let events = s.events;
+    if to < clock {
+        return clock;
+    }
+    let mut stop = to;
+    let mut i: usize = 0;
+    while i < State::PENDING {
+        if pending <= i {
+            return stop;
+        }
+        let p = events[i];
+        stop = sooner(table, p, state, clock, stop);
+        i += 1;
+    }
+    stop
+}
+
+// Time passes until the clock is `to`; a state at or past it stays as it is.
+pub fn pass(s: State, to: u64) -> State
+    ensures { λ r. ⌜ r ≡ passedTimes (to - s .clock) s ⌝ }
+{
+    let clock = s.clock;
+    if to <= clock {
+        return s;
+    }
+    let events = s.events;
+    let kept = without_lapsed(events, s.pending, clock, to);
+    let left = kept.events;
+    let mut next = s;
+    next.clock = to;
+    next.pending = kept.pending;
+    next.events = left;
     next
 }

@@ -1,7 +1,7 @@
 // The machine's steps with the labels in a lent slice of entries: first to last, and entries after them keep what they held.
 ghost use mathlib.Core.Path.{_≡_};
 ghost use lib.ListN.{length};
-ghost use Rattle.machine.specs.Steps.{step, fired, ticked};
+ghost use Rattle.machine.specs.Steps.{step, fired, ticked, jumped};
 ghost use Rattle.steps.specs.Left.{countOf, copiedOf, outOf, leftOf, slotsOf, agreeOf, callOf};
 use outcomes::Outcome;
 use outcomes::Stepped;
@@ -107,6 +107,12 @@ fn tick_out(table: &[u64], s: State, room: usize) -> Out
     part(machine::tick(table, s, room))
 }
 
+fn jump_out(table: &[u64], s: State, to: i64, room: usize) -> Out
+    ensures { λ r. ⌜ r ≡ outOf (step (now (table .entry)) room s (λ c. jumped c s to)) ⌝ }
+{
+    part(machine::jump(table, s, room, to))
+}
+
 // Agreement: the parties' clauses, with the fields' values.
 pub fn agree(
     table: &[u64],
@@ -161,6 +167,17 @@ pub fn tick(table: &[u64], s: State, labels: &mut [Label]) -> Left
     ensures { λ r. ⌜ (r ≡ leftOf (step (now (table .entry)) (length (now (labels .entry))) s (λ c. ticked c s))) × (now (labels .exit) ≡ slotsOf (now (labels .entry)) (step (now (table .entry)) (length (now (labels .entry))) s (λ c. ticked c s))) ⌝ }
 {
     let out = tick_out(table, s, labels.len());
+    let from = out.labels;
+    let n = out.count;
+    copy(labels, from, n);
+    out.left
+}
+
+// The clock rises until an event is due, and to `to` at most.
+pub fn jump(table: &[u64], s: State, to: i64, labels: &mut [Label]) -> Left
+    ensures { λ r. ⌜ (r ≡ leftOf (step (now (table .entry)) (length (now (labels .entry))) s (λ c. jumped c s to))) × (now (labels .exit) ≡ slotsOf (now (labels .entry)) (step (now (table .entry)) (length (now (labels .entry))) s (λ c. jumped c s to))) ⌝ }
+{
+    let out = jump_out(table, s, to, labels.len());
     let from = out.labels;
     let n = out.count;
     copy(labels, from, n);

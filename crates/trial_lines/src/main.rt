@@ -1,7 +1,8 @@
-// Reads each line of standard input as a session line and prints what it asks for: `refused` and the question; `tick`; `call`, where
-// its party's and its function's name start and end, its values and its assets; or `agreement` and its parts. A part is where its
-// party's name starts and ends, its verb's number, and each field's start, end and value.
-// Expected results: 106 lines, one for each line of `stdin`, to be read against document 01 (50 and 51); who worked them out, and how, is not recorded here.
+// Reads each line of standard input as a session line and prints what it asks for: `refused` and the question; `tick`; `jump` and its
+// clock; `call`, where its party's and its function's name start and end, its values and its assets; or `agreement` and its parts. A part
+// is where its party's name starts and ends, its verb's number, and each field's start, end and value.
+// Expected results: 137 lines, one for each line of `stdin`. The 31 of jumps and of lines that are nearly one are worked out by hand from
+// document 02, F-3; the others are to be read against document 01 (50 and 51), and who worked them out, and how, is not recorded here.
 ghost use Prim.Native.Nat.{_≤_};
 ghost use lib.ListN.{length};
 use libc::STDOUT_FILENO;
@@ -133,6 +134,11 @@ fn show(text: &[u8]) {
             print(b"\n");
         }
         Request::Tick => print(b"tick\n"),
+        Request::Jump(clock) => {
+            print(b"jump");
+            print_integer(clock);
+            print(b"\n");
+        }
         Request::Call => print_call(line),
         Request::Agreement => print_agreement(text),
     }

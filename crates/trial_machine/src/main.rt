@@ -12,13 +12,14 @@
 //   c ROOM PARTY FUNCTION V V .. /A A ..                 call, with values and assets
 //   e ROOM               firing
 //   t ROOM               tick
+//   j ROOM T             jump to clock T
 //   p NAME               question 3: print the name and whether the table passes
 //   # ..                 print the line
 // A step prints its line and what came of it, the state's number or -, clock, number of pending events | assets | fields (_ nothing,
 // "N string N, ? else), and a line a label: kind, party, value. Other lines are left out; those with a semicolon are contracts' texts.
-// Expected results: worked steps on contracts whose texts stand beside their words in `stdin`, to be read against document 01 (who worked
-// them out, and how, is not recorded here); and for question 3 whether
-// a table passes, as its name in `stdin` says.
+// Expected results: worked steps on contracts whose texts stand beside their words in `stdin`, to be read against the documents (who worked
+// them out, and how, is not recorded here; those of jumps were worked out from document 02, F-3, before they were run); and for question 3
+// whether a table passes, as its name in `stdin` says.
 ghost use Prim.Native.Nat.{_≤_, _<_};
 ghost use lib.ListN.{length};
 use contract::Contract;
@@ -739,15 +740,27 @@ fn ask(line: &[u8], table: &[u64]) {
 }
 
 fn asks_step(kind: u8) -> bool {
-    (kind == b'a') | (kind == b'c') | (kind == b'e') | (kind == b't')
+    (kind == b'a') | (kind == b'c') | (kind == b'e') | (kind == b't') | (kind == b'j')
 }
 
-// Agreement, call, firing or tick, by the line's first letter.
+// A jump, by its room and its time.
+fn jump(line: &[u8], table: &[u64], s: State) -> Stepped {
+    let room = number_at(line, 2);
+    machine::jump(
+        table,
+        s,
+        room.value as usize,
+        integer_at(line, room.next).value,
+    )
+}
+
+// Agreement, call, firing, jump or tick, by the line's first letter.
 fn step(line: &[u8], table: &[u64], s: State, kind: u8) -> Stepped {
     match kind {
         b'a' => agree(line, table, s),
         b'c' => call(line, table, s),
         b'e' => machine::fire(table, s, number_at(line, 2).value as usize),
+        b'j' => jump(line, table, s),
         _ => machine::tick(table, s, number_at(line, 2).value as usize),
     }
 }

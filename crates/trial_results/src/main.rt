@@ -13,6 +13,7 @@
 // A report prints its line, then how many bytes were written, those bytes, and whether the others are still dots; or the number
 // that refused, and whether all are. Reports at once also print how many were written.
 // Expected results: the lines that document 01 lists and others of each kind, with the answers of questions 52, 3 and 53; who worked them out, and how, is not recorded here.
+// Those of the refusals 60 to 63 were worked out from document 02, F-3, before they were run.
 ghost use Prim.Native.Nat.{_≤_, _<_};
 ghost use lib.ListN.{length};
 use contract::Contract;

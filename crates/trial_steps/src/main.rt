@@ -1,21 +1,27 @@
-// Firings with the labels in a lent slice. Lines of standard input, numbers with one space between them:
+// Firings and jumps with the labels in a lent slice. Lines of standard input, numbers with one space between them:
 //   w AT V V ..          words of the table from AT on
 //   f CLOCK              the fresh state at a clock
 //   s h AGREED STATE CLOCK PENDING, s v PLACE KIND NUMBER TEXT, s a PLACE AMOUNT, s e PLACE FUNCTION EVENT TIME
 //                        the state's own numbers, a field, an asset, an event are set
-//   e SLOTS              firing with a slice of 0, 63, 64 or 100 entries, entry i of kind 9, party i and value 1000
+//   e SLOTS              firing with a slice of up to 100 entries, entry i of kind 9, party i and value 1000
+//   j SLOTS T            jump to clock T with such a slice; a minus stands straight before T's digits
+//   e SLOTS 1, j SLOTS T 1
+//                        the next line has the state that it left, which is printed: clock, state, the pending events' times, oldest first
 //   # ..                 print the line
-// A firing prints its line, what came of it, how many labels there are, and how many entries the slice kept; and then each entry
-// that it did not keep: its place, kind, party, value. The next line has the state from before it. Lines with a semicolon are contracts' texts.
+// A step prints its line, what came of it, how many labels there are, and how many entries the slice kept; and then each entry
+// that it did not keep: its place, kind, party, value. Without that last 1 the next line has the state from before it. Lines with a semicolon are contracts' texts.
 // Expected results: to be read against document 01 (question 20, the labels' order; entries past them are kept); who worked them out, and how, is not recorded here.
+// Those of jumps were worked out from document 02, F-3, before they were run.
 ghost use mathlib.Core.Path.{_≡_};
 ghost use Prim.Native.Nat.{_≤_, _<_};
 ghost use lib.ListN.{length, take, drop};
 ghost use mathlib.Core.List.{_++_};
-ghost use Rattle.machine.specs.Steps.{step, fired};
+ghost use Rattle.machine.specs.Steps.{step, fired, jumped};
 ghost use Rattle.steps.specs.Left.{leftOf, slotsOf};
 use contract::Contract;
 use libc::STDOUT_FILENO;
+use numbers::Answer;
+use numbers::Operator;
 use numbers::Value;
 use outcomes::Outcome;
 use outcomes::Rule;
@@ -102,10 +108,31 @@ fn end_of(text: &[u8], start: usize, mark: u8) -> usize
 
 // ---- The state's numbers are set.
 
-// The integer of a magnitude, and the greatest where it does not fit.
-fn signed(v: u64) -> i64 {
+fn integer_of(v: Value) -> i64 {
+    match v {
+        Value::Integer(z) => z,
+        Value::Text(_) => 0,
+    }
+}
+
+fn negated(z: i64) -> i64 {
+    let answer = numbers::apply(Operator::Minus, Value::Integer(0), Value::Integer(z));
+    match answer {
+        Answer::Is(v) => integer_of(v),
+        Answer::Refused(_) => 0,
+    }
+}
+
+// The integer of a magnitude, and the nearest where it does not fit.
+fn signed(minus: bool, v: u64) -> i64 {
     if Contract::TOP < v {
+        if minus {
+            return Value::LEAST;
+        }
         return Value::TOP;
+    }
+    if minus {
+        return negated(v as i64);
     }
     v as i64
 }
@@ -140,7 +167,7 @@ fn set_field(s: State, n: Four) -> State {
     let mut numbers = s.numbers;
     let mut texts = s.texts;
     kinds[at] = (n.second % 256) as u8;
-    numbers[at] = signed(n.third);
+    numbers[at] = signed(false, n.third);
     texts[at] = (n.fourth % 256) as u8;
     let mut next = s;
     next.kinds = kinds;
@@ -277,6 +304,28 @@ fn print_entry(label: Label, i: usize) {
     print(b"\n");
 }
 
+fn print_times(events: [Pending; State::PENDING], pending: usize) {
+    let mut i: usize = 0;
+    while i < State::PENDING {
+        if pending <= i {
+            return;
+        }
+        print_number(events[i].time);
+        i += 1;
+    }
+}
+
+fn print_state(s: State) {
+    let events = s.events;
+    print(b"  clock");
+    print_number(s.clock);
+    print(b", state");
+    print_number(s.state as u64);
+    print(b", times");
+    print_times(events, s.pending);
+    print(b"\n");
+}
+
 // One more if an entry is as it was.
 fn kept_with(kept: usize, label: Label, i: usize) -> usize {
     if same(label, i) {
@@ -285,9 +334,9 @@ fn kept_with(kept: usize, label: Label, i: usize) -> usize {
     kept
 }
 
-// ---- Firing.
+// ---- Firing and jump.
 
-// What a firing left, and the entries of which the first were lent to it.
+// What a step left, and the entries of which the first were lent to it.
 struct Shown {
     left: Left,
     labels: [Label; Shown::ENTRIES],
@@ -326,6 +375,16 @@ fn fire_on(table: &[u64], s: State, before: [Label; Shown::ENTRIES], n: usize) -
     Shown { left, labels }
 }
 
+// A jump with the first n entries.
+fn jump_on(table: &[u64], s: State, to: i64, before: [Label; Shown::ENTRIES], n: usize) -> Shown
+    requires { ⌜ n ≤ 100 ⌝ }
+    ensures { λ r. ⌜ (r .left ≡ leftOf (step (now (table .entry)) n s (λ c. jumped c s to))) × (r .labels ≡ slotsOf (take n before) (step (now (table .entry)) n s (λ c. jumped c s to)) ++ drop n before) ⌝ }
+{
+    let mut labels = before;
+    let left = steps::jump(table, s, to, &mut labels[..n]);
+    Shown { left, labels }
+}
+
 // How many of the first n entries are as they were.
 fn kept(labels: [Label; Shown::ENTRIES], n: usize) -> usize
     requires { ⌜ n ≤ 100 ⌝ }
@@ -349,15 +408,16 @@ fn print_entries(labels: [Label; Shown::ENTRIES], n: usize)
     }
 }
 
-fn fire_with(table: &[u64], s: State, n: usize)
+// Prints what a step left, and hands back its state.
+fn show(shown: Shown, n: usize) -> State
     requires { ⌜ n ≤ 100 ⌝ }
 {
-    let shown = fire_on(table, s, marks(), n);
     let left = shown.left;
     let labels = shown.labels;
     print_left(left);
     print_kept(kept(labels, n));
     print_entries(labels, n);
+    left.state
 }
 
 // ---- Lines.
@@ -367,16 +427,51 @@ fn heading(line: &[u8]) {
     print(b"\n");
 }
 
-fn fire(line: &[u8], table: &[u64], s: State) {
-    print(line);
-    let slots = number_at(line, 2).value;
-    match slots {
-        0 => fire_with(table, s, 0),
-        63 => fire_with(table, s, 63),
-        64 => fire_with(table, s, 64),
-        100 => fire_with(table, s, 100),
-        _ => print(b": ?\n"),
+// The state that the next line has: the step's where the number at `at` is not 0.
+fn handed_on(line: &[u8], at: usize, before: State, after: State) -> State {
+    if number_at(line, at).value == 0 {
+        return before;
     }
+    print_state(after);
+    after
+}
+
+fn fire(line: &[u8], table: &[u64], s: State) -> State {
+    print(line);
+    let slots = number_at(line, 2);
+    let n = slots.value as usize;
+    if Shown::ENTRIES < n {
+        print(b": ?\n");
+        return s;
+    }
+    let after = show(fire_on(table, s, marks(), n), n);
+    handed_on(line, slots.next, s, after)
+}
+
+// Where the digits of a number that may be negative start.
+fn digits_at(line: &[u8], at: usize) -> usize {
+    if at < line.len() {
+        if line[at] == b'-' {
+            return at + 1;
+        }
+    }
+    at
+}
+
+fn jump(line: &[u8], table: &[u64], s: State) -> State {
+    print(line);
+    let slots = number_at(line, 2);
+    let start = slots.next;
+    let digits = digits_at(line, start);
+    let magnitude = number_at(line, digits);
+    let n = slots.value as usize;
+    if Shown::ENTRIES < n {
+        print(b": ?\n");
+        return s;
+    }
+    let to = signed(digits != start, magnitude.value);
+    let after = show(jump_on(table, s, to, marks(), n), n);
+    handed_on(line, magnitude.next, s, after)
 }
 
 // The state after what a line says of it.
@@ -391,10 +486,8 @@ fn step_line(line: &[u8], table: &mut [u64], s: State) -> State {
         }
         b'f' => State::fresh(number_at(line, 2).value),
         b's' => set(line, s),
-        b'e' => {
-            fire(line, table, s);
-            s
-        }
+        b'e' => fire(line, table, s),
+        b'j' => jump(line, table, s),
         b'#' => {
             heading(line);
             s

@@ -24,11 +24,11 @@ returns-3 c =
 
 returns-4 : tie.Need-returns-4
 returns-4 c =
-    c .without-labels .ensures ∙ ap replyOf (tick-on _ ((c .before .before .before .before .before .before .before .before .before) .args .s) (not-false _ (c .before .before .before .before .before .before .if1 .left)) (sym (c .before .before .before .before .before .first-due .ensures) ∙ c .before .before .before .enum-told .given .1) _ (c .before .lapse .ensures) (c .before .before .if2 .left))
+    c .without-labels .ensures ∙ ap replyOf (tick-on _ ((c .before .before .before .before .before .before .before .before .before) .args .s) (not-false _ (c .before .before .before .before .before .before .if1 .left)) (sym (c .before .before .before .before .before .first-due .ensures) ∙ c .before .before .before .enum-told .given .1) _ (c .before .pass .ensures) (c .before .before .if2 .left))
 
 pub tick-on-spec : {M : Type 1} → statement M
 tick-on-spec =
     tie.close
     (tie.spec
     (λ c κs. search needs) returns (λ c κs. search needs) enum-told (λ c. search needs) (λ c κs. search needs) returns-2
-    (λ c κs. search needs) returns-3 (λ c κs. search needs) (λ c. search needs) (λ c κs. search needs) returns-4)
+    (λ c κs. search needs) returns-3 (λ c. search needs) (λ c κs. search needs) (λ c κs. search needs) returns-4)
