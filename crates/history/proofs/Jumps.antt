@@ -19,9 +19,8 @@ use Rattle.contract.specs.Check.{passes}
 use Rattle.contract.proofs.Fitting.{FitsContract, fits-contract}
 use Rattle.contract_laws.proofs.Sound.{sound}
 use Rattle.state.specs.declared.State.{State}
-use Rattle.state.specs.declared.Due.{Due}
 use Rattle.state.specs.declared.Due.the-variants as due
-use Rattle.state.specs.States.{live, stateOk, dueIn, withPending, lapsed, timePassed, passedTimes, timesUntilDue, FirstStop}
+use Rattle.state.specs.States.{stateOk, dueIn, withPending, lapsed, timePassed, passedTimes, timesUntilDue, FirstStop}
 use Rattle.state.proofs.Passing.{passed-clock, passed-agreed, passed-fewer, passed-ok, first-stop}
 use Rattle.statements.specs.declared.Label.{Label}
 use Rattle.outcomes.specs.declared.Rule.the-variants.{Tick}
@@ -100,7 +99,7 @@ module _ (w : List ℕ) (p : passes w ≡ true) where
       let g : Ended c s T = jump-ended c s T e l in
       let run : (ls : List (List Label)) → length ls ≤ n → allRoomy w ls ≡ true → Passed s ls =
       λ ls h r. ticks-pass ls s o a (omega (arith, g .most)) (λ k i. f .not-before k (omega arith)) r in
-      subst (IsTicks w s T) (sym (answered-by w p s o (record { request = jump T; slice = x }) m ∙ jumped-so c s T a d l))
+      subst (IsTicks w s T) (sym (answered-by w p s o (record { request = jump T; slice = x }) (leb-true (roomNeeded c) (length x) m) ∙ jumped-so c s T a d l))
       (record {
         count = n;
         all-ticks = λ ls q r. run ls (omega arith) r .accepted;

@@ -31,14 +31,19 @@ abbrev pub ScheduledIn : Contract → ℕ → Scheduled → Type 0
 ScheduledIn c t (times ps) = Each (λ p. pendingOk c t p ≡ true) ps
 ScheduledIn c t (no q) = Unit {0}
 
--- a 64-bit time that is not before a clock
+-- a time that is not before a clock
+pub ahead : (clock : ℕ) (z : ℤ) → leZ (pos clock) z ≡ true → (clock ≤ natAbs z) × (pos (natAbs z) ≡ z)
+ahead clock (pos m) l = (leb-true clock m l, refl)
+ahead clock (negsuc m) l = true-false (sym l)
+
+-- and a 64-bit integer
 pub record TimeIn (clock : ℕ) (z : ℤ) : Type 0 where
   pub from : clock ≤ natAbs z
   pub most : natAbs z ≤ top
   pub is : pos (natAbs z) ≡ z
 
 pub time-in : (clock : ℕ) (z : ℤ) → within z ≡ true → leZ (pos clock) z ≡ true → TimeIn clock z
-time-in clock (pos m) e l = record { from = leb-true clock m l; most = omega (arith, ltb-true m (2 ^ 63) e); is = refl }
+time-in clock (pos m) e l = let a = ahead clock (pos m) l in record { from = a .0; most = omega (arith, ltb-true m (2 ^ 63) e); is = a .1 }
 time-in clock (negsuc m) e l = true-false (sym l)
 
 -- event j of function n, at a time not before the clock

@@ -42,7 +42,7 @@ pub record Cleared (w : List ℕ) (s : State) (ls : List (List Label)) : Type 0 
 abbrev pub roomy : List ℕ → List Label → Bool
 roomy w l = leb (roomNeeded (contractOf w)) (length l)
 
--- and each of some
+-- each of these is
 abbrev pub allRoomy : List ℕ → List (List Label) → Bool
 allRoomy w = every (roomy w)
 
@@ -68,12 +68,12 @@ pub record IsTicks (w : List ℕ) (s : State) (T : ℤ) (r : Stepped) : Type 0 w
   pub no-further : leZ (pos (r .state .clock)) T ≡ true
   pub due-or-there : dueIn (contractOf w) (r .state) ≡ Nothing → pos (r .state .clock) ≡ T
 
--- a jump with T not before the clock, from an agreed state with nothing due; proved (`jump-ticks`) of all tables, states, 64-bit T and
--- label slices that questions 3, 4 and 20 pass, and a clause of `Holds` below
+-- a jump with T not before the clock, from an agreed state with nothing due; proved (`jump-ticks`) of every table that question 3 passes and
+-- every state that question 4 passes; a field of `Holds` below
 abbrev pub JumpIsTicks : List ℕ → State → Type 0
 JumpIsTicks w s =
     s .agreed ≡ true → dueIn (contractOf w) s ≡ Nothing → (T : ℤ) → within T ≡ true → leZ (pos (s .clock)) T ≡ true
-    → (l : List Label) → roomNeeded (contractOf w) ≤ length l → IsTicks w s T (answerTo w s (record { request = jump T; slice = l }))
+    → (l : List Label) → roomy w l ≡ true → IsTicks w s T (answerTo w s (record { request = jump T; slice = l }))
 
 -- after steps towards T with these label slices: none was refused, the clock is T, and nothing is due
 pub record There (w : List ℕ) (T : ℤ) (s : State) (ls : List (List Label)) : Type 0 where

@@ -157,6 +157,7 @@ abbrev pub towards : ℤ → Due → Request
 towards T (due.At k) = firing
 towards T due.Nothing = jump T
 
+-- that request, with a label slice
 abbrev pub stepTowards : List ℕ → ℤ → State → List Label → Step
 stepTowards w T s l = record { request = towards T (dueIn (contractOf w) s); slice = l }
 

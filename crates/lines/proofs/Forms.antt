@@ -1,4 +1,4 @@
--- The three forms of a line exclude each other; what they hold fits the arrays. Assumes nothing.
+-- The forms of a line exclude each other; what they hold fits the arrays. Assumes nothing.
 use mathlib.Core.Path.{_≡_, refl, sym, ap, _∙_}
 use mathlib.Core.Bool.{Bool, true, false}
 use mathlib.Core.List.{List, [], _∷_, _++_}
@@ -17,14 +17,14 @@ use Rattle.laws.proofs.Choice.{true-false, pick-true, pick-false}
 use Rattle.tokens.specs.Classes.{within as inRange, isLetter}
 use Rattle.lines.specs.Lines.{Span, Part, Names, Lists, Asked, refused, call, Parsed, done, no, andThen, give, otherwise, skipped, isNext, mark, end, nameFrom, name, verb, integer, list, names, lists, part, parts, tickLine, callLine, agreementLine, orRefused, asked}
 use Rattle.lines.specs.Answers.{padded, plain, lineOf, partsOf, fieldsOf}
-use Rattle.lines.specs.Private.{timeOf, requestOf, untimed}
+use Rattle.lines.specs.Private.{timeOf, requestOf}
 use Rattle.lines.specs.declared.Time.{Time}
 use Rattle.lines.specs.declared.Time.the-variants as time
 use Rattle.lines.proofs.Time.{the-type}
 use Rattle.lines.proofs.Ahead.{then-done, taken, mark-size}
 use Rattle.lines.proofs.Turns.{begin, missing, next-yes}
 use Rattle.lines.proofs.Size.{total, items-size, items-some, total-eight}
-use Rattle.lines.proofs.Times.{Timed, timed-parts, orElse, timed-told, tick-gives}
+use Rattle.lines.proofs.Times.{Timed, timed-parts, orElse, untimed, timed-told, tick-gives}
 use Rattle.lines.proofs.Calls.{integers-size}
 use Rattle.lines.proofs.Agreed.{part-size}
 

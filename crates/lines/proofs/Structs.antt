@@ -9,7 +9,7 @@ use lib.IntN.{ℤ, pos}
 use Rattle.laws.specs.Bytes.{bytes}
 use Rattle.lines.specs.Lines.{Part, Names, Lists, call, agreement, Parsed, done, no, andThen, give, mark, name, names, lists, parts, callLine, agreementLine, orRefused}
 use Rattle.lines.specs.Answers.{plain, lineOf, partsOf, fieldsOf, headsOf, spansOf, valuesOf, agreementOf}
-use Rattle.lines.specs.Private.{namesOf, untimed, StoredCall, StoredParts}
+use Rattle.lines.specs.Private.{namesOf, StoredCall, StoredParts}
 use Rattle.lines.specs.declared.Request.the-variants as request
 use Rattle.lines.specs.declared.Line.{Line}
 use Rattle.lines.specs.declared.Agreement.{Agreement}
@@ -17,6 +17,7 @@ use Rattle.lines.specs.declared.Found.{Found}
 use Rattle.lines.specs.declared.Found.the-variants as found
 use Rattle.lines.specs.declared.Names as told
 use Rattle.lines.specs.declared.Names.the-variants as told-names
+use Rattle.lines.proofs.Times.{untimed}
 use Rattle.lines.proofs.Ahead.{then-done}
 use Rattle.lines.proofs.Flat.{spans-length, values-length, heads-length}
 use Rattle.lines.proofs.Agreed.{name-span}

@@ -6,7 +6,7 @@ use Prim.Native.Nat.{ℕ}
 use lib.IntN.{ℤ}
 use Rattle.laws.specs.Choice.{pick}
 use Rattle.laws.specs.Bytes.{bytes}
-use Rattle.lines.specs.Lines.{Span, Asked, tick, jump, Parsed, done, no, andThen, give, isNext, mark, end, name, integer, isWord, word, closed, jumpEnd, tickLine}
+use Rattle.lines.specs.Lines.{Span, Asked, tick, jump, Parsed, done, no, andThen, give, isNext, mark, end, name, integer, isWord, word, closed, jumpEnd, tickLine, otherwise, callLine, agreementLine, orRefused}
 use Rattle.lines.specs.Answers.{partsOf}
 use Rattle.lines.specs.Private.{isDone, timeOf}
 use Rattle.lines.specs.declared.Time.{Time}
@@ -24,6 +24,10 @@ pub data Timed : Asked → Type 0 where
 pub timed-parts : {a : Asked} → Timed a → partsOf a ≡ []
 timed-parts ticks = refl
 timed-parts (jumps z) = refl
+
+-- what a line asks for that is no tick and no jump
+abbrev pub untimed : List ℕ → Asked
+untimed s = orRefused (otherwise (callLine s 0) (agreementLine s 0))
 
 -- this, else the other
 abbrev pub orElse : Time → Asked → Asked

@@ -6,7 +6,7 @@ use mathlib.Core.List.{List, [], _∷_, _++_}
 use lib.ListN.{length}
 use lib.Seq.{sets}
 use lib.IntN.{ℤ}
-use Rattle.lines.specs.Lines.{Span, Verb, Field, Part, Asked, refused, tick, jump, call, agreement, Parsed, done, no, otherwise, callLine, agreementLine, orRefused}
+use Rattle.lines.specs.Lines.{Span, Verb, Field, Part, Asked, refused, tick, jump, call, agreement, Parsed, done, no}
 use Rattle.lines.specs.Lines as lines
 use Rattle.lines.specs.Answers.{verbNumber, fieldsOf, headsOf, spansOf, valuesOf}
 use Rattle.lines.specs.declared.Request as declared
@@ -68,10 +68,6 @@ abbrev pub requestOf : Time → declared.Request
 requestOf time.Tick = request.Tick
 requestOf (time.Jump T) = request.Jump T
 requestOf time.Nothing = request.Refused 51
-
--- what a line asks for that is no tick and no jump
-abbrev pub untimed : List ℕ → Asked
-untimed s = orRefused (otherwise (callLine s 0) (agreementLine s 0))
 
 -- Integers that were read, stored from a place on: the place after them in the lent slice, and in the line. After a no the slice is free.
 unfoldable pub Stored : Parsed (List ℤ) → ℕ → List ℤ → Found → List ℤ → Type 0

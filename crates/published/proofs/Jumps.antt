@@ -6,11 +6,11 @@ use Prim.Native.Nat.{ℕ, zero, suc, _+_, _-_, _<_, _≤_}
 use native.Mathlib.Omega.{arith}
 use lib.ListN.{getD}
 use lib.Dec.{eqb}
-use lib.IntN.{ℤ, pos, natAbs, negsuc}
+use lib.IntN.{ℤ, pos, natAbs}
 use lib.Signed.{leZ}
-use borrow.Author.Tests.{le-leb, leb-true}
+use borrow.Author.Tests.{le-leb}
 use Rattle.laws.specs.Lists.{keep}
-use Rattle.laws.proofs.Choice.{pick-true, true-false}
+use Rattle.laws.proofs.Choice.{pick-true}
 use Rattle.numbers.specs.Numbers.{within}
 use Rattle.contract.specs.Limits.{top}
 use Rattle.contract.specs.Tree.{Contract}
@@ -28,7 +28,7 @@ use Rattle.outcomes.specs.declared.Stepped.{Stepped}
 use Rattle.outcomes.specs.Outcomes.{answered}
 use Rattle.machine.specs.Steps.{jumpByDue, jumped}
 use Rattle.machine.specs.Steps as steps
-use Rattle.history.proofs.Scheduling.{TimeIn, time-in}
+use Rattle.history.proofs.Scheduling.{ahead, TimeIn, time-in}
 use Rattle.history.proofs.Cases.{ComesOut, refusal, jumps, jump-came}
 use Rattle.published.specs.Published.{Configuration, runtime, noState, inState, nothing, afterTick, phaseOf, memoryAt, idle, time, Table2, tick, Ticks, no-tick, one-more, Stop, at-time, at-event, Jump, jump, First, here, there, None, and, Ready, NothingReady, Comes}
 use Rattle.published.proofs.Finding.{none-ready, ready-none, first-ready}
@@ -126,11 +126,6 @@ module _ {c : Contract} {T : ℤ} {q : ℕ} {m : Memory} {Ψ : List Pending} whe
   stop-there : Stop c T q m Ψ → NothingReady c q m Ψ → pos (m .clock) ≡ T
   stop-there (at-time e) r = e
   stop-there (at-event l f) r = absurd (some-none f r)
-
--- a time that is not before a clock value is that far ahead
-ahead : (k : ℕ) (z : ℤ) → leZ (pos k) z ≡ true → (k ≤ natAbs z) × (pos (natAbs z) ≡ z)
-ahead k (pos m) l = (leb-true k m l, refl)
-ahead k (negsuc m) l = true-false (sym l)
 
 module _ (c : Contract) (s : State) (T : ℤ) where
   -- the ticks of a derivation are those of the machine

@@ -353,7 +353,7 @@ pub data Ticks (c : Contract) : ℕ → Configuration → Configuration → Type
   no-tick : {C : Configuration} → Ticks c 0 C C
   one-more : {n : ℕ} {C C' C'' : Configuration} → Table2 c C time C' → Ticks c n C' C'' → Ticks c (suc n) C C''
 
--- where a jump to T ends: at T, or not after it where an event is ready
+-- where a jump to T ends: at T, or where an event is ready and the clock is not after T
 pub data Stop (c : Contract) (T : ℤ) (q : ℕ) (m : Memory) (Ψ : List Pending) : Type 0 where
   at-time : pos (m .clock) ≡ T → Stop c T q m Ψ
   at-event : {k : ℕ} {p : Pending} → leZ (pos (m .clock)) T ≡ true → First (Ready c q (m .clock)) k p Ψ → Stop c T q m Ψ

@@ -1,6 +1,6 @@
 -- Time passes so many times: the state then, what is due then, and where it stops. Assumes nothing.
 use mathlib.Core.Path.{_≡_, refl, sym, ap, subst, _∙_}
-use mathlib.Core.Bool.{Bool, true, false, not, _&&_, _||_}
+use mathlib.Core.Bool.{Bool, true, false, not, _&&_}
 use mathlib.Core.List.{List, [], _∷_, _++_}
 use Prim.Native.Nat.{ℕ, zero, suc, _+_, _-_, _<_, _≤_}
 use native.Mathlib.Nat.{add-zero}
@@ -45,7 +45,7 @@ module _ {A : Type 0} where
   keep-all p f [] = refl
   keep-all p f (x ∷ l) = pick-true _ _ _ (f x) ∙ ap (λ (k : List A). x ∷ k) (keep-all p f l)
 
-  pub each-map : {P Q : A → Type 0} → ((x : A) → P x → Q x) → {l : List A} → Each P l → Each Q l
+  each-map : {P Q : A → Type 0} → ((x : A) → P x → Q x) → {l : List A} → Each P l → Each Q l
   each-map f none = none
   each-map f (more p e) = more (f _ p) (each-map f e)
 
@@ -68,7 +68,7 @@ module _ {A : Type 0} where
 
 -- nothing passes the test
 module _ (p : Pending → Bool) where
-  pub none-first : (i : ℕ) (l : List Pending) → firstOf p i l ≡ Nothing → Each (λ x. p x ≡ false) l
+  none-first : (i : ℕ) (l : List Pending) → firstOf p i l ≡ Nothing → Each (λ x. p x ≡ false) l
   unfolding firstOf
   none-first i [] e = none
   none-first i (x ∷ l) e = go (p x) refl e (none-first (suc i) l)
@@ -79,7 +79,7 @@ module _ (p : Pending → Bool) where
           let z : _≡_ {A = ℕ} 0 1 = cc in absurd (omega arith)
       go false h k r = more h (r (sym (pick-false false (At i) (firstOf p (suc i) l) refl) ∙ k))
 
-  pub first-none : (i : ℕ) {l : List Pending} → Each (λ x. p x ≡ false) l → firstOf p i l ≡ Nothing
+  first-none : (i : ℕ) {l : List Pending} → Each (λ x. p x ≡ false) l → firstOf p i l ≡ Nothing
   unfolding firstOf
   first-none i none = refl
   first-none i (more h e) = pick-false _ _ _ h ∙ first-none (suc i) e
@@ -87,44 +87,44 @@ module _ (p : Pending → Bool) where
 -- ---- which events are dropped
 
 module _ (from to t : ℕ) where
-  pub early-outside : t < from → notDropped from to t ≡ true
+  pub early-stays : t < from → notDropped from to t ≡ true
   unfolding notDropped
-  early-outside h = simp (lt-ltb t from h)
+  early-stays h = simp (lt-ltb t from h)
 
-  pub late-outside : to ≤ t → notDropped from to t ≡ true
+  late-stays : to ≤ t → notDropped from to t ≡ true
   unfolding notDropped
-  late-outside h = second-true (ltb t from) (le-leb to t h)
+  late-stays h = second-true (ltb t from) (le-leb to t h)
 
-  pub not-outside : from ≤ t → t < to → notDropped from to t ≡ false
+  not-stays : from ≤ t → t < to → notDropped from to t ≡ false
   unfolding notDropped
-  not-outside h k = simp (le-ltb t from h, lt-leb to t k)
+  not-stays h k = simp (le-ltb t from h, lt-leb to t k)
 
-outside-none : (k t : ℕ) → notDropped k (k + 0) t ≡ true
-outside-none k t = go (ltb t k) refl
+stays-none : (k t : ℕ) → notDropped k (k + 0) t ≡ true
+stays-none k t = go (ltb t k) refl
   where
     go : (a : Bool) → ltb t k ≡ a → notDropped k (k + 0) t ≡ true
-    go true e = early-outside k (k + 0) t (ltb-true t k e)
-    go false e = let h : k ≤ t = ltb-false t k e in late-outside k (k + 0) t (omega arith)
+    go true e = early-stays k (k + 0) t (ltb-true t k e)
+    go false e = let h : k ≤ t = ltb-false t k e in late-stays k (k + 0) t (omega arith)
 
 -- those of the old clock first, then those of the next ones
-outside-more : (k n t : ℕ) → (not (eqb t k) && notDropped (suc k) (suc k + n) t) ≡ notDropped k (k + suc n) t
-outside-more k n t = go (eqb t k) (ltb t k) (leb (k + suc n) t) refl refl refl
+stays-more : (k n t : ℕ) → (not (eqb t k) && notDropped (suc k) (suc k + n) t) ≡ notDropped k (k + suc n) t
+stays-more k n t = go (eqb t k) (ltb t k) (leb (k + suc n) t) refl refl refl
   where
     go : (a b d : Bool) → eqb t k ≡ a → ltb t k ≡ b → leb (k + suc n) t ≡ d → (not (eqb t k) && notDropped (suc k) (suc k + n) t) ≡ notDropped k (k + suc n) t
     go true b d e f g =
         let h : t ≡ k = eqb-true t k e in
-        ap (λ (x : Bool). not x && notDropped (suc k) (suc k + n) t) e ∙ sym (not-outside k (k + suc n) t (omega arith) (omega arith))
+        ap (λ (x : Bool). not x && notDropped (suc k) (suc k + n) t) e ∙ sym (not-stays k (k + suc n) t (omega arith) (omega arith))
     go false true d e f g =
         let h : t < k = ltb-true t k f in
-        ap (λ (x : Bool). not x && notDropped (suc k) (suc k + n) t) e ∙ early-outside (suc k) (suc k + n) t (omega arith) ∙ sym (early-outside k (k + suc n) t h)
+        ap (λ (x : Bool). not x && notDropped (suc k) (suc k + n) t) e ∙ early-stays (suc k) (suc k + n) t (omega arith) ∙ sym (early-stays k (k + suc n) t h)
     go false false true e f g =
         let h : k + suc n ≤ t = leb-true (k + suc n) t g in
-        ap (λ (x : Bool). not x && notDropped (suc k) (suc k + n) t) e ∙ late-outside (suc k) (suc k + n) t (omega arith) ∙ sym (late-outside k (k + suc n) t h)
+        ap (λ (x : Bool). not x && notDropped (suc k) (suc k + n) t) e ∙ late-stays (suc k) (suc k + n) t (omega arith) ∙ sym (late-stays k (k + suc n) t h)
     go false false false e f g =
         let h : k ≤ t = ltb-false t k f in
         let m = eqb-false t k e in
         let l : t < k + suc n = leb-false (k + suc n) t g in
-        ap (λ (x : Bool). not x && notDropped (suc k) (suc k + n) t) e ∙ not-outside (suc k) (suc k + n) t (omega arith) (omega arith) ∙ sym (not-outside k (k + suc n) t h l)
+        ap (λ (x : Bool). not x && notDropped (suc k) (suc k + n) t) e ∙ not-stays (suc k) (suc k + n) t (omega arith) (omega arith) ∙ sym (not-stays k (k + suc n) t h l)
 
 -- ---- the state after so many
 
@@ -148,14 +148,14 @@ unfolding passedTimes lapsed withPending
 passed-assets zero s = refl
 passed-assets (suc n) s = passed-assets n (timePassed s)
 
-pub passed-live : (n : ℕ) (s : State) → live (passedTimes n s) ≡ keep (λ p. notDropped (s .clock) (s .clock + n) (p .time)) (live s)
+passed-live : (n : ℕ) (s : State) → live (passedTimes n s) ≡ keep (λ p. notDropped (s .clock) (s .clock + n) (p .time)) (live s)
 unfolding passedTimes lapsed withPending
-passed-live zero s = sym (keep-all (λ p. notDropped (s .clock) (s .clock + 0) (p .time)) (λ p. outside-none (s .clock) (p .time)) (live s))
+passed-live zero s = sym (keep-all (λ p. notDropped (s .clock) (s .clock + 0) (p .time)) (λ p. stays-none (s .clock) (p .time)) (live s))
 passed-live (suc n) s =
     passed-live n (timePassed s)
     ∙ ap (keep (λ p. notDropped (suc (s .clock)) (suc (s .clock) + n) (p .time))) (live-lapsed s)
     ∙ keep-keep (λ p. not (eqb (p .time) (s .clock))) (λ p. notDropped (suc (s .clock)) (suc (s .clock) + n) (p .time)) (λ p. notDropped (s .clock) (s .clock + suc n) (p .time))
-    (λ p. outside-more (s .clock) n (p .time)) (live s)
+    (λ p. stays-more (s .clock) n (p .time)) (live s)
 
 -- at a clock, with these pending events
 abbrev pub standing : State → ℕ → List Pending → State
@@ -219,14 +219,14 @@ module _ (c : Contract) (s : State) (n : ℕ) where
   dropped-idle : (p : Pending) → notDropped (s .clock) (s .clock + n) (p .time) ≡ false → dueAt c (s .clock + n) (s .state) p ≡ false
   dropped-idle p e =
       other-time c (s .clock + n) (s .state) p λ q.
-      true-false (sym (late-outside (s .clock) (s .clock + n) (p .time) (omega arith)) ∙ e)
+      true-false (sym (late-stays (s .clock) (s .clock + n) (p .time) (omega arith)) ∙ e)
 
-  pub nothing-then : dueIn c (passedTimes n s) ≡ Nothing → Each (λ p. dueAt c (s .clock + n) (s .state) p ≡ false) (live s)
+  nothing-then : dueIn c (passedTimes n s) ≡ Nothing → Each (λ p. dueAt c (s .clock + n) (s .state) p ≡ false) (live s)
   nothing-then d =
       kept-each (λ p. notDropped (s .clock) (s .clock + n) (p .time)) (dueAt c (s .clock + n) (s .state)) dropped-idle (live s)
       (none-first (dueAt c (s .clock + n) (s .state)) 0 _ (sym due-then ∙ d))
 
-  pub then-nothing : Each (λ p. dueAt c (s .clock + n) (s .state) p ≡ false) (live s) → dueIn c (passedTimes n s) ≡ Nothing
+  then-nothing : Each (λ p. dueAt c (s .clock + n) (s .state) p ≡ false) (live s) → dueIn c (passedTimes n s) ≡ Nothing
   then-nothing e = due-then ∙ first-none (dueAt c (s .clock + n) (s .state)) 0 (each-keep _ (λ p q _. q) e)
 
 -- ---- where it stops

@@ -195,11 +195,13 @@ removed s i = withPending s (take i (live s) ++ drop (suc i) (live s))
 unfoldable pub joinedBy : State → Pending → State
 joinedBy s p = pick (ltb (s .pending) maxPending) (withTimes s (s .clock) (suc (s .pending)) (set (s .events) (s .pending) p)) s
 
--- time passes: the events of the old clock are dropped, and the clock rises by 1
+-- ---- time passes
+
+-- once: the events of the old clock are dropped, and the clock rises by 1
 abbrev pub timePassed : State → State
 timePassed s = later (lapsed s)
 
--- time passes n times
+-- n times
 unfoldable pub passedTimes : ℕ → State → State
 passedTimes zero s = s
 passedTimes (suc n) s = passedTimes n (timePassed s)

@@ -2,12 +2,12 @@
 use mathlib.Core.Path.{sym}
 use borrow.Author.Tests.{le-ltb}
 use Rattle.state.specs.Private.{notDropped}
-use Rattle.state.proofs.Passing.{early-outside}
+use Rattle.state.proofs.Passing.{early-stays}
 use Rattle.state.proofs.stays.Statement.{statement}
 use Rattle.state.proofs.stays.Tie as tie
 
 returns : tie.Need-returns
-returns c = sym (early-outside _ (c .before .args .to) _ (c .if1 .taken))
+returns c = sym (early-stays _ (c .before .args .to) _ (c .if1 .taken))
 
 returns-2 : tie.Need-returns-2
 unfolding notDropped
