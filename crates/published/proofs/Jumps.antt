@@ -159,7 +159,7 @@ module _ (c : Contract) (s : State) (T : ℤ) where
       → Comes (jumped c s T) (Accepted Tick) [] C
   unfolding dueIn
   derived-comes false a j = absurd (starts j)
-  derived-comes true a (jump {n = n} {m' = m'} {Ψ' = Ψ'} r t x) =
+  derived-comes true a (jump {n = n} {m = m'} {Ψ = Ψ'} r t x) =
       let u : State = passedTimes n s in
       let y : Led c n s (runtime (inState (s .state)) m' nothing Ψ') = ticks-lead c n s t in
       let em : m' ≡ memoryAt u = cc (y .end-is) in

@@ -360,11 +360,11 @@ pub data Stop (c : Contract) (T : ℤ) (q : ℕ) (m : Memory) (Ψ : List Pending
 
 -- a jump to T, where no event is ready now: so many [TICK]s, maybe none
 pub data Jump (c : Contract) (T : ℤ) : Configuration → Configuration → Type 0 where
-  jump : {n q : ℕ} {m m' : Memory} {Ψ Ψ' : List Pending}
-      → NothingReady c q m Ψ
-      → Ticks c n (runtime (inState q) m nothing Ψ) (runtime (inState q) m' nothing Ψ')
-      → Stop c T q m' Ψ'
-      → Jump c T (runtime (inState q) m nothing Ψ) (runtime (inState q) m' nothing Ψ')
+  jump : {n q : ℕ} {m₀ m : Memory} {Ψ₀ Ψ : List Pending}
+      → NothingReady c q m₀ Ψ₀
+      → Ticks c n (runtime (inState q) m₀ nothing Ψ₀) (runtime (inState q) m nothing Ψ)
+      → Stop c T q m Ψ
+      → Jump c T (runtime (inState q) m₀ nothing Ψ₀) (runtime (inState q) m nothing Ψ)
 
 -- ---- the configuration of a state: idle
 
