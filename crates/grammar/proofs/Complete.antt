@@ -30,11 +30,11 @@ then-done : {A B : Type 0} {a : A} {n : ℕ} {x : Parsed B} (r : Parsed A) (f : 
 then-done r f e h = ap (λ y. andThen y f) e ∙ h
 
 module _ (s : List ℕ) where
-  tokens-split : (at : ℕ) (ts us : List Token) (m : ℕ) → Tokens s at (ts ++ us) m → (n : ℕ) × Tokens s at ts n × Tokens s n us m
+  pub tokens-split : (at : ℕ) (ts us : List Token) (m : ℕ) → Tokens s at (ts ++ us) m → (n : ℕ) × Tokens s at ts n × Tokens s n us m
   tokens-split at [] us m h = (at, refl, h)
   tokens-split at (o ∷ ts) us m h = let y = tokens-split (o .end) ts us m (h .1) in (y .0, (h .0, y .1), y .2)
 
-  tokens-within : (at : ℕ) (o : Token) (ts : List Token) (m : ℕ) → Tokens s at (o ∷ ts) m → (at < m) × (m ≤ length s)
+  pub tokens-within : (at : ℕ) (o : Token) (ts : List Token) (m : ℕ) → Tokens s at (o ∷ ts) m → (at < m) × (m ≤ length s)
   tokens-within at o [] m h =
       let p = progress s at o (h .0) in
       let q : o .end ≡ m = h .1 in

@@ -14,7 +14,7 @@ use Rattle.state.specs.declared.State.{State}
 use Rattle.state.specs.declared.Due.{Due}
 use Rattle.state.specs.declared.Due.the-variants as due
 use Rattle.state.specs.States.{blank, noFunction, live, pendingOk, stateOk, dueIn}
-use Rattle.state.proofs.Dues.{due-found}
+use Rattle.state.proofs.Dues.{first-to-fire}
 use Rattle.state.proofs.Each.{each-getD}
 use Rattle.state.proofs.Within.{within, live-ok}
 use Rattle.outcomes.specs.declared.Stepped.{Stepped}
@@ -41,7 +41,7 @@ due-clause : (c : Contract) (s : State) (k : ℕ) → stateOk c s ≡ true → d
 unfolding pendingOk
 due-clause c s k o d =
     let p = getD (live s) k blank in
-    let e = each-getD (live-ok c s (within c s o)) k blank (due-found c s k d .0) in
+    let e = each-getD (live-ok c s (within c s o)) k blank (first-to-fire c s k d .is-pending) in
     subst (λ (z : Due). ClauseOf c (clauseDue s z)) (sym d) (
       ltb-true (p .function) (length (c .functions)) (both-left _ _ e),
       ltb-true (p .event) (length (getD (c .functions) (p .function) noFunction .events)) (both-left _ _ (both-right (ltb (p .function) (length (c .functions))) _ e)),

@@ -22,7 +22,7 @@ use Rattle.state.specs.declared.State.{State}
 use Rattle.state.specs.declared.Due.{Due}
 use Rattle.state.specs.declared.Due.the-variants as due
 use Rattle.state.specs.States.{freshAt, live, stateOk, dueIn, withPending, removed, lapsed, timePassed}
-use Rattle.state.proofs.Dues.{due-found}
+use Rattle.state.proofs.Dues.{first-to-fire}
 use Rattle.state.proofs.Each.{without-count}
 use Rattle.state.proofs.Within as state
 use Rattle.state.proofs.Within.{removed-count}
@@ -49,7 +49,7 @@ module _ {c : Contract} {s : State} (g : Good c s) (a : s .agreed ≡ true) wher
   pub fired-so : (k : ℕ) → dueIn c s ≡ due.At k → Fired s (fired c s)
   unfolding fired handled removed withPending
   fired-so k d =
-      let h : k < length (live s) = due-found c s k d .0 in
+      let h : k < length (live s) = first-to-fire c s k d .is-pending in
       let n : length (live s) ≡ s .pending = live-length g in
       subst (Fired s) (sym (pick-true _ _ _ a ∙ ap (fireByDue c s) d))
       (by-cases (Fired s) _ _ _

@@ -31,3 +31,4 @@ pub mod Continued
 pub mod Settled
 pub mod SessionHistory
 pub mod SessionEnds
+pub mod TextOrder

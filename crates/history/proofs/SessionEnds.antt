@@ -19,7 +19,7 @@ use Rattle.state.specs.declared.State.{State}
 use Rattle.state.specs.declared.Due.{Due}
 use Rattle.state.specs.declared.Due.the-variants as due
 use Rattle.state.specs.States.{maxPending, stateOk, dueIn}
-use Rattle.state.proofs.Dues.{due-found}
+use Rattle.state.proofs.Dues.{first-to-fire}
 use Rattle.state.proofs.Within.{unagreed}
 use Rattle.step_reports.specs.Reports.{told, maxTold}
 use Rattle.machine.specs.Sessions.{Said, heard, endOfLine, Turn, takes, wait, turnByDue, turnAt, Session, here, before, onTurn, sessionFor, session, notPlayed, played}
@@ -60,7 +60,7 @@ due-agreed {c} {s} g k d = go (s .agreed) refl
   where
     go : (b : Bool) → s .agreed ≡ b → b ≡ true
     go true e = refl
-    go false e = absurd (omega (arith, due-found c s k d .0, live-length g, unagreed c s (good-within g) e))
+    go false e = absurd (omega (arith, first-to-fire c s k d .is-pending, live-length g, unagreed c s (good-within g) e))
 
 module _ (w : List ℕ) (p : passes w ≡ true) where
   abbrev c : Contract

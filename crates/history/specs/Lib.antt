@@ -4,3 +4,4 @@ pub mod Untouched
 pub mod Cases
 pub mod Settled
 pub mod Sessions
+pub mod TextOrder

@@ -25,7 +25,7 @@ use Rattle.state.specs.declared.State.{State}
 use Rattle.state.specs.declared.Pending.{Pending}
 use Rattle.state.specs.declared.Due.{Due}
 use Rattle.state.specs.declared.Due.the-variants as due
-use Rattle.state.specs.States.{blank, eventOf, live, stateOk, dueIn, withPending, removed, timePassed, passedTimes, timesUntilDue, partyName, maxPending}
+use Rattle.state.specs.States.{eventOf, live, stateOk, dueIn, pendingAt, withPending, removed, timePassed, passedTimes, timesUntilDue, partyName, maxPending}
 use Rattle.statements.specs.declared.Work.{Work}
 use Rattle.statements.specs.Running.{maxLabels, memoryIn, ran}
 use Rattle.outcomes.specs.declared.Rule.{Rule}
@@ -165,7 +165,7 @@ handled s k e w =
 abbrev pub fireByDue : Contract → State → Due → Stepped
 fireByDue c s due.Nothing = refused s 41
 fireByDue c s (due.At k) =
-    let e = eventOf c (getD (live s) k blank) in
+    let e = eventOf c (pendingAt s k) in
     handled s k e (ran [] (s .clock) (begun s []) (e .handler))
 
 -- 22
@@ -225,7 +225,7 @@ clauseChosen (chosen n f) = function n
 clauseChosen unknown = neither
 
 abbrev pub clauseDue : State → Due → Runs
-clauseDue s (due.At k) = let p = getD (live s) k blank in event (p .function) (p .event)
+clauseDue s (due.At k) = let p = pendingAt s k in event (p .function) (p .event)
 clauseDue s due.Nothing = neither
 
 abbrev pub clauseRun : Contract → State → Request → Runs

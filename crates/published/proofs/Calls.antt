@@ -103,14 +103,13 @@ module _ (c : Contract) (fit : FitsContract c) (s : State) (i : Invocation) wher
         scheduled-derives : bodyRan s i f .refusal ≡ 0 → every (λ a. eqb a 0) (drop maxAssets (bodyRan s i f .holdings)) ≡ true → (z : Scheduled)
             → schedule (memoryIn (i .values) (s .clock) (bodyRan s i f)) (s .clock) n 0 (f .events) ≡ z
             → Derives (withScheduled s (bodyRan s i f) (f .last) z)
-        unfolding dueIn
         scheduled-derives w e (no k) t = refused-derives k
         scheduled-derives w e (times ps) t =
             by-cases Derives _ _ _
             (λ r ls C o.
             whole-same (sym (idle-standing s a)) (o .labels-are) (sym (idle-ended s (bodyRan s i f) (f .last) (live s ++ ps) (i .values) a) ∙ o .leads-to)
             (whole
-            (function (amounts (i .assets)) h (none-ready c s 0 (live s) d) v (length-amounts (i .assets) ∙ l) (integers-amounts (i .assets) p) q)
+            (function (amounts (i .assets)) h (none-ready c s d) v (length-amounts (i .assets) ∙ l) (integers-amounts (i .assets) p) q)
             (body-runs s (i .values) (amounts (i .assets)) (f .body) (body-fit h) w)
             (stateChange e (schedule-times (memoryIn (i .values) (s .clock) (bodyRan s i f)) n 0 (f .events) ps t) (leb-true (length (live s) + length ps) maxPending r))))
             (λ _. refused-derives 39)
@@ -183,7 +182,7 @@ module _ (c : Contract) (fit : FitsContract c) (s : State) (i : Invocation) wher
 
   derived-comes : {ls : List Label} {C : Configuration} (x : Bool) → s .agreed ≡ x → Whole c (runtime (phaseOf x (s .state)) (memoryAt s) nothing (live s)) (call i) ls C
       → Comes (called c s i) (Accepted Call) ls C
-  unfolding called dueIn
+  unfolding called
   derived-comes false a (whole t r u) = absurd (starts t)
   derived-comes true a (whole {ls = ls} (function {n = n} {f = f} vs h d v l e q) r (stateChange {m = m} {Ψ' = ps} z t k)) =
       let same : amounts (i .assets) ≡ vs = ap amounts e ∙ amounts-integers vs in
@@ -191,7 +190,7 @@ module _ (c : Contract) (fit : FitsContract c) (s : State) (i : Invocation) wher
       (subst (λ (y : List ℕ). Statements (bound (memoryAt s) (i .values) y) (inOrder (f .body)) ls m []) (sym same) r) in
       comes-by
       (pick-true _ _ _ a
-      ∙ ap (callByDue c s i) (ready-none c s 0 d)
+      ∙ ap (callByDue c s i) (ready-none c s d)
       ∙ ap (byChosen s i) (called-first c s i 0 h ∙ ap (λ (j : ℕ). chosen j f) (omega arith))
       ∙ invoked-is f v (ap length e ∙ length-integers vs ∙ l) (ap (every (leZ (pos 0))) e ∙ integers-positive vs)
       (subst (λ (y : List ℕ). preconditionHolds (bound (memoryAt s) (i .values) y) (f .precondition) ≡ truth.Holds true) (sym same) q)

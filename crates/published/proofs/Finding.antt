@@ -2,9 +2,9 @@
 use mathlib.Core.Path.{_≡_, refl, sym, ap, subst, _∙_}
 use mathlib.Core.Bool.{Bool, true, false, _&&_}
 use mathlib.Core.List.{List, [], _∷_}
-use Prim.Native.Nat.{ℕ, suc, _+_}
+use Prim.Native.Nat.{ℕ, zero, suc, _+_, _<_}
 use native.Mathlib.Omega.{arith}
-use lib.ListN.{getD}
+use lib.ListN.{length, getD}
 use lib.Dec.{eqb}
 use borrow.Author.Tests.{eqb-true, eq-eqb}
 use Rattle.laws.specs.Choice.{pick}
@@ -16,19 +16,70 @@ use Rattle.laws.proofs.Truths.{both-left, both-right, both-true}
 use Rattle.state.specs.declared.State.{State}
 use Rattle.state.specs.declared.Pending.{Pending}
 use Rattle.state.specs.declared.Due.the-variants.{At, Nothing}
-use Rattle.state.specs.States.{blank, eventOf, isDue, firstDue, partyName}
+use Rattle.state.specs.States.{blank, live, eventOf, isDue, standsBefore, dueIn, pendingAt, FirstToFire, partyName}
+use Rattle.state.proofs.Dues.{function-before, event-before, before-by, before-either, first-to-fire, none-to-fire, one-to-fire, due-none}
 use Rattle.machine.specs.Steps.{Invocation, answersTo, chosen, choose}
-use Rattle.published.specs.Published.{First, here, there, None, end, and, Ready, Called}
+use Rattle.published.specs.Published.{First, here, there, None, end, and, Ready, Before, by-function, by-event, Foremost, Called}
 
 -- a test that is not true is false
 pub not-true : (b : Bool) {P : Type 0} → (P → ⊥) → (b ≡ true → P) → b ≡ false
 not-true true ne f = absurd (ne (f refl))
 not-true false ne f = refl
 
+-- ---- lists by place
+
+module _ {A : Type 0} (P : A → Type 0) (d : A) where
+  -- x is the first with the property, at place k
+  record FirstAt (k : ℕ) (x : A) (l : List A) : Type 0 where
+    inside : k < length l
+    there-is : getD l k d ≡ x
+    has : P x
+    none-sooner : (j : ℕ) → j < k → P (getD l j d) → ⊥
+
+  first-by : (k : ℕ) (l : List A) → k < length l → P (getD l k d) → ((j : ℕ) → j < k → P (getD l j d) → ⊥) → First P k (getD l k d) l
+  first-by k [] h p f = absurd (omega arith)
+  first-by zero (x ∷ l) h p f = here p
+  first-by (suc k) (x ∷ l) h p f = there (f 0 (omega arith)) (first-by k l (omega arith) p (λ j i. f (suc j) (omega arith)))
+
+  first-told : {k : ℕ} {x : A} {l : List A} → First P k x l → FirstAt k x l
+  first-told (here p) = record { inside = omega arith; there-is = refl; has = p; none-sooner = λ j h. absurd (omega arith) }
+  first-told {x = x} (there {n = n} {y = y} {xs = l} ne f) =
+      let g : FirstAt n x l = first-told f in
+      record { inside = omega (arith, g .inside); there-is = g .there-is; has = g .has; none-sooner = sooner g }
+    where
+      sooner : FirstAt n x l → (j : ℕ) → j < suc n → P (getD (y ∷ l) j d) → ⊥
+      sooner g zero h = ne
+      sooner g (suc j) h = g .none-sooner j (omega arith)
+
+  none-by : (l : List A) → ((j : ℕ) → j < length l → P (getD l j d) → ⊥) → None P l
+  none-by [] f = end
+  none-by (x ∷ l) f = and (f 0 (omega arith)) (none-by l (λ j h. f (suc j) (omega arith)))
+
+  none-told : {l : List A} → None P l → (j : ℕ) → j < length l → P (getD l j d) → ⊥
+  none-told end j h = absurd (omega arith)
+  none-told (and ne n) zero h = ne
+  none-told (and ne n) (suc j) h = none-told n j (omega arith)
+
+  -- where one has the property, which a test decides, there is a first
+  some-first : (p : A → Bool) → ((x : A) → p x ≡ true → P x) → ((x : A) → P x → p x ≡ true) → (l : List A) (j : ℕ) → j < length l → P (getD l j d)
+      → (n : ℕ) × First P n (getD l n d) l
+  some-first p f g [] j h q = absurd (omega arith)
+  some-first p f g (x ∷ l) j h q = go (p x) refl j h q (some-first p f g l)
+    where
+      go : (b : Bool) → p x ≡ b → (j : ℕ) → j < suc (length l) → P (getD (x ∷ l) j d) → ((j : ℕ) → j < length l → P (getD l j d) → (n : ℕ) × First P n (getD l n d) l)
+          → (n : ℕ) × First P n (getD (x ∷ l) n d) (x ∷ l)
+      go true e j h q r = (0, here (f x e))
+      go false e zero h q r = true-false (sym (g x q) ∙ e)
+      go false e (suc j) h q r = let y = r j (omega arith) q in (suc (y .0), there (λ z. true-false (sym (g x z) ∙ e)) (y .1))
+
 -- ---- due
 
 module _ (c : Contract) (s : State) where
-  is-ready : (p : Pending) → isDue c s p ≡ true → Ready c (s .state) (s .clock) p
+  -- ready, in the state and at the clock of s
+  abbrev ReadyNow : Pending → Type 0
+  ReadyNow = Ready c (s .state) (s .clock)
+
+  is-ready : (p : Pending) → isDue c s p ≡ true → ReadyNow p
   unfolding isDue
   is-ready p e =
       record {
@@ -36,49 +87,91 @@ module _ (c : Contract) (s : State) where
         at-state = eqb-true _ _ (both-right (eqb (p .time) (s .clock)) (eqb (eventOf c p .state) (s .state)) e);
       }
 
-  ready-is : (p : Pending) → Ready c (s .state) (s .clock) p → isDue c s p ≡ true
+  ready-is : (p : Pending) → ReadyNow p → isDue c s p ≡ true
   unfolding isDue
   ready-is p r = both-true _ _ (eq-eqb _ _ (r .at-time)) (eq-eqb _ _ (r .at-state))
 
-  not-ready : (p : Pending) → isDue c s p ≡ false → Ready c (s .state) (s .clock) p → ⊥
-  not-ready p e r = true-false (sym (ready-is p r) ∙ e)
+  pub none-ready : dueIn c s ≡ Nothing → None ReadyNow (live s)
+  none-ready e = none-by ReadyNow blank (live s) (λ j h r. true-false (sym (ready-is _ r) ∙ none-to-fire c s e j h))
 
-  pub none-ready : (i : ℕ) (ps : List Pending) → firstDue c s i ps ≡ Nothing → None (Ready c (s .state) (s .clock)) ps
-  unfolding firstDue
-  none-ready i [] e = end
-  none-ready i (p ∷ ps) e = go (isDue c s p) refl e (none-ready (suc i) ps)
+  pub ready-none : None ReadyNow (live s) → dueIn c s ≡ Nothing
+  ready-none n = due-none c s (λ j h. not-true (isDue c s (pendingAt s j)) (none-told ReadyNow blank n j h) (is-ready (pendingAt s j)))
+
+  pub some-ready : (k : ℕ) → dueIn c s ≡ At k → (n : ℕ) × First ReadyNow n (pendingAt s n) (live s)
+  some-ready k e =
+      let f = first-to-fire c s k e in
+      some-first ReadyNow blank (isDue c s) is-ready ready-is (live s) k (f .is-pending) (is-ready (pendingAt s k) (f .is-due))
+
+  -- ---- the text's order
+
+  before-is : (p r : Pending) → Before p r → standsBefore p r ≡ true
+  before-is p r (by-function h) = function-before p r h
+  before-is p r (by-event e h) = event-before p r e h
+
+  is-before : (p r : Pending) → standsBefore p r ≡ true → Before p r
+  is-before p r e = before-by p r e by-function by-event
+
+  abbrev ForemostNow : Pending → Type 0
+  ForemostNow = Foremost c (s .state) (s .clock) (live s)
+
+  -- the ready events that stand before p
+  abbrev Earlier : Pending → Pending → Type 0
+  Earlier p r = ReadyNow r × Before r p
+
+  pub first-ready : (k : ℕ) → dueIn c s ≡ At k → First ForemostNow k (pendingAt s k) (live s)
+  first-ready k e =
+      let f : FirstToFire c s k = first-to-fire c s k e in
+      first-by ForemostNow blank k (live s) (f .is-pending)
+      (record {
+        ready = is-ready (pendingAt s k) (f .is-due);
+        none-before =
+            none-by (Earlier (pendingAt s k)) blank (live s)
+            (λ j h r. true-false (sym (before-is (pendingAt s j) (pendingAt s k) (r .1)) ∙ f .none-before j h (ready-is (pendingAt s j) (r .0))));
+      })
+      (λ j h o. older f j h o)
     where
-      go : (b : Bool) → isDue c s p ≡ b → pick b (At i) (firstDue c s (suc i) ps) ≡ Nothing
-          → (firstDue c s (suc i) ps ≡ Nothing → None (Ready c (s .state) (s .clock)) ps) → None (Ready c (s .state) (s .clock)) (p ∷ ps)
-      go true q f r = let z : _≡_ {A = ℕ} 0 1 = cc (pick-true true (At i) (firstDue c s (suc i) ps) refl) in absurd (omega arith)
-      go false q f r = and (not-ready p q) (r (sym (pick-false false (At i) (firstDue c s (suc i) ps) refl) ∙ f))
+      -- an older one that is foremost too would be the same event
+      older : FirstToFire c s k → (j : ℕ) → j < k → ForemostNow (pendingAt s j) → ⊥
+      older f j h o =
+          let i : j < length (live s) = omega (arith, f .is-pending) in
+          let d : isDue c s (pendingAt s j) ≡ true = ready-is (pendingAt s j) (o .ready) in
+          let b : standsBefore (pendingAt s k) (pendingAt s j) ≡ false =
+          not-true (standsBefore (pendingAt s k) (pendingAt s j))
+          (none-told (Earlier (pendingAt s j)) blank (o .none-before) k (f .is-pending))
+          (λ x. (is-ready (pendingAt s k) (f .is-due), is-before (pendingAt s k) (pendingAt s j) x)) in
+          let x = before-either (pendingAt s j) (pendingAt s k) (f .none-before j i d) b in
+          f .none-older j h d (x .0) (x .1)
 
-  pub ready-none : (i : ℕ) {ps : List Pending} → None (Ready c (s .state) (s .clock)) ps → firstDue c s i ps ≡ Nothing
-  unfolding firstDue
-  ready-none i end = refl
-  ready-none i (and {x = p} ne r) = pick-false _ _ _ (not-true _ ne (is-ready p)) ∙ ready-none (suc i) r
-
-  pub first-ready : (i k : ℕ) (ps : List Pending) → firstDue c s i ps ≡ At k → (n : ℕ) × (k ≡ i + n) × First (Ready c (s .state) (s .clock)) n (getD ps n blank) ps
-  unfolding firstDue
-  first-ready i k [] e = let z : _≡_ {A = ℕ} 0 1 = cc in absurd (omega arith)
-  first-ready i k (p ∷ ps) e = go (isDue c s p) refl e (first-ready (suc i) k ps)
+  pub ready-first : {k : ℕ} {p : Pending} → First ForemostNow k p (live s) → dueIn c s ≡ At k
+  ready-first {k} {p} g =
+      let f : FirstAt ForemostNow blank k p (live s) = first-told ForemostNow blank g in
+      one-to-fire c s
+      (record {
+        is-pending = f .inside;
+        is-due = ready-is (pendingAt s k) (subst ReadyNow (sym (f .there-is)) (f .has .ready));
+        none-before = λ j h e.
+            not-true (standsBefore (pendingAt s j) (pendingAt s k)) (none-told (Earlier p) blank (f .has .none-before) j h)
+            (λ x. (is-ready (pendingAt s j) e, subst (Before (pendingAt s j)) (f .there-is) (is-before (pendingAt s j) (pendingAt s k) x)));
+        none-older = λ j h e u v. f .none-sooner j h (alike f j e u v);
+      })
     where
-      go : (b : Bool) → isDue c s p ≡ b → pick b (At i) (firstDue c s (suc i) ps) ≡ At k
-          → (firstDue c s (suc i) ps ≡ At k → (n : ℕ) × (k ≡ suc i + n) × First (Ready c (s .state) (s .clock)) n (getD ps n blank) ps)
-          → (n : ℕ) × (k ≡ i + n) × First (Ready c (s .state) (s .clock)) n (getD (p ∷ ps) n blank) (p ∷ ps)
-      go true q f g = let z : i ≡ k = cc (pick-true true (At i) (firstDue c s (suc i) ps) refl) in (0, omega arith, here (is-ready p q))
-      go false q f g =
-          let r = g (sym (pick-false false (At i) (firstDue c s (suc i) ps) refl) ∙ f) in
-          (suc (r .0), omega (arith, r .1), there (not-ready p q) (r .2))
-
-  pub ready-first : (i : ℕ) {n : ℕ} {p : Pending} {ps : List Pending} → First (Ready c (s .state) (s .clock)) n p ps → firstDue c s i ps ≡ At (i + n)
-  unfolding firstDue
-  ready-first i (here {x = p} r) = pick-true _ _ _ (ready-is p r) ∙ ap At (omega arith)
-  ready-first i (there {n = n} {y = p} ne r) = pick-false _ _ _ (not-true _ ne (is-ready p)) ∙ ready-first (suc i) r ∙ ap At (omega arith)
+      -- the same event is foremost too
+      alike : FirstAt ForemostNow blank k p (live s) → (j : ℕ) → isDue c s (pendingAt s j) ≡ true
+          → pendingAt s j .function ≡ pendingAt s k .function → pendingAt s j .event ≡ pendingAt s k .event → ForemostNow (pendingAt s j)
+      alike f j e u v =
+          record {
+            ready = is-ready (pendingAt s j) e;
+            none-before =
+                none-by (Earlier (pendingAt s j)) blank (live s)
+                (λ i h r. none-told (Earlier p) blank (f .has .none-before) i h (r .0, subst (Before (pendingAt s i)) (f .there-is) (before-same (r .1))));
+          }
+        where
+          before-same : {r : Pending} → Before r (pendingAt s j) → Before r (pendingAt s k)
+          before-same (by-function h) = by-function (omega arith)
+          before-same (by-event h i) = by-event (omega arith) (omega arith)
 
 pub first-at : {A : Type 0} {P : A → Type 0} {n : ℕ} {x : A} {xs : List A} (d : A) → First P n x xs → getD xs n d ≡ x
-first-at d (here r) = refl
-first-at d (there ne r) = first-at d r
+first-at {P = P} d f = first-told P d f .there-is
 
 -- ---- called
 

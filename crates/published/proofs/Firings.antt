@@ -64,17 +64,6 @@ module _ (c : Contract) (b : Bounded c) (s : State) where
       ran-same (scopeOf c 0 0) (b .assets-few) refl [] (s .clock) (eventAt c s k .handler) (handler-bounded k .handler-in) (record { amounts = refl }) in
       ap (every (λ a. eqb a 0)) (z .amounts) ∙ nothing-bound s
 
-  first-due : (k : ℕ) → dueIn c s ≡ due.At k → First (Ready c (s .state) (s .clock)) k (getD (live s) k blank) (live s)
-  unfolding dueIn
-  first-due k d =
-      let f = first-ready c s 0 k (live s) d in
-      let e : f .0 ≡ k = omega (arith, f .1) in
-      subst (λ (n : ℕ). First (Ready c (s .state) (s .clock)) n (getD (live s) n blank) (live s)) e (f .2)
-
-  due-first : {k : ℕ} {p : Pending} → First (Ready c (s .state) (s .clock)) k p (live s) → dueIn c s ≡ due.At k
-  unfolding dueIn
-  due-first f = ready-first c s 0 f ∙ ap due.At (omega arith)
-
   idle-fired : (k : ℕ) → s .agreed ≡ true
       → idle (ended s (handlerRan c s k) (eventAt c s k .last) (live (removed s k)))
       ≡ runtime (inState (eventAt c s k .last)) (unbound (memoryIn [] (s .clock) (handlerRan c s k))) nothing (without k (live s) ++ [])
@@ -95,7 +84,7 @@ module _ (c : Contract) (b : Bounded c) (s : State) where
     fired-derives (fails k a d h) o = let z : _≡_ {A = ℕ} 0 1 = cc (o .outcome-is) in absurd (omega arith)
     fired-derives {ls = ls} {C = C} (fires k a d h) o =
         whole-same (sym (idle-standing s a)) (o .labels-are) (sym (idle-fired k a) ∙ o .leads-to)
-        (whole (eventMatch (first-due k d)) (body-runs s [] [] (eventAt c s k .handler) (handler-fit k) h)
+        (whole (eventMatch (first-ready c s k d)) (body-runs s [] [] (eventAt c s k .handler) (handler-fit k) h)
         (stateChange (handler-spends k) no-event (omega (arith, without-length k (live s)))))
 
     pub firing-derives : {ls : List Label} {C : Configuration} → Comes (fired c s) (Accepted EventMatch) ls C → Whole c (idle s) match ls C
@@ -113,7 +102,7 @@ module _ (c : Contract) (b : Bounded c) (s : State) where
     where
       go : {x : ℕ} → Sticks (bound (memoryAt s) [] []) (inOrder (eventAt c s k .handler)) x
           → Table2 c (standing s) (failure x) (runtime (inState (s .state)) (memoryAt s) nothing (without k (live s)))
-      go (at r x) = eventFailed (first-due k d) r (meets-stuck x _) x
+      go (at r x) = eventFailed (first-ready c s k d) r (meets-stuck x _) x
 
   pub failure-derives : {n : ℕ} {ls : List Label} {C : Configuration} → Comes (fired c s) (Failed n) ls C → Table2 c (idle s) (failure n) C
   failure-derives o = failed-derives (firing-came c s) o
@@ -127,7 +116,7 @@ module _ (c : Contract) (b : Bounded c) (s : State) where
       let e : getD (live s) k blank ≡ p = first-at blank f in
       let t = run-is s [] [] (eventAt c s k .handler) (handler-fit k)
       (subst (λ (x : Pending). Statements (bound (memoryAt s) [] []) (inOrder (eventOf c x .handler)) ls m []) (sym e) r) in
-      comes-by (pick-true _ _ _ a ∙ ap (fireByDue c s) (due-first f) ∙ pick-true _ _ _ (eq-eqb (handlerRan c s k .refusal) 0 (t .0)))
+      comes-by (pick-true _ _ _ a ∙ ap (fireByDue c s) (ready-first c s f) ∙ pick-true _ _ _ (eq-eqb (handlerRan c s k .refusal) 0 (t .0)))
       (record {
         outcome-is = refl;
         count-is = handler-counts k (t .0) ∙ ap length (t .1);
@@ -148,7 +137,7 @@ module _ (c : Contract) (b : Bounded c) (s : State) where
       let g : Sticks (bound (memoryAt s) [] []) (inOrder (eventAt c s k .handler)) n =
       subst (λ (z : Pending). Sticks (bound (memoryAt s) [] []) (inOrder (eventOf c z .handler)) n) (sym e) (at r y) in
       let j : handlerRan c s k .refusal ≡ n = stick-is s [] [] (eventAt c s k .handler) (handler-fit k) g in
-      comes-by (pick-true _ _ _ a ∙ ap (fireByDue c s) (due-first f) ∙ pick-false _ _ _ (ne-eqb (handlerRan c s k .refusal) 0 (stick-refused s [] [] (eventAt c s k .handler) (handler-fit k) g)))
+      comes-by (pick-true _ _ _ a ∙ ap (fireByDue c s) (ready-first c s f) ∙ pick-false _ _ _ (ne-eqb (handlerRan c s k .refusal) 0 (stick-refused s [] [] (eventAt c s k .handler) (handler-fit k) g)))
       (record { outcome-is = ap Failed j; count-is = refl; labels-are = refl; leads-to = idle-removed k a })
 
   pub failure-comes : {n : ℕ} {C : Configuration} → Table2 c (idle s) (failure n) C → Comes (fired c s) (Failed n) [] C

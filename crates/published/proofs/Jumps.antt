@@ -31,7 +31,7 @@ use Rattle.machine.specs.Steps as steps
 use Rattle.history.proofs.Scheduling.{ahead, TimeIn, time-in}
 use Rattle.history.proofs.Cases.{ComesOut, refusal, jumps, jump-came}
 use Rattle.published.specs.Published.{Configuration, runtime, noState, inState, nothing, afterTick, phaseOf, memoryAt, idle, time, Table2, tick, Ticks, no-tick, one-more, Stop, at-time, at-event, Jump, jump, First, here, there, None, and, Ready, NothingReady, Comes}
-use Rattle.published.proofs.Finding.{none-ready, ready-none, first-ready}
+use Rattle.published.proofs.Finding.{none-ready, ready-none, some-ready}
 use Rattle.published.proofs.Idle.{standing, idle-standing, comes-by}
 
 -- a state's configuration in a phase of its own
@@ -46,10 +46,10 @@ module _ (c : Contract) where
 
   ticks-derive : (n : ℕ) (s : State) → s .clock + n ≤ top → ((k : ℕ) → k < n → dueIn c (passedTimes k s) ≡ due.Nothing)
       → Ticks c n (standing s) (at (s .state) (passedTimes n s))
-  unfolding passedTimes withPending lapsed dueIn
+  unfolding passedTimes withPending lapsed
   ticks-derive zero s h f = no-tick
   ticks-derive (suc n) s h f =
-      one-more (subst (Table2 c (standing s) time) (one-later s) (tick (omega arith) (none-ready c s 0 (live s) (f 0 (omega arith)))))
+      one-more (subst (Table2 c (standing s) time) (one-later s) (tick (omega arith) (none-ready c s (f 0 (omega arith)))))
       (ticks-derive n (timePassed s) (omega arith) (λ k l. f (suc k) (omega arith)))
 
   -- so many ticks lead to one configuration, and nothing was due before it
@@ -58,14 +58,14 @@ module _ (c : Contract) where
     idle-before : (k : ℕ) → k < n → dueIn c (passedTimes k s) ≡ due.Nothing
 
   ticks-lead : (n : ℕ) {C : Configuration} (s : State) → Ticks c n (standing s) C → Led n s C
-  unfolding passedTimes withPending lapsed dueIn
+  unfolding passedTimes withPending lapsed
   ticks-lead zero s no-tick = record { end-is = refl; idle-before = λ k h. absurd (omega arith) }
   ticks-lead (suc n) {C} s (one-more (tick l r) t) =
       let x : Led n (timePassed s) C = ticks-lead n (timePassed s) (subst (λ (D : Configuration). Ticks c n D C) (one-later s) t) in
       record { end-is = x .end-is; idle-before = before x }
     where
       before : Led n (timePassed s) C → (k : ℕ) → k < suc n → dueIn c (passedTimes k s) ≡ due.Nothing
-      before x zero h = ready-none c s 0 r
+      before x zero h = ready-none c s r
       before x (suc k) h = x .idle-before k (omega arith)
 
 -- ---- from the machine's answer
@@ -73,22 +73,20 @@ module _ (c : Contract) where
 -- where so many ticks end, in the terms of the first state
 end-stop : (c : Contract) (s : State) (T : ℤ) (n : ℕ) → leZ (pos (s .clock + n)) T ≡ true → (dueIn c (passedTimes n s) ≡ due.Nothing → pos (s .clock + n) ≡ T)
     → Stop c T (s .state) (memoryAt (passedTimes n s)) (live (passedTimes n s))
-unfolding dueIn
 end-stop c s T n l f = go (dueIn c (passedTimes n s)) refl
   where
     go : (d : Due) → dueIn c (passedTimes n s) ≡ d → Stop c T (s .state) (memoryAt (passedTimes n s)) (live (passedTimes n s))
     go due.Nothing d = at-time (ap pos (passed-clock n s) ∙ f d)
     go (due.At k) d =
-        let r = first-ready c (passedTimes n s) 0 k (live (passedTimes n s)) d in
+        let r = some-ready c (passedTimes n s) k d in
         at-event (ap (λ (t : ℕ). leZ (pos t) T) (passed-clock n s) ∙ l)
-        (subst (λ (q : ℕ). First (Ready c q (passedTimes n s .clock)) (r .0) (getD (live (passedTimes n s)) (r .0) blank) (live (passedTimes n s))) (passed-state n s) (r .2))
+        (subst (λ (q : ℕ). First (Ready c q (passedTimes n s .clock)) (r .0) (getD (live (passedTimes n s)) (r .0) blank) (live (passedTimes n s))) (passed-state n s) (r .1))
 
 idle-end : (s : State) (n : ℕ) → s .agreed ≡ true → idle (passedTimes n s) ≡ at (s .state) (passedTimes n s)
 idle-end s n a = idle-standing (passedTimes n s) (passed-agreed n s ∙ a) ∙ ap (λ (q : ℕ). at q (passedTimes n s)) (passed-state n s)
 
 module _ (c : Contract) (s : State) where
   came-derives : {T : ℤ} {r : Stepped} {C : Configuration} → within T ≡ true → ComesOut c s (steps.jump T) r → Comes r (Accepted Tick) [] C → Jump c T (idle s) C
-  unfolding dueIn
   came-derives e (refusal n) o = let z : _≡_ {A = ℕ} 0 1 = cc (o .outcome-is) in absurd (omega arith)
   came-derives {C = C} e (jumps T a d l) o =
       let r : TimeIn (s .clock) T = time-in (s .clock) T e l in
@@ -97,7 +95,7 @@ module _ (c : Contract) (s : State) where
       let h : s .clock + n ≤ natAbs T = omega (arith, r .from, f .no-further) in
       subst (λ (x : Configuration). Jump c T x C) (sym (idle-standing s a))
       (subst (Jump c T (standing s)) (sym (idle-end s n a) ∙ o .leads-to)
-      (jump (none-ready c s 0 (live s) d) (ticks-derive c n s (omega (arith, r .most)) (f .not-before))
+      (jump (none-ready c s d) (ticks-derive c n s (omega (arith, r .most)) (f .not-before))
       (end-stop c s T n (ap (leZ (pos (s .clock + n))) (sym (r .is)) ∙ le-leb (s .clock + n) (natAbs T) h)
       (λ q. let k : s .clock + n ≡ natAbs T = omega (arith, r .from, f .due-or-most q) in ap pos k ∙ r .is))))
 
@@ -131,7 +129,6 @@ module _ (c : Contract) (s : State) (T : ℤ) where
   -- the ticks of a derivation are those of the machine
   led-stop : (n : ℕ) → ((k : ℕ) → k < n → dueIn c (passedTimes k s) ≡ due.Nothing)
       → Stop c T (s .state) (memoryAt (passedTimes n s)) (live (passedTimes n s)) → FirstStop c (natAbs T - s .clock) s n
-  unfolding dueIn
   led-stop n f x =
       let u : State = passedTimes n s in
       let h = ahead (u .clock) T (stop-ahead x) .0 in
@@ -140,7 +137,7 @@ module _ (c : Contract) (s : State) (T : ℤ) where
         not-before = f;
         due-or-most = λ d.
             let e : u .clock ≡ natAbs T =
-            ap natAbs (stop-there x (subst (λ (q : ℕ). None (Ready c q (u .clock)) (live u)) (passed-state n s) (none-ready c u 0 (live u) d))) in
+            ap natAbs (stop-there x (subst (λ (q : ℕ). None (Ready c q (u .clock)) (live u)) (passed-state n s) (none-ready c u d))) in
             omega (arith, passed-clock n s);
       }
 
@@ -157,14 +154,13 @@ module _ (c : Contract) (s : State) (T : ℤ) where
 
   derived-comes : {C : Configuration} (b : Bool) → s .agreed ≡ b → Jump c T (runtime (phaseOf b (s .state)) (memoryAt s) nothing (live s)) C
       → Comes (jumped c s T) (Accepted Tick) [] C
-  unfolding dueIn
   derived-comes false a j = absurd (starts j)
   derived-comes true a (jump {n = n} {m = m'} {Ψ = Ψ'} r t x) =
       let u : State = passedTimes n s in
       let y : Led c n s (runtime (inState (s .state)) m' nothing Ψ') = ticks-lead c n s t in
       let em : m' ≡ memoryAt u = cc (y .end-is) in
       let ep : Ψ' ≡ live u = cc (y .end-is) in
-      led-comes n a (ready-none c s 0 r) y
+      led-comes n a (ready-none c s r) y
       (subst (λ (z : Memory). Stop c T (s .state) z (live u)) em (subst (Stop c T (s .state) m') ep x))
 
   pub jump-comes : {C : Configuration} → Jump c T (idle s) C → Comes (jumped c s T) (Accepted Tick) [] C

@@ -33,21 +33,20 @@ module _ (c : Contract) (s : State) where
   idle-later a = λ i. runtime (phaseOf (a i) (s .state)) (afterTick (memoryAt s)) nothing (live-lapsed s i)
 
   came-derives : {r : Stepped} {C : Configuration} → ComesOut c s steps.tick r → Comes r (Accepted Tick) [] C → Table2 c (idle s) time C
-  unfolding dueIn
   came-derives (refusal n) o = let z : _≡_ {A = ℕ} 0 1 = cc (o .outcome-is) in absurd (omega arith)
   came-derives {C = C} (ticks a d l) o =
       subst (λ (x : Configuration). Table2 c x time C) (sym (idle-standing s a))
-      (subst (Table2 c (standing s) time) (sym (idle-later a) ∙ o .leads-to) (tick l (none-ready c s 0 (live s) d)))
+      (subst (Table2 c (standing s) time) (sym (idle-later a) ∙ o .leads-to) (tick l (none-ready c s d)))
 
   pub tick-derives : {C : Configuration} → Comes (ticked c s) (Accepted Tick) [] C → Table2 c (idle s) time C
   tick-derives o = came-derives (tick-came c s) o
 
   derived-comes : {C : Configuration} (b : Bool) → s .agreed ≡ b → Table2 c (runtime (phaseOf b (s .state)) (memoryAt s) nothing (live s)) time C
       → Comes (ticked c s) (Accepted Tick) [] C
-  unfolding ticked dueIn
+  unfolding ticked
   derived-comes false a t = absurd (starts t)
   derived-comes true a (tick l n) =
-      let d : dueIn c s ≡ due.Nothing = ready-none c s 0 n in
+      let d : dueIn c s ≡ due.Nothing = ready-none c s n in
       let e : ticked c s ≡ answered (Accepted Tick) (timePassed s) = pick-true _ _ _ a ∙ ap (tickByDue s) d ∙ pick-true _ _ _ (lt-ltb (s .clock) top l) in
       comes-by e (record { outcome-is = refl; count-is = refl; labels-are = refl; leads-to = idle-later a })
 

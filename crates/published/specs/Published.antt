@@ -1,6 +1,6 @@
 -- The published rules (source 000, section 4): Table 2 and Table 3 as relations, one constructor a rule; [ASSET UPDATE] has two
--- constructors, and `eventFailed` is document 01's. Where document 01 changes a rule or completes it, its words stand at that place. A jump
--- (document 02) is so many [TICK]s.
+-- constructors, and `eventFailed` is document 01's. Where document 01 or 02 changes a rule or completes it, its words stand at that place. A
+-- jump (document 02) is so many [TICK]s.
 use Prim.Native.Nat.{ℕ, suc, _+_, _-_, _<_, _≤_}
 use mathlib.Core.Path.{_≡_}
 use mathlib.Core.Logic.{_↔_}
@@ -189,6 +189,17 @@ pub record Ready (c : Contract) (q t : ℕ) (p : Pending) : Type 0 where
 abbrev pub NothingReady : Contract → ℕ → Memory → List Pending → Type 0
 NothingReady c q m = None (Ready c q (m .clock))
 
+-- p stands before r in the contract's text: its function's number is lower or, in the same function, its place among that function's
+-- events is
+pub data Before (p r : Pending) : Type 0 where
+  by-function : p .function < r .function → Before p r
+  by-event : p .function ≡ r .function → p .event < r .event → Before p r
+
+-- p is ready, and no ready event of Ψ stands before it in the text; of the same event in the text several may be foremost
+pub record Foremost (c : Contract) (q t : ℕ) (Ψ : List Pending) (p : Pending) : Type 0 where
+  pub ready : Ready c q t p
+  pub none-before : None (λ r. Ready c q t r × Before r p) Ψ
+
 -- @Q A : f is called by A, in state Q, by the name f
 pub record Called (c : Contract) (q : ℕ) (i : Invocation) (f : Function) : Type 0 where
   pub in-state : f .state ≡ q
@@ -321,15 +332,15 @@ pub data Table2 (c : Contract) : Configuration → Mark → Configuration → Ty
       → Times m n 0 W Ψ'
       → length Ψ + length Ψ' ≤ maxPending
       → Table2 c (runtime (inState q) m (left [] n W q') Ψ) change (runtime (inState q') (unbound m) nothing (Ψ ++ Ψ'))
-  -- The oldest due event comes first.
+  -- Among due events the one that stands first in the contract text is fired; for two of the same event in the text, the older.
   eventMatch : {q k : ℕ} {p : Pending} {m : Memory} {Ψ : List Pending}
-      → First (Ready c q (m .clock)) k p Ψ
+      → First (Foremost c q (m .clock) Ψ) k p Ψ
       → Table2 c (runtime (inState q) m nothing Ψ) match
       (runtime (inState q) (bound m [] []) (left (inOrder (eventOf c p .handler)) 0 [] (eventOf c p .last)) (without k Ψ))
   -- A failed handler consumes its event instead of sticking; the answer has the number that it meets. `Stuck` follows from `Meets`, and
   -- stands here as the published reason.
   eventFailed : {q k n : ℕ} {p : Pending} {m m' : Memory} {Ψ : List Pending} {ls : List Label} {s : Statement} {ss : List Statement}
-      → First (Ready c q (m .clock)) k p Ψ
+      → First (Foremost c q (m .clock) Ψ) k p Ψ
       → Statements (bound m [] []) (inOrder (eventOf c p .handler)) ls m' (s ∷ ss)
       → Stuck m' (s ∷ ss)
       → Meets m' s n
@@ -353,7 +364,7 @@ pub data Ticks (c : Contract) : ℕ → Configuration → Configuration → Type
   no-tick : {C : Configuration} → Ticks c 0 C C
   one-more : {n : ℕ} {C C' C'' : Configuration} → Table2 c C time C' → Ticks c n C' C'' → Ticks c (suc n) C C''
 
--- where a jump to T ends: at T, or where an event is ready and the clock is not after T
+-- where a jump to T ends: at T, or where an event is ready, whichever it is, and the clock is not after T
 pub data Stop (c : Contract) (T : ℤ) (q : ℕ) (m : Memory) (Ψ : List Pending) : Type 0 where
   at-time : pos (m .clock) ≡ T → Stop c T q m Ψ
   at-event : {k : ℕ} {p : Pending} → leZ (pos (m .clock)) T ≡ true → First (Ready c q (m .clock)) k p Ψ → Stop c T q m Ψ

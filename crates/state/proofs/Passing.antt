@@ -20,11 +20,11 @@ use Rattle.state.specs.declared.State.{State}
 use Rattle.state.specs.declared.Pending.{Pending}
 use Rattle.state.specs.declared.Due.{Due}
 use Rattle.state.specs.declared.Due.the-variants.{At, Nothing}
-use Rattle.state.specs.States.{maxPending, blank, live, eventOf, fieldSlotOk, assetSlotOk, pendingOk, stateOk, dueIn, withPending, withTimes, later, lapsed, timePassed, passedTimes, unlessDue, timesUntilDue, FirstStop}
-use Rattle.state.specs.Private.{notDropped, comesDue}
+use Rattle.state.specs.States.{maxPending, blank, live, eventOf, fieldSlotOk, assetSlotOk, pendingOk, stateOk, isDue, foremostPlace, firstInText, dueIn, withPending, withTimes, later, lapsed, timePassed, passedTimes, unlessDue, timesUntilDue, FirstStop}
+use Rattle.state.specs.Private.{notDropped, comesDue, dueAt}
 use Rattle.state.proofs.Kept.{one-more}
 use Rattle.state.proofs.Each.{Each, none, more, each-append, each-getD, each-keep}
-use Rattle.state.proofs.First.{dueAt, firstOf, first-due-of, other-time, due-now, in-take}
+use Rattle.state.proofs.First.{other-time, due-now, in-take}
 use Rattle.state.proofs.Within.{Within, within, is-ok, slots-ok, lapsed-later, live-lapsed}
 
 -- ---- lists
@@ -68,19 +68,23 @@ module _ {A : Type 0} where
 
 -- nothing passes the test
 module _ (p : Pending → Bool) where
-  none-first : (i : ℕ) (l : List Pending) → firstOf p i l ≡ Nothing → Each (λ x. p x ≡ false) l
-  unfolding firstOf
+  -- the answer of a search that has found x at place i
+  abbrev found : ℕ → Pending → List Pending → Due
+  found i x l = At (foremostPlace p i x (suc i) l)
+
+  none-first : (i : ℕ) (l : List Pending) → firstInText p i l ≡ Nothing → Each (λ x. p x ≡ false) l
+  unfolding firstInText
   none-first i [] e = none
   none-first i (x ∷ l) e = go (p x) refl e (none-first (suc i) l)
     where
-      go : (a : Bool) → p x ≡ a → pick a (At i) (firstOf p (suc i) l) ≡ Nothing → (firstOf p (suc i) l ≡ Nothing → Each (λ x. p x ≡ false) l) → Each (λ x. p x ≡ false) (x ∷ l)
+      go : (a : Bool) → p x ≡ a → pick a (found i x l) (firstInText p (suc i) l) ≡ Nothing → (firstInText p (suc i) l ≡ Nothing → Each (λ x. p x ≡ false) l) → Each (λ x. p x ≡ false) (x ∷ l)
       go true h k r =
-          let g : At i ≡ Nothing = sym (pick-true true (At i) (firstOf p (suc i) l) refl) ∙ k in
+          let g : found i x l ≡ Nothing = sym (pick-true true (found i x l) (firstInText p (suc i) l) refl) ∙ k in
           let z : _≡_ {A = ℕ} 0 1 = cc in absurd (omega arith)
-      go false h k r = more h (r (sym (pick-false false (At i) (firstOf p (suc i) l) refl) ∙ k))
+      go false h k r = more h (r (sym (pick-false false (found i x l) (firstInText p (suc i) l) refl) ∙ k))
 
-  first-none : (i : ℕ) {l : List Pending} → Each (λ x. p x ≡ false) l → firstOf p i l ≡ Nothing
-  unfolding firstOf
+  first-none : (i : ℕ) {l : List Pending} → Each (λ x. p x ≡ false) l → firstInText p i l ≡ Nothing
+  unfolding firstInText
   first-none i none = refl
   first-none i (more h e) = pick-false _ _ _ h ∙ first-none (suc i) e
 
@@ -209,11 +213,9 @@ module _ (c : Contract) where
 -- ---- what is due then
 
 module _ (c : Contract) (s : State) (n : ℕ) where
-  due-then : dueIn c (passedTimes n s) ≡ firstOf (dueAt c (s .clock + n) (s .state)) 0 (keep (λ p. notDropped (s .clock) (s .clock + n) (p .time)) (live s))
-  unfolding dueIn
-  due-then =
-      first-due-of c (passedTimes n s) 0 (live (passedTimes n s))
-      ∙ (λ i. firstOf (dueAt c (passed-clock n s i) (passed-state n s i)) 0 (passed-live n s i))
+  due-then : dueIn c (passedTimes n s) ≡ firstInText (dueAt c (s .clock + n) (s .state)) 0 (keep (λ p. notDropped (s .clock) (s .clock + n) (p .time)) (live s))
+  unfolding dueIn isDue dueAt
+  due-then = λ i. firstInText (dueAt c (passed-clock n s i) (passed-state n s i)) 0 (passed-live n s i)
 
   -- an event that was dropped is not due
   dropped-idle : (p : Pending) → notDropped (s .clock) (s .clock + n) (p .time) ≡ false → dueAt c (s .clock + n) (s .state) p ≡ false

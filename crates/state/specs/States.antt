@@ -1,4 +1,5 @@
--- The state of a contract: fresh, within its ranges (question 4), which pending event is due, and how time passes.
+-- The state of a contract: fresh, within its ranges (question 4), which pending events are due and which of them comes first, and how time
+-- passes.
 use Prim.Native.Nat.{ℕ, zero, suc, _-_, _≤_, _<_}
 use mathlib.Core.Bool.{Bool, true, false, not, _&&_}
 use mathlib.Core.List.{List, [], _∷_, _++_}
@@ -109,14 +110,40 @@ stateOk c s =
 unfoldable pub isDue : Contract → State → Pending → Bool
 isDue c s p = eqb (p .time) (s .clock) && eqb (eventOf c p .state) (s .state)
 
--- the place of the first of these that is due, counted from i
-unfoldable pub firstDue : Contract → State → ℕ → List Pending → Due
-firstDue c s i [] = Nothing
-firstDue c s i (p ∷ ps) = pick (isDue c s p) (At i) (firstDue c s (suc i) ps)
+-- p stands before r in the contract's text: its function's number is lower or, in the same function, its place among that function's
+-- events is; proved (`first-in-text`, history) to be the order of the bytes where events begin
+unfoldable pub standsBefore : Pending → Pending → Bool
+standsBefore p r = pick (eqb (p .function) (r .function)) (ltb (p .event) (r .event)) (ltb (p .function) (r .function))
 
--- the oldest due event comes first
+-- p, at place k, is the first in the text so far, and the list goes on at place i: the place of the one that stands first in the text, of p
+-- and of those in the list that pass the test; one of the list replaces p only if it stands before it, so of the same event the older is kept
+unfoldable pub foremostPlace : (Pending → Bool) → ℕ → Pending → ℕ → List Pending → ℕ
+foremostPlace test k p i [] = k
+foremostPlace test k p i (r ∷ rs) = pick (test r && standsBefore r p) (foremostPlace test i r (suc i) rs) (foremostPlace test k p (suc i) rs)
+
+-- the place, counted from i, of the one that stands first in the text, of those in the list that pass the test; of the same event, of the
+-- older; Nothing if none passes
+unfoldable pub firstInText : (Pending → Bool) → ℕ → List Pending → Due
+firstInText test i [] = Nothing
+firstInText test i (p ∷ ps) = pick (test p) (At (foremostPlace test i p (suc i) ps)) (firstInText test (suc i) ps)
+
+-- where the first due event is: among due events the one that stands first in the contract's text; for two of the same event in the text,
+-- the older (document 02, F-4); Nothing if none is due
 unfoldable pub dueIn : Contract → State → Due
-dueIn c s = firstDue c s 0 (live s)
+dueIn c s = firstInText (isDue c s) 0 (live s)
+
+-- the pending event at a place, the oldest at 0
+abbrev pub pendingAt : State → ℕ → Pending
+pendingAt s k = getD (live s) k blank
+
+-- the event that a firing takes is at place k: it is due, no due event stands before it in the text, and of the due ones that are the same
+-- event of the text it is the oldest; proved (`first-to-fire`) of the place that `dueIn` gives, and of no other (`one-to-fire`)
+pub record FirstToFire (c : Contract) (s : State) (k : ℕ) : Type 0 where
+  pub is-pending : k < length (live s)
+  pub is-due : isDue c s (pendingAt s k) ≡ true
+  pub none-before : (j : ℕ) → j < length (live s) → isDue c s (pendingAt s j) ≡ true → standsBefore (pendingAt s j) (pendingAt s k) ≡ false
+  pub none-older : (j : ℕ) → j < k → isDue c s (pendingAt s j) ≡ true
+      → pendingAt s j .function ≡ pendingAt s k .function → pendingAt s j .event ≡ pendingAt s k .event → ⊥
 
 -- ---- a state with a part changed; nowhere else is the record written out again
 

@@ -11,8 +11,8 @@ ghost use Rattle.numbers.specs.Numbers.{eqZ};
 ghost use Rattle.contract.specs.Limits.{top, maxFields, maxAssets};
 ghost use Rattle.laws.specs.Lists.{allBelow, keep};
 ghost use Rattle.contract.specs.Decode.{contractOf};
-ghost use Rattle.state.specs.States.{freshAt, eventOf, fieldOk, fieldSlotOk, assetSlotOk, maxPending, pendingOk, isBlank, pendingSlotOk, stateOk, dueIn, removed, joinedBy, passedTimes, timesUntilDue};
-ghost use Rattle.state.specs.Private.{slotsOf, notDropped, comesDue};
+ghost use Rattle.state.specs.States.{freshAt, eventOf, fieldOk, fieldSlotOk, assetSlotOk, maxPending, pendingOk, isBlank, pendingSlotOk, stateOk, standsBefore, dueIn, removed, joinedBy, passedTimes, timesUntilDue};
+ghost use Rattle.state.specs.Private.{slotsOf, notDropped, comesDue, dueAt, takesOver};
 use contract::Contract;
 
 // A pending event: its function, which of that function's events it is, and its time.
@@ -292,7 +292,37 @@ fn event_state(table: &[u64], p: Pending) -> usize
     contract::event_at(table, first + event).state
 }
 
-// The first due event.
+// Whether an event stands before another in the contract's text.
+fn stands_before(p: Pending, q: Pending) -> bool
+    ensures { λ r. ⌜ r ≡ standsBefore p q ⌝ }
+{
+    if p.function == q.function {
+        return p.event < q.event;
+    }
+    p.function < q.function
+}
+
+// Whether an event takes the place of what was found so far: of nothing, or of an event that it stands before.
+fn takes_over(found: Due, first: Pending, p: Pending) -> bool
+    ensures { λ r. ⌜ r ≡ takesOver found first p ⌝ }
+{
+    match found {
+        Due::At(_) => stands_before(p, first),
+        Due::Nothing => true,
+    }
+}
+
+// Whether an event is due.
+fn due_at(table: &[u64], clock: u64, state: usize, p: Pending) -> bool
+    ensures { λ r. ⌜ r ≡ dueAt (contractOf (now (table .entry))) clock state p ⌝ }
+{
+    if p.time == clock {
+        return event_state(table, p) == state;
+    }
+    false
+}
+
+// Among the due events the one that stands first in the contract's text; of the same event, the oldest.
 pub fn first_due(table: &[u64], s: State) -> Due
     ensures { λ r. ⌜ r ≡ dueIn (contractOf (now (table .entry))) s ⌝ }
 {
@@ -300,20 +330,27 @@ pub fn first_due(table: &[u64], s: State) -> Due
     let clock = s.clock;
     let pending = s.pending;
     let events = s.events;
+    let mut found = Due::Nothing;
+    let mut first = Pending {
+        function: 0,
+        event: 0,
+        time: 0,
+    };
     let mut i: usize = 0;
     while i < State::PENDING {
         if pending <= i {
-            return Due::Nothing;
+            return found;
         }
         let p = events[i];
-        if p.time == clock {
-            if event_state(table, p) == state {
-                return Due::At(i);
+        if due_at(table, clock, state, p) {
+            if takes_over(found, first, p) {
+                found = Due::At(i);
+                first = p;
             }
         }
         i += 1;
     }
-    Due::Nothing
+    found
 }
 
 // ---- The pending events change.

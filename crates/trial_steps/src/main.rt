@@ -11,7 +11,7 @@
 // A step prints its line, what came of it, how many labels there are, and how many entries the slice kept; and then each entry
 // that it did not keep: its place, kind, party, value. Without that last 1 the next line has the state from before it. Lines with a semicolon are contracts' texts.
 // Expected results: to be read against document 01 (question 20, the labels' order; entries past them are kept); who worked them out, and how, is not recorded here.
-// Those of jumps were worked out from document 02, F-3, before they were run.
+// Those of jumps and of due events in the order of the text were worked out from document 02, F-3 and F-4, before they were run.
 ghost use mathlib.Core.Path.{_≡_};
 ghost use Prim.Native.Nat.{_≤_, _<_};
 ghost use lib.ListN.{length, take, drop};

@@ -3,7 +3,7 @@ use borrow.Author.Needs.{needs}
 use mathlib.Core.Path.{sym, ap, _∙_}
 use borrow.Author.Tests.{not-true, not-false}
 use Rattle.contract.specs.Decode.{contractOf}
-use Rattle.state.proofs.Dues.{due-found}
+use Rattle.state.proofs.Dues.{first-to-fire}
 use Rattle.outcomes.specs.declared.Stepped.{Stepped}
 use Rattle.machine.specs.Private.{replyOf}
 use Rattle.machine.proofs.Firings.{fire-unagreed, fire-due}
@@ -32,7 +32,7 @@ handle-requires c κs =
     let c2 = c .before .before in
     let c4 = c2 .before .before in
     let c8 = c4 .before .before .before .before in
-    (due-found (contractOf (c8 .args .table .now)) (c8 .args .s) _ (sym (c4 .first-due .ensures) ∙ c2 .due .given .1) .0, c8 .pre)
+    (first-to-fire (contractOf (c8 .args .table .now)) (c8 .args .s) _ (sym (c4 .first-due .ensures) ∙ c2 .due .given .1) .is-pending, c8 .pre)
 
 returns-3 : tie.Need-returns-3
 returns-3 c =
