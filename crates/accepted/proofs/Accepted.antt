@@ -33,7 +33,8 @@ use Rattle.accepted.proofs.Judged.{Clean, judged-clean, clean-first, cl
 use Rattle.accepted.proofs.Known.{wordsFor, rightItem, known-few, known-right, every-latest}
 use Rattle.accepted.proofs.Counts.{tally, headsIn, tally-append, heads-append, count-latest, always-on, count-few, heads-few}
 use Rattle.accepted.proofs.Sorted.{SyntaxSorted, parse-sorted}
-use Rattle.accepted.proofs.CodeItems.{declared-right, functions-right, functions-nodes, functions-events, functions-heads, length-each}
+use Rattle.accepted.proofs.CodeItems.{declared-right, functions-right, functions-nodes, functions-events, functions-heads}
+use Rattle.reading.proofs.Mapped.{length-each}
 use Rattle.accepted.proofs.Late.{late-known, functions-late}
 use Rattle.accepted.proofs.FunctionsFit.{seven, Reach, reach-back, met-shared, functions-in, clauses-in, clauses-plain, clauses-right, length-clauses, clause-lengths, has-same}
 

@@ -26,6 +26,7 @@ use Rattle.reading.specs.Resolve.{Names, within, eachOf, comparisonOf, holderOf
 use Rattle.accepted.proofs.Known.{plain, rightItem}
 use Rattle.accepted.proofs.Counts.{tally, headsIn, goesOn, tally-append, heads-append}
 use Rattle.reading.proofs.TokenKinds.{Each}
+use Rattle.reading.proofs.Mapped.{length-each}
 use Rattle.accepted.proofs.Sorted.{arithmetic, isExpression, isCondition, isAction, isBlock, isNamed, isEvent, isPrecondition, FunctionSorted}
 
 value-kinds : (c : Site) → every (λ k. ltb k 7) (valueKinds c) ≡ true
@@ -73,11 +74,6 @@ pub declared-heads : (k : ℕ) (xs : List Span) → headsIn (declared k xs) ≡ 
 unfolding ofEach headsIn
 declared-heads k [] = refl
 declared-heads k (x ∷ xs) = declared-heads k xs
-
-pub length-each : {A B : Type 0} (f : A → B) (xs : List A) → length (eachOf f xs) ≡ length xs
-unfolding eachOf
-length-each f [] = refl
-length-each f (x ∷ xs) = ap suc (length-each f xs)
 
 -- the items of a function after its parameters
 abbrev pub codeItems : Function → List Item

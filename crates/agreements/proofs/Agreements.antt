@@ -26,7 +26,7 @@ use Rattle.contract.specs.Decode.{eachFrom, contractOf}
 use Rattle.contract.specs.Check.{passes}
 use Rattle.state.specs.declared.State.{State}
 use Rattle.state.specs.States.{withInteger, opened}
-use Rattle.laws.proofs.Truths.{both-of}
+use Rattle.laws.proofs.Truths.{both-of, not-so}
 use Rattle.outcomes.specs.declared.Rule.the-variants.{Agree}
 use Rattle.outcomes.specs.declared.Outcome.the-variants.{Accepted}
 use Rattle.outcomes.specs.Outcomes.{answered, refused}
@@ -114,10 +114,6 @@ counted c k p e =
     let three = both-of d f (both-of b (d && f) (both-of a (b && (d && f)) e .1) .1) in
     record { fields = same-count c (k .fields) (p .fields) (three .0); values = eqb-true (length (p .values)) (length (p .fields)) (three .1) }
 
-not-so : (b : Bool) → (b ≡ true → ⊥) → false ≡ b
-not-so true h = absurd (h refl)
-not-so false h = refl
-
 module _ (c : Contract) (k : Clause) (line parts spans : List ℕ) (values : List ℤ) (i at : ℕ) (room : at ≤ length values) where
   abbrev count : ℕ
   count = getD parts (i * 4 + 3) 0
@@ -134,10 +130,10 @@ module _ (c : Contract) (k : Clause) (line parts spans : List ℕ) (values : Lis
       (omega (arith, a), omega (arith, a, length-take count (drop at values), length-drop at values))
 
   pub other-count : (count ≡ length (k .fields) → ⊥) → false ≡ sameClause c k it
-  other-count n = not-so _ (λ e. n (same-clause-counts e .0))
+  other-count n = sym (not-so _ (λ e. n (same-clause-counts e .0)))
 
   pub values-short : length values < at + count → false ≡ sameClause c k it
-  values-short n = not-so _ (λ e. let h = same-clause-counts e .1 in omega arith)
+  values-short n = sym (not-so _ (λ e. let h = same-clause-counts e .1 in omega arith))
 
   module _ (n : at + count ≤ length values) where
     clause-is : sameClause c k it ≡ (sameBytes (it .party) (getD (c .parties) (k .party) []) && (sameVerb (k .verb) (it .verb) && (sameFields c (k .fields) (it .fields) && true)))
@@ -236,7 +232,7 @@ clauses-count c (k ∷ ks) line (suc n) parts spans values e =
     ap suc (clauses-count c ks line n (drop 4 parts) (drop (getD parts 3 0 * 2) spans) (drop (getD parts 3 0) values) (both-of (sameClause c k (firstPart line parts spans values)) (sameClauses c ks l) e .1))
 
 pub other-clauses : (c : Contract) (ks : List Clause) (line : List ℕ) (n : ℕ) (parts spans : List ℕ) (values : List ℤ) → (n ≡ length ks → ⊥) → false ≡ sameClauses c ks (partsIn line n parts spans values)
-other-clauses c ks line n parts spans values h = not-so _ (λ e. h (clauses-count c ks line n parts spans values e))
+other-clauses c ks line n parts spans values h = sym (not-so _ (λ e. h (clauses-count c ks line n parts spans values e)))
 
 module _ (c : Contract) (f : ℕ → Clause) (line parts spans : List ℕ) (values : List ℤ) (n i at : ℕ) where
   abbrev rest : Bool

@@ -1,5 +1,5 @@
 -- Events stand in the text by function and then by event, and the contract has as many of them as the tree. Assumes nothing.
-use mathlib.Core.Path.{_≡_, refl, ap}
+use mathlib.Core.Path.{_≡_, sym, _∙_}
 use mathlib.Core.List.{List, [], _∷_, _++_}
 use Prim.Native.Nat.{ℕ, zero, suc, _<_, _≤_}
 use native.Mathlib.Omega.{arith}
@@ -8,11 +8,10 @@ use Rattle.tokens.specs.declared.Token.{Token}
 use Rattle.tokens.proofs.Facts.{progress}
 use Rattle.contract.specs.Tree as contract
 use Rattle.reading.specs.Syntax.{Event, Body, Function, Syntax}
-use Rattle.reading.specs.Grammar.{done, parse}
 use Rattle.reading.specs.Resolve.{Names, eachOf, functionOf, resolve}
+use Rattle.reading.proofs.Mapped.{length-each}
 use Rattle.grammar.specs.Derivations.{Tokens, TokensOf, Starts, startOf, leaves, Braced, EventOf, BodyOf, FunctionOf, Each, Derives}
 use Rattle.grammar.specs.Order.{placesIn, eventPlaces, InOrder}
-use Rattle.grammar.proofs.Sound.{parse-sound}
 use Rattle.grammar.proofs.Complete.{tokens-split, tokens-within}
 
 -- ---- parts in a row
@@ -167,16 +166,10 @@ events-in-order s t ts h
     let y = among-tokens s zs ts 0 (h .end) k (h .all) in
     laid-in-order t (y .0) (y .1) (functions-rise s (t .functions) zs (y .0) (y .1) fs (y .4))
 
--- so does the tree that is read
-pub parsed-in-order : (s : List ℕ) (t : Syntax) (n : ℕ) → parse s ≡ done t n → InOrder t
-parsed-in-order s t n e = let y = parse-sound s t n e in events-in-order s t (y .0) (y .1) (y .2)
-
 -- ---- the contract of a tree
 
 lengths-same : {A B C : Type 0} (f : A → B) (g : A → C) (xs : List A) → length (eachOf f xs) ≡ length (eachOf g xs)
-unfolding eachOf
-lengths-same f g [] = refl
-lengths-same f g (x ∷ xs) = ap suc (lengths-same f g xs)
+lengths-same f g xs = length-each f xs ∙ sym (length-each g xs)
 
 -- the contract has as many functions as the tree
 pub resolved-functions : (s : List ℕ) (t : Syntax) → length (resolve s t .functions) ≡ length (eventPlaces t)

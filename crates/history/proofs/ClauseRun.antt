@@ -13,7 +13,7 @@ use Rattle.contract.specs.Decode.{contractOf}
 use Rattle.state.specs.declared.State.{State}
 use Rattle.state.specs.declared.Due.{Due}
 use Rattle.state.specs.declared.Due.the-variants as due
-use Rattle.state.specs.States.{blank, noFunction, live, pendingOk, stateOk, dueIn}
+use Rattle.state.specs.States.{blank, noFunction, live, pendingOk, stateOk, dueIn, pendingAt}
 use Rattle.state.proofs.Dues.{first-to-fire}
 use Rattle.state.proofs.Each.{each-getD}
 use Rattle.state.proofs.Within.{within, live-ok}
@@ -36,16 +36,18 @@ RunsAsAsked c firing r = ClauseOf c r
 RunsAsAsked c tick r = r ≡ neither
 RunsAsAsked c (jump T) r = r ≡ neither
 
--- a pending event that is due, in a state within question 4
-due-clause : (c : Contract) (s : State) (k : ℕ) → stateOk c s ≡ true → dueIn c s ≡ due.At k → ClauseOf c (clauseDue s (dueIn c s))
+-- a pending event, in a state within question 4
+pub pending-clause : (c : Contract) (s : State) (k : ℕ) → stateOk c s ≡ true → k < length (live s) → ClauseOf c (event (pendingAt s k .function) (pendingAt s k .event))
 unfolding pendingOk
-due-clause c s k o d =
-    let p = getD (live s) k blank in
-    let e = each-getD (live-ok c s (within c s o)) k blank (first-to-fire c s k d .is-pending) in
-    subst (λ (z : Due). ClauseOf c (clauseDue s z)) (sym d) (
+pending-clause c s k o h =
+    let p = pendingAt s k in
+    let e = each-getD (live-ok c s (within c s o)) k blank h in (
       ltb-true (p .function) (length (c .functions)) (both-left _ _ e),
       ltb-true (p .event) (length (getD (c .functions) (p .function) noFunction .events)) (both-left _ _ (both-right (ltb (p .function) (length (c .functions))) _ e)),
     )
+
+due-clause : (c : Contract) (s : State) (k : ℕ) → stateOk c s ≡ true → dueIn c s ≡ due.At k → ClauseOf c (clauseDue s (dueIn c s))
+due-clause c s k o d = subst (λ (z : Due). ClauseOf c (clauseDue s z)) (sym d) (pending-clause c s k o (first-to-fire c s k d .is-pending))
 
 came-clause : {q : Request} {r : Stepped} (c : Contract) (s : State) → stateOk c s ≡ true → ComesOut c s q r → isRefused (r .outcome) ≡ false → RunsAsAsked c q (clauseRun c s q)
 came-clause c s o (refusal n) e = true-false e

@@ -18,7 +18,7 @@ use Rattle.contract_laws.proofs.Passing.{passing}
 use Rattle.contract_laws.proofs.RoundTrip.{decode-encode}
 use Rattle.evaluation.specs.Meaning.{fieldValue, valueOf, truthOf}
 use Rattle.state.specs.declared.State.{State}
-use Rattle.state.specs.States.{freshAt, eventOf, withPending, isDue, standsBefore, foremostPlace, firstInText, dueIn, fieldOk, fieldSlotOk, assetSlotOk, pendingOk, isBlank, pendingSlotOk, stateOk}
+use Rattle.state.specs.States.{freshAt, eventOf, withPending, isDue, standsBefore, isForemost, firstDue, dueIn, fieldOk, fieldSlotOk, assetSlotOk, pendingOk, isBlank, pendingSlotOk, stateOk}
 use Rattle.statements.specs.Running.{onward, labelled, moved, paid, performed, ran}
 use Rattle.outcomes.specs.Outcomes.{noLabels}
 use Rattle.holdings.specs.Holdings.{amounts}
@@ -71,7 +71,7 @@ unfolding isLetter isNameByte isStringByte within statements expressionSize cond
 all-passed = refl
 
 all-worked : directs cases ≡ expected
-unfolding pick sameBytes inRange divided every fieldValue valueOf truthOf repeated freshAt eventOf withPending isDue standsBefore foremostPlace firstInText dueIn onward labelled moved paid performed ran amounts answersTo choose preconditionHolds schedule finished invoked called ticked directs
+unfolding pick sameBytes inRange divided every fieldValue valueOf truthOf repeated freshAt eventOf withPending isDue standsBefore isForemost firstDue dueIn onward labelled moved paid performed ran amounts answersTo choose preconditionHolds schedule finished invoked called ticked directs
 all-worked = refl
 
 pub worked : results cases ≡ expected

@@ -1,4 +1,4 @@
--- The first due event by the contract's text, byte by byte (document 02, F-4).
+-- The first due event by the byte of the contract's text where each event begins (document 02, F-4).
 use Prim.Native.Nat.{ℕ, _<_, _≤_}
 use mathlib.Core.Path.{_≡_}
 use mathlib.Core.Bool.{true}

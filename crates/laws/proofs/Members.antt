@@ -10,7 +10,7 @@ use lib.Dec.{eqb}
 use borrow.Author.Tests.{eqb-true, eqb-false}
 use Rattle.laws.specs.Choice.{pick}
 use Rattle.laws.specs.Lists.{every, allBelow, repeated, keep}
-use Rattle.laws.proofs.Choice.{true-false, by-cases}
+use Rattle.laws.proofs.Choice.{true-false}
 use Rattle.laws.proofs.Truths.{both-left, both-right, both-true, and-false}
 
 -- ---- every member
@@ -20,6 +20,11 @@ unfolding every
 every-at p [] e i h d = absurd (omega arith)
 every-at p (x ∷ l) e zero h d = both-left (p x) (every p l) e
 every-at p (x ∷ l) e (suc i) h d = every-at p l (both-right (p x) (every p l) e) i (omega arith) d
+
+pub every-of : {A : Type 0} (p : A → Bool) (l : List A) (d : A) → ((i : ℕ) → i < length l → p (getD l i d) ≡ true) → every p l ≡ true
+unfolding every
+every-of p [] d f = refl
+every-of p (x ∷ l) d f = both-true (p x) (every p l) (f 0 (omega arith)) (every-of p l d (λ i h. f (suc i) (omega arith)))
 
 pub every-head : {A : Type 0} (p : A → Bool) (x : A) (l : List A) → every p (x ∷ l) ≡ true → p x ≡ true
 unfolding every

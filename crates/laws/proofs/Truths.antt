@@ -36,6 +36,11 @@ pub not-true : (b : Bool) → not b ≡ true → b ≡ false
 not-true true e = true-false (sym e)
 not-true false e = refl
 
+-- a test that is not true is false
+pub not-so : (b : Bool) → (b ≡ true → ⊥) → b ≡ false
+not-so true f = absurd (f refl)
+not-so false f = refl
+
 pub either-true : (a b : Bool) → (a || b) ≡ true → {X : Type 0} → (a ≡ true → X) → (b ≡ true → X) → X
 either-true true b e f g = f refl
 either-true false b e f g = g e

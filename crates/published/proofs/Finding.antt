@@ -12,36 +12,31 @@ use Rattle.laws.specs.Bytes.{sameBytes}
 use Rattle.laws.proofs.Choice.{pick-true, pick-false, true-false}
 use Rattle.laws.proofs.Bytes.{same-refl, same-equal}
 use Rattle.contract.specs.Tree.{Function, Contract}
-use Rattle.laws.proofs.Truths.{both-left, both-right, both-true}
+use Rattle.laws.proofs.Truths.{both-left, both-right, both-true, not-so}
 use Rattle.state.specs.declared.State.{State}
 use Rattle.state.specs.declared.Pending.{Pending}
 use Rattle.state.specs.declared.Due.the-variants.{At, Nothing}
 use Rattle.state.specs.States.{blank, live, eventOf, isDue, standsBefore, dueIn, pendingAt, FirstToFire, partyName}
-use Rattle.state.proofs.Dues.{function-before, event-before, before-by, before-either, first-to-fire, none-to-fire, one-to-fire, due-none}
+use Rattle.state.proofs.Dues.{function-before, event-before, before-by, same-behind, neither-before, first-to-fire, none-to-fire, one-to-fire, due-none}
 use Rattle.machine.specs.Steps.{Invocation, answersTo, chosen, choose}
 use Rattle.published.specs.Published.{First, here, there, None, end, and, Ready, Before, by-function, by-event, Foremost, Called}
-
--- a test that is not true is false
-pub not-true : (b : Bool) {P : Type 0} → (P → ⊥) → (b ≡ true → P) → b ≡ false
-not-true true ne f = absurd (ne (f refl))
-not-true false ne f = refl
 
 -- ---- lists by place
 
 module _ {A : Type 0} (P : A → Type 0) (d : A) where
   -- x is the first with the property, at place k
-  record FirstAt (k : ℕ) (x : A) (l : List A) : Type 0 where
-    inside : k < length l
-    there-is : getD l k d ≡ x
-    has : P x
-    none-sooner : (j : ℕ) → j < k → P (getD l j d) → ⊥
+  pub record FirstAt (k : ℕ) (x : A) (l : List A) : Type 0 where
+    pub inside : k < length l
+    pub there-is : getD l k d ≡ x
+    pub has : P x
+    pub none-sooner : (j : ℕ) → j < k → P (getD l j d) → ⊥
 
   first-by : (k : ℕ) (l : List A) → k < length l → P (getD l k d) → ((j : ℕ) → j < k → P (getD l j d) → ⊥) → First P k (getD l k d) l
   first-by k [] h p f = absurd (omega arith)
   first-by zero (x ∷ l) h p f = here p
   first-by (suc k) (x ∷ l) h p f = there (f 0 (omega arith)) (first-by k l (omega arith) p (λ j i. f (suc j) (omega arith)))
 
-  first-told : {k : ℕ} {x : A} {l : List A} → First P k x l → FirstAt k x l
+  pub first-told : {k : ℕ} {x : A} {l : List A} → First P k x l → FirstAt k x l
   first-told (here p) = record { inside = omega arith; there-is = refl; has = p; none-sooner = λ j h. absurd (omega arith) }
   first-told {x = x} (there {n = n} {y = y} {xs = l} ne f) =
       let g : FirstAt n x l = first-told f in
@@ -55,22 +50,19 @@ module _ {A : Type 0} (P : A → Type 0) (d : A) where
   none-by [] f = end
   none-by (x ∷ l) f = and (f 0 (omega arith)) (none-by l (λ j h. f (suc j) (omega arith)))
 
-  none-told : {l : List A} → None P l → (j : ℕ) → j < length l → P (getD l j d) → ⊥
+  pub none-told : {l : List A} → None P l → (j : ℕ) → j < length l → P (getD l j d) → ⊥
   none-told end j h = absurd (omega arith)
   none-told (and ne n) zero h = ne
   none-told (and ne n) (suc j) h = none-told n j (omega arith)
 
-  -- where one has the property, which a test decides, there is a first
-  some-first : (p : A → Bool) → ((x : A) → p x ≡ true → P x) → ((x : A) → P x → p x ≡ true) → (l : List A) (j : ℕ) → j < length l → P (getD l j d)
-      → (n : ℕ) × First P n (getD l n d) l
-  some-first p f g [] j h q = absurd (omega arith)
-  some-first p f g (x ∷ l) j h q = go (p x) refl j h q (some-first p f g l)
-    where
-      go : (b : Bool) → p x ≡ b → (j : ℕ) → j < suc (length l) → P (getD (x ∷ l) j d) → ((j : ℕ) → j < length l → P (getD l j d) → (n : ℕ) × First P n (getD l n d) l)
-          → (n : ℕ) × First P n (getD (x ∷ l) n d) (x ∷ l)
-      go true e j h q r = (0, here (f x e))
-      go false e zero h q r = true-false (sym (g x q) ∙ e)
-      go false e (suc j) h q r = let y = r j (omega arith) q in (suc (y .0), there (λ z. true-false (sym (g x z) ∙ e)) (y .1))
+-- ---- the text's order
+
+before-is : (p r : Pending) → Before p r → standsBefore p r ≡ true
+before-is p r (by-function h) = function-before p r h
+before-is p r (by-event e h) = event-before p r e h
+
+is-before : (p r : Pending) → standsBefore p r ≡ true → Before p r
+is-before p r e = before-by p r e by-function by-event
 
 -- ---- due
 
@@ -95,21 +87,7 @@ module _ (c : Contract) (s : State) where
   none-ready e = none-by ReadyNow blank (live s) (λ j h r. true-false (sym (ready-is _ r) ∙ none-to-fire c s e j h))
 
   pub ready-none : None ReadyNow (live s) → dueIn c s ≡ Nothing
-  ready-none n = due-none c s (λ j h. not-true (isDue c s (pendingAt s j)) (none-told ReadyNow blank n j h) (is-ready (pendingAt s j)))
-
-  pub some-ready : (k : ℕ) → dueIn c s ≡ At k → (n : ℕ) × First ReadyNow n (pendingAt s n) (live s)
-  some-ready k e =
-      let f = first-to-fire c s k e in
-      some-first ReadyNow blank (isDue c s) is-ready ready-is (live s) k (f .is-pending) (is-ready (pendingAt s k) (f .is-due))
-
-  -- ---- the text's order
-
-  before-is : (p r : Pending) → Before p r → standsBefore p r ≡ true
-  before-is p r (by-function h) = function-before p r h
-  before-is p r (by-event e h) = event-before p r e h
-
-  is-before : (p r : Pending) → standsBefore p r ≡ true → Before p r
-  is-before p r e = before-by p r e by-function by-event
+  ready-none n = due-none c s (λ j h. not-so _ λ e. none-told ReadyNow blank n j h (is-ready (pendingAt s j) e))
 
   abbrev ForemostNow : Pending → Type 0
   ForemostNow = Foremost c (s .state) (s .clock) (live s)
@@ -118,57 +96,48 @@ module _ (c : Contract) (s : State) where
   abbrev Earlier : Pending → Pending → Type 0
   Earlier p r = ReadyNow r × Before r p
 
+  none-earlier : (p : Pending) → ForemostNow p → (j : ℕ) → j < length (live s) → isDue c s (pendingAt s j) ≡ true → standsBefore (pendingAt s j) p ≡ false
+  none-earlier p f j h e = not-so _ λ b. none-told (Earlier p) blank (f .none-before) j h (is-ready (pendingAt s j) e, is-before (pendingAt s j) p b)
+
+  foremost-by : (p : Pending) → isDue c s p ≡ true → ((j : ℕ) → j < length (live s) → isDue c s (pendingAt s j) ≡ true → standsBefore (pendingAt s j) p ≡ false) → ForemostNow p
+  foremost-by p e f =
+      record {
+        ready = is-ready p e;
+        none-before =
+            none-by (Earlier p) blank (live s) (λ j h r. true-false (sym (before-is (pendingAt s j) p (r .1)) ∙ f j h (ready-is (pendingAt s j) (r .0))));
+      }
+
   pub first-ready : (k : ℕ) → dueIn c s ≡ At k → First ForemostNow k (pendingAt s k) (live s)
   first-ready k e =
       let f : FirstToFire c s k = first-to-fire c s k e in
-      first-by ForemostNow blank k (live s) (f .is-pending)
-      (record {
-        ready = is-ready (pendingAt s k) (f .is-due);
-        none-before =
-            none-by (Earlier (pendingAt s k)) blank (live s)
-            (λ j h r. true-false (sym (before-is (pendingAt s j) (pendingAt s k) (r .1)) ∙ f .none-before j h (ready-is (pendingAt s j) (r .0))));
-      })
-      (λ j h o. older f j h o)
+      first-by ForemostNow blank k (live s) (f .is-pending) (foremost-by (pendingAt s k) (f .is-due) (f .none-before)) (older f)
     where
       -- an older one that is foremost too would be the same event
       older : FirstToFire c s k → (j : ℕ) → j < k → ForemostNow (pendingAt s j) → ⊥
       older f j h o =
-          let i : j < length (live s) = omega (arith, f .is-pending) in
           let d : isDue c s (pendingAt s j) ≡ true = ready-is (pendingAt s j) (o .ready) in
-          let b : standsBefore (pendingAt s k) (pendingAt s j) ≡ false =
-          not-true (standsBefore (pendingAt s k) (pendingAt s j))
-          (none-told (Earlier (pendingAt s j)) blank (o .none-before) k (f .is-pending))
-          (λ x. (is-ready (pendingAt s k) (f .is-due), is-before (pendingAt s k) (pendingAt s j) x)) in
-          let x = before-either (pendingAt s j) (pendingAt s k) (f .none-before j i d) b in
+          let x = neither-before (pendingAt s j) (pendingAt s k) (f .none-before j (omega (arith, f .is-pending)) d)
+          (none-earlier (pendingAt s j) o k (f .is-pending) (f .is-due)) in
           f .none-older j h d (x .0) (x .1)
 
   pub ready-first : {k : ℕ} {p : Pending} → First ForemostNow k p (live s) → dueIn c s ≡ At k
   ready-first {k} {p} g =
       let f : FirstAt ForemostNow blank k p (live s) = first-told ForemostNow blank g in
+      let o : ForemostNow (pendingAt s k) = subst ForemostNow (sym (f .there-is)) (f .has) in
       one-to-fire c s
       (record {
         is-pending = f .inside;
-        is-due = ready-is (pendingAt s k) (subst ReadyNow (sym (f .there-is)) (f .has .ready));
-        none-before = λ j h e.
-            not-true (standsBefore (pendingAt s j) (pendingAt s k)) (none-told (Earlier p) blank (f .has .none-before) j h)
-            (λ x. (is-ready (pendingAt s j) e, subst (Before (pendingAt s j)) (f .there-is) (is-before (pendingAt s j) (pendingAt s k) x)));
-        none-older = λ j h e u v. f .none-sooner j h (alike f j e u v);
+        is-due = ready-is (pendingAt s k) (o .ready);
+        none-before = none-earlier (pendingAt s k) o;
+        none-older = λ j h e u v. f .none-sooner j h (alike o j e u v);
       })
     where
       -- the same event is foremost too
-      alike : FirstAt ForemostNow blank k p (live s) → (j : ℕ) → isDue c s (pendingAt s j) ≡ true
+      alike : ForemostNow (pendingAt s k) → (j : ℕ) → isDue c s (pendingAt s j) ≡ true
           → pendingAt s j .function ≡ pendingAt s k .function → pendingAt s j .event ≡ pendingAt s k .event → ForemostNow (pendingAt s j)
-      alike f j e u v =
-          record {
-            ready = is-ready (pendingAt s j) e;
-            none-before =
-                none-by (Earlier (pendingAt s j)) blank (live s)
-                (λ i h r. none-told (Earlier p) blank (f .has .none-before) i h (r .0, subst (Before (pendingAt s i)) (f .there-is) (before-same (r .1))));
-          }
-        where
-          before-same : {r : Pending} → Before r (pendingAt s j) → Before r (pendingAt s k)
-          before-same (by-function h) = by-function (omega arith)
-          before-same (by-event h i) = by-event (omega arith) (omega arith)
+      alike o j e u v =
+          foremost-by (pendingAt s j) e λ i h t. not-so _ λ b.
+          true-false (sym (same-behind (pendingAt s k) (pendingAt s j) (sym u) (sym v) (pendingAt s i) b) ∙ none-earlier (pendingAt s k) o i h t)
 
 pub first-at : {A : Type 0} {P : A → Type 0} {n : ℕ} {x : A} {xs : List A} (d : A) → First P n x xs → getD xs n d ≡ x
 first-at {P = P} d f = first-told P d f .there-is
@@ -213,4 +182,4 @@ module _ (c : Contract) (s : State) (i : Invocation) where
   pub called-first : (n : ℕ) {j : ℕ} {f : Function} {fs : List Function} → First (Called c (s .state) i) j f fs → choose c s i n fs ≡ chosen (n + j) f
   unfolding choose
   called-first n (here {x = f} r) = pick-true _ _ _ (called-is f r) ∙ ap (λ (k : ℕ). chosen k f) (omega arith)
-  called-first n {f = f} (there {y = g} ne r) = pick-false _ _ _ (not-true _ ne (is-called g)) ∙ called-first (suc n) r ∙ ap (λ (k : ℕ). chosen k f) (omega arith)
+  called-first n {f = f} (there {y = g} ne r) = pick-false _ _ _ (not-so _ (λ e. ne (is-called g e))) ∙ called-first (suc n) r ∙ ap (λ (k : ℕ). chosen k f) (omega arith)

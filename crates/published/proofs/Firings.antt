@@ -5,7 +5,7 @@ use mathlib.Core.Bool.{Bool, true, false}
 use mathlib.Core.List.{List, [], _++_, append-nil}
 use Prim.Native.Nat.{ℕ, _≤_}
 use native.Mathlib.Omega.{arith}
-use lib.ListN.{length, getD, drop}
+use lib.ListN.{length, drop}
 use lib.Dec.{eqb}
 use borrow.Author.Tests.{eq-eqb, ne-eqb}
 use Rattle.laws.proofs.Choice.{pick-true, pick-false}
@@ -15,8 +15,7 @@ use Rattle.contract.specs.Fits.{scopeOf}
 use Rattle.laws.specs.Lists.{every}
 use Rattle.state.specs.declared.State.{State}
 use Rattle.state.specs.declared.Pending.{Pending}
-use Rattle.state.specs.declared.Due.the-variants as due
-use Rattle.state.specs.States.{maxPending, blank, eventOf, live, dueIn, withPending, removed}
+use Rattle.state.specs.States.{maxPending, blank, eventOf, live, pendingAt, withPending, removed}
 use Rattle.state.proofs.Each.{without-length}
 use Rattle.state.proofs.Within.{live-removed}
 use Rattle.statements.specs.declared.Label.{Label}
@@ -30,7 +29,7 @@ use Rattle.history.proofs.Parameters.{Parameters, ran-same}
 use Rattle.history.proofs.ContractBounds.{Bounded, BoundedEvent}
 use Rattle.history.proofs.Cases.{eventAt, handlerRan, ComesOut, refusal, fires, fails, firing-came}
 use Rattle.history.proofs.RefusalNumbers.{Stops}
-use Rattle.published.specs.Published.{Configuration, runtime, inState, nothing, inOrder, bound, unbound, without, Statements, First, Ready, no-event, match, failure, Table2, stateChange, eventMatch, eventFailed, Whole, whole, phaseOf, memoryAt, idle, Comes}
+use Rattle.published.specs.Published.{Configuration, runtime, inState, nothing, inOrder, bound, unbound, without, Statements, no-event, match, failure, Table2, stateChange, eventMatch, eventFailed, Whole, whole, phaseOf, memoryAt, idle, Comes}
 use Rattle.published.proofs.Meeting.{meets-stuck}
 use Rattle.published.proofs.Actions.{labelsOf}
 use Rattle.published.proofs.Blocks.{Sticks, at}
@@ -41,7 +40,7 @@ use Rattle.published.proofs.Idle.{standing, idle-standing, idle-ended, 
 module _ (c : Contract) (b : Bounded c) (s : State) where
   handler-bounded : (k : ℕ) → BoundedEvent c (eventAt c s k)
   unfolding eventOf
-  handler-bounded k = let p = getD (live s) k blank in b .functions (p .function) .events (p .event)
+  handler-bounded k = let p = pendingAt s k in b .functions (p .function) .events (p .event)
 
   handler-fit : (k : ℕ) → Fit (eventAt c s k .handler)
   unfolding scopeOf
@@ -113,7 +112,7 @@ module _ (c : Contract) (b : Bounded c) (s : State) where
       → Comes (fired c s) (Accepted EventMatch) ls C
   unfolding fired handled
   match-comes true a (whole {ls = ls} (eventMatch {k = k} {p = p} f) r (stateChange {m = m} h no-event l)) =
-      let e : getD (live s) k blank ≡ p = first-at blank f in
+      let e : pendingAt s k ≡ p = first-at blank f in
       let t = run-is s [] [] (eventAt c s k .handler) (handler-fit k)
       (subst (λ (x : Pending). Statements (bound (memoryAt s) [] []) (inOrder (eventOf c x .handler)) ls m []) (sym e) r) in
       comes-by (pick-true _ _ _ a ∙ ap (fireByDue c s) (ready-first c s f) ∙ pick-true _ _ _ (eq-eqb (handlerRan c s k .refusal) 0 (t .0)))
@@ -133,7 +132,7 @@ module _ (c : Contract) (b : Bounded c) (s : State) where
   unfolding fired handled
   fail-comes false a t = absurd (starts t)
   fail-comes {n} true a (eventFailed {k = k} {p = p} f r x y) =
-      let e : getD (live s) k blank ≡ p = first-at blank f in
+      let e : pendingAt s k ≡ p = first-at blank f in
       let g : Sticks (bound (memoryAt s) [] []) (inOrder (eventAt c s k .handler)) n =
       subst (λ (z : Pending). Sticks (bound (memoryAt s) [] []) (inOrder (eventOf c z .handler)) n) (sym e) (at r y) in
       let j : handlerRan c s k .refusal ≡ n = stick-is s [] [] (eventAt c s k .handler) (handler-fit k) g in

@@ -364,10 +364,10 @@ pub data Ticks (c : Contract) : ℕ → Configuration → Configuration → Type
   no-tick : {C : Configuration} → Ticks c 0 C C
   one-more : {n : ℕ} {C C' C'' : Configuration} → Table2 c C time C' → Ticks c n C' C'' → Ticks c (suc n) C C''
 
--- where a jump to T ends: at T, or where an event is ready, whichever it is, and the clock is not after T
+-- where a jump to T ends: at T, or where an event is ready, which [EVENT MATCH] takes next, and the clock is not after T
 pub data Stop (c : Contract) (T : ℤ) (q : ℕ) (m : Memory) (Ψ : List Pending) : Type 0 where
   at-time : pos (m .clock) ≡ T → Stop c T q m Ψ
-  at-event : {k : ℕ} {p : Pending} → leZ (pos (m .clock)) T ≡ true → First (Ready c q (m .clock)) k p Ψ → Stop c T q m Ψ
+  at-event : {k : ℕ} {p : Pending} → leZ (pos (m .clock)) T ≡ true → First (Foremost c q (m .clock) Ψ) k p Ψ → Stop c T q m Ψ
 
 -- a jump to T, where no event is ready now: so many [TICK]s, maybe none
 pub data Jump (c : Contract) (T : ℤ) : Configuration → Configuration → Type 0 where

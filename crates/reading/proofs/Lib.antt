@@ -1,1 +1,2 @@
 pub mod TokenKinds
+pub mod Mapped

@@ -3,9 +3,9 @@ pub mod Lengths
 pub mod Parts
 pub mod Rows
 pub mod First
+pub mod Dues
 pub mod Kept
 pub mod Each
-pub mod Dues
 pub mod Fresh
 pub mod Within
 pub mod Passing

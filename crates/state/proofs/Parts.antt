@@ -37,6 +37,6 @@ slot-back strings used kinds numbers texts i f =
 abbrev pub assetAt : ℕ → List ℕ → ℕ → Bool
 assetAt used assets i = pick (ltb i used) (leb (getD assets i 0) top) (eqb (getD assets i 0) 0)
 
-abbrev pub pendingAt : Contract → ℕ → ℕ → List Pending → ℕ → Bool
-pendingAt c clock pending events i =
+abbrev pub pendingSlotAt : Contract → ℕ → ℕ → List Pending → ℕ → Bool
+pendingSlotAt c clock pending events i =
     pick (ltb i pending) (pendingOk c clock (getD events i blank)) (isBlank (getD events i blank))

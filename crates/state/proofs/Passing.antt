@@ -20,10 +20,11 @@ use Rattle.state.specs.declared.State.{State}
 use Rattle.state.specs.declared.Pending.{Pending}
 use Rattle.state.specs.declared.Due.{Due}
 use Rattle.state.specs.declared.Due.the-variants.{At, Nothing}
-use Rattle.state.specs.States.{maxPending, blank, live, eventOf, fieldSlotOk, assetSlotOk, pendingOk, stateOk, isDue, foremostPlace, firstInText, dueIn, withPending, withTimes, later, lapsed, timePassed, passedTimes, unlessDue, timesUntilDue, FirstStop}
+use Rattle.state.specs.States.{maxPending, blank, live, eventOf, fieldSlotOk, assetSlotOk, pendingOk, stateOk, isDue, dueIn, pendingAt, withPending, withTimes, later, lapsed, timePassed, passedTimes, unlessDue, timesUntilDue, FirstStop}
 use Rattle.state.specs.Private.{notDropped, comesDue, dueAt}
 use Rattle.state.proofs.Kept.{one-more}
-use Rattle.state.proofs.Each.{Each, none, more, each-append, each-getD, each-keep}
+use Rattle.state.proofs.Each.{Each, none, more, each-append, each-getD, each-of, each-keep}
+use Rattle.state.proofs.Dues.{none-to-fire, due-none}
 use Rattle.state.proofs.First.{other-time, due-now, in-take}
 use Rattle.state.proofs.Within.{Within, within, is-ok, slots-ok, lapsed-later, live-lapsed}
 
@@ -65,28 +66,6 @@ module _ {A : Type 0} where
           → (Each (λ z. p z ≡ false) (keep q l) → Each (λ z. p z ≡ false) l) → Each (λ z. p z ≡ false) (x ∷ l)
       go true h e r = more (head e) (r (tail e))
       go false h e r = more (f x h) (r e)
-
--- nothing passes the test
-module _ (p : Pending → Bool) where
-  -- the answer of a search that has found x at place i
-  abbrev found : ℕ → Pending → List Pending → Due
-  found i x l = At (foremostPlace p i x (suc i) l)
-
-  none-first : (i : ℕ) (l : List Pending) → firstInText p i l ≡ Nothing → Each (λ x. p x ≡ false) l
-  unfolding firstInText
-  none-first i [] e = none
-  none-first i (x ∷ l) e = go (p x) refl e (none-first (suc i) l)
-    where
-      go : (a : Bool) → p x ≡ a → pick a (found i x l) (firstInText p (suc i) l) ≡ Nothing → (firstInText p (suc i) l ≡ Nothing → Each (λ x. p x ≡ false) l) → Each (λ x. p x ≡ false) (x ∷ l)
-      go true h k r =
-          let g : found i x l ≡ Nothing = sym (pick-true true (found i x l) (firstInText p (suc i) l) refl) ∙ k in
-          let z : _≡_ {A = ℕ} 0 1 = cc in absurd (omega arith)
-      go false h k r = more h (r (sym (pick-false false (found i x l) (firstInText p (suc i) l) refl) ∙ k))
-
-  first-none : (i : ℕ) {l : List Pending} → Each (λ x. p x ≡ false) l → firstInText p i l ≡ Nothing
-  unfolding firstInText
-  first-none i none = refl
-  first-none i (more h e) = pick-false _ _ _ h ∙ first-none (suc i) e
 
 -- ---- which events are dropped
 
@@ -213,9 +192,10 @@ module _ (c : Contract) where
 -- ---- what is due then
 
 module _ (c : Contract) (s : State) (n : ℕ) where
-  due-then : dueIn c (passedTimes n s) ≡ firstInText (dueAt c (s .clock + n) (s .state)) 0 (keep (λ p. notDropped (s .clock) (s .clock + n) (p .time)) (live s))
-  unfolding dueIn isDue dueAt
-  due-then = λ i. firstInText (dueAt c (passed-clock n s i) (passed-state n s i)) 0 (passed-live n s i)
+  -- due then, by the clock then
+  due-then : isDue c (passedTimes n s) ≡ dueAt c (s .clock + n) (s .state)
+  unfolding isDue dueAt
+  due-then = λ i. dueAt c (passed-clock n s i) (passed-state n s i)
 
   -- an event that was dropped is not due
   dropped-idle : (p : Pending) → notDropped (s .clock) (s .clock + n) (p .time) ≡ false → dueAt c (s .clock + n) (s .state) p ≡ false
@@ -226,10 +206,14 @@ module _ (c : Contract) (s : State) (n : ℕ) where
   nothing-then : dueIn c (passedTimes n s) ≡ Nothing → Each (λ p. dueAt c (s .clock + n) (s .state) p ≡ false) (live s)
   nothing-then d =
       kept-each (λ p. notDropped (s .clock) (s .clock + n) (p .time)) (dueAt c (s .clock + n) (s .state)) dropped-idle (live s)
-      (none-first (dueAt c (s .clock + n) (s .state)) 0 _ (sym due-then ∙ d))
+      (subst (Each (λ p. dueAt c (s .clock + n) (s .state) p ≡ false)) (passed-live n s)
+      (each-of (live (passedTimes n s)) blank λ j h. (λ i. sym due-then i (pendingAt (passedTimes n s) j)) ∙ none-to-fire c (passedTimes n s) d j h))
 
   then-nothing : Each (λ p. dueAt c (s .clock + n) (s .state) p ≡ false) (live s) → dueIn c (passedTimes n s) ≡ Nothing
-  then-nothing e = due-then ∙ first-none (dueAt c (s .clock + n) (s .state)) 0 (each-keep _ (λ p q _. q) e)
+  then-nothing e =
+      due-none c (passedTimes n s) λ j h.
+      (λ i. due-then i (pendingAt (passedTimes n s) j))
+      ∙ each-getD (subst (Each (λ p. dueAt c (s .clock + n) (s .state) p ≡ false)) (sym (passed-live n s)) (each-keep _ (λ p q _. q) e)) j blank h
 
 -- ---- where it stops
 
@@ -261,12 +245,10 @@ module _ {c : Contract} {most : ℕ} {s : State} {n m : ℕ} (f : FirstStop c mo
   not-sooner h = omega (arith, f .due-or-most (g .not-before n h), g .no-further)
 
 pub one-stop : {c : Contract} {most : ℕ} {s : State} {n m : ℕ} → FirstStop c most s n → FirstStop c most s m → n ≡ m
-one-stop {n = n} {m = m} f g = go (ltb n m) (ltb m n) refl refl
-  where
-    go : (a b : Bool) → ltb n m ≡ a → ltb m n ≡ b → n ≡ m
-    go true b e h = absurd (not-sooner f g (ltb-true n m e))
-    go false true e h = absurd (not-sooner g f (ltb-true m n h))
-    go false false e h = let x : m ≤ n = ltb-false n m e in let y : n ≤ m = ltb-false m n h in omega arith
+one-stop {n = n} {m = m} f g =
+    let x : (n < m → ⊥) = not-sooner f g in
+    let y : (m < n → ⊥) = not-sooner g f in
+    omega arith
 
 -- ---- the search for it
 

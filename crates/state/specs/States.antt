@@ -16,7 +16,7 @@ use Rattle.state.specs.declared.State.{State}
 use Rattle.state.specs.declared.Pending.{Pending}
 use Rattle.state.specs.declared.Due.{Due}
 use Rattle.state.specs.declared.Due.the-variants.{At, Nothing}
-use Rattle.laws.specs.Lists.{repeated, keep}
+use Rattle.laws.specs.Lists.{every, repeated, keep}
 
 -- at most so many events are pending
 abbrev pub maxPending : ℕ
@@ -111,26 +111,23 @@ unfoldable pub isDue : Contract → State → Pending → Bool
 isDue c s p = eqb (p .time) (s .clock) && eqb (eventOf c p .state) (s .state)
 
 -- p stands before r in the contract's text: its function's number is lower or, in the same function, its place among that function's
--- events is; proved (`first-in-text`, history) to be the order of the bytes where events begin
+-- events is; by the bytes where events begin the order is the same (`events-in-order`, grammar)
 unfoldable pub standsBefore : Pending → Pending → Bool
 standsBefore p r = pick (eqb (p .function) (r .function)) (ltb (p .event) (r .event)) (ltb (p .function) (r .function))
 
--- p, at place k, is the first in the text so far, and the list goes on at place i: the place of the one that stands first in the text, of p
--- and of those in the list that pass the test; one of the list replaces p only if it stands before it, so of the same event the older is kept
-unfoldable pub foremostPlace : (Pending → Bool) → ℕ → Pending → ℕ → List Pending → ℕ
-foremostPlace test k p i [] = k
-foremostPlace test k p i (r ∷ rs) = pick (test r && standsBefore r p) (foremostPlace test i r (suc i) rs) (foremostPlace test k p (suc i) rs)
+-- p is due, and no due event stands before it in the text
+unfoldable pub isForemost : Contract → State → Pending → Bool
+isForemost c s p = isDue c s p && every (λ r. not (isDue c s r && standsBefore r p)) (live s)
 
--- the place, counted from i, of the one that stands first in the text, of those in the list that pass the test; of the same event, of the
--- older; Nothing if none passes
-unfoldable pub firstInText : (Pending → Bool) → ℕ → List Pending → Due
-firstInText test i [] = Nothing
-firstInText test i (p ∷ ps) = pick (test p) (At (foremostPlace test i p (suc i) ps)) (firstInText test (suc i) ps)
+-- the place of the first of these that is foremost, counted from i
+unfoldable pub firstDue : Contract → State → ℕ → List Pending → Due
+firstDue c s i [] = Nothing
+firstDue c s i (p ∷ ps) = pick (isForemost c s p) (At i) (firstDue c s (suc i) ps)
 
 -- where the first due event is: among due events the one that stands first in the contract's text; for two of the same event in the text,
 -- the older (document 02, F-4); Nothing if none is due
 unfoldable pub dueIn : Contract → State → Due
-dueIn c s = firstInText (isDue c s) 0 (live s)
+dueIn c s = firstDue c s 0 (live s)
 
 -- the pending event at a place, the oldest at 0
 abbrev pub pendingAt : State → ℕ → Pending

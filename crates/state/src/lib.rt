@@ -312,7 +312,7 @@ fn takes_over(found: Due, first: Pending, p: Pending) -> bool
     }
 }
 
-// Whether an event is due.
+// Whether an event is due at a clock and in a state.
 fn due_at(table: &[u64], clock: u64, state: usize, p: Pending) -> bool
     ensures { λ r. ⌜ r ≡ dueAt (contractOf (now (table .entry))) clock state p ⌝ }
 {
@@ -322,7 +322,7 @@ fn due_at(table: &[u64], clock: u64, state: usize, p: Pending) -> bool
     false
 }
 
-// Among the due events the one that stands first in the contract's text; of the same event, the oldest.
+// Where, of the due events, the one is that stands first in the contract's text; of those that are the same event, the oldest.
 pub fn first_due(table: &[u64], s: State) -> Due
     ensures { λ r. ⌜ r ≡ dueIn (contractOf (now (table .entry))) s ⌝ }
 {

@@ -9,11 +9,11 @@ use Rattle.laws.proofs.Members.{all-none, all-more, all-stop}
 use Rattle.laws.specs.Lists.{allBelow}
 use Rattle.contract.specs.Decode.{contractOf}
 use Rattle.state.specs.States.{pendingSlotOk}
-use Rattle.state.proofs.Parts.{pendingAt}
+use Rattle.state.proofs.Parts.{pendingSlotAt}
 
 abbrev Inv-loop : tie.InvT-loop
 Inv-loop table clock pending events i₀ i =
-    (i ≤ 64) × (allBelow i (pendingAt (contractOf table) clock pending events) ≡ true)
+    (i ≤ 64) × (allBelow i (pendingSlotAt (contractOf table) clock pending events) ≡ true)
 
 abbrev μ-loop : tie.MeasureT-loop
 μ-loop table clock pending events i₀ i =
@@ -27,14 +27,14 @@ loop-again : tie.Need-loop-again Inv-loop μ-loop
 loop-again c =
     let s = c .before .before .before .before .before .before .before in
     let h = c .before .before .before .before in
-    (omega arith, all-more (pendingAt (contractOf (s .args .table .now)) (s .args .s .clock) (s .args .s .pending) (s .args .s .events)) (h .loop .i) (h .loop .inv .1) (sym (c .before .pending-slot-ok .ensures) ∙ c .if1 .taken))
+    (omega arith, all-more (pendingSlotAt (contractOf (s .args .table .now)) (s .args .s .clock) (s .args .s .pending) (s .args .s .events)) (h .loop .i) (h .loop .inv .1) (sym (c .before .pending-slot-ok .ensures) ∙ c .if1 .taken))
 
 returns : tie.Need-returns Inv-loop μ-loop
 unfolding pendingSlotOk
 returns c =
     let s = c .before .before .before .before .before .before .before in
     let h = c .before .before .before .before in
-    sym (all-stop (pendingAt (contractOf (s .args .table .now)) (s .args .s .clock) (s .args .s .pending) (s .args .s .events)) 64 (h .loop .i) (omega arith) (sym (c .before .pending-slot-ok .ensures) ∙ c .if1 .left))
+    sym (all-stop (pendingSlotAt (contractOf (s .args .table .now)) (s .args .s .clock) (s .args .s .pending) (s .args .s .events)) 64 (h .loop .i) (omega arith) (sym (c .before .pending-slot-ok .ensures) ∙ c .if1 .left))
 
 returns-2 : tie.Need-returns-2 Inv-loop μ-loop
 unfolding pendingSlotOk
