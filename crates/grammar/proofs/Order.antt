@@ -1,5 +1,5 @@
 -- Events stand in the text by function and then by event, and the contract has as many of them as the tree. Assumes nothing.
-use mathlib.Core.Path.{_≡_, sym, _∙_}
+use mathlib.Core.Path.{_≡_, sym, ap, _∙_}
 use mathlib.Core.List.{List, [], _∷_, _++_}
 use Prim.Native.Nat.{ℕ, zero, suc, _<_, _≤_}
 use native.Mathlib.Omega.{arith}
@@ -8,10 +8,12 @@ use Rattle.tokens.specs.declared.Token.{Token}
 use Rattle.tokens.proofs.Facts.{progress}
 use Rattle.contract.specs.Tree as contract
 use Rattle.reading.specs.Syntax.{Event, Body, Function, Syntax}
-use Rattle.reading.specs.Resolve.{Names, eachOf, functionOf, resolve}
-use Rattle.reading.proofs.Mapped.{length-each}
+use Rattle.reading.specs.Items.{items}
+use Rattle.reading.specs.Rules.{word}
+use Rattle.reading.specs.Resolve.{Names, within, eachOf, latestFirst, eventOf, functionOf, namesIn, resolve}
+use Rattle.reading.proofs.Mapped.{length-each, each-at}
 use Rattle.grammar.specs.Derivations.{Tokens, TokensOf, Starts, startOf, leaves, Braced, EventOf, BodyOf, FunctionOf, Each, Derives}
-use Rattle.grammar.specs.Order.{placesIn, eventPlaces, InOrder}
+use Rattle.grammar.specs.Order.{placesIn, eventPlaces, eventPlace, InOrder}
 use Rattle.grammar.proofs.Complete.{tokens-split, tokens-within}
 
 -- ---- parts in a row
@@ -195,3 +197,20 @@ pub resolved-events :
     → length (getD (resolve s t .functions) n f .events) ≡ length (getD (eventPlaces t) n [])
 unfolding resolve
 resolved-events s t n f = both-at (λ g ps. length (g .events) ≡ length ps) _ _ (function-events s _) (t .functions) n f []
+
+-- event j of function n of the contract is that of the tree, whose place is `eventPlace`
+pub resolved-event :
+    (s : List ℕ) (t : Syntax) (n j : ℕ) (f : contract.Function) (e : contract.Event) (g : Function) (w : Event)
+    → n < length (t .functions) → j < length (getD (t .functions) n g .body .events)
+    → (ns : Names) × (getD (getD (resolve s t .functions) n f .events) j e ≡ eventOf s ns (getD (getD (t .functions) n g .body .events) j w))
+    × (eventPlace t n j ≡ getD (getD (t .functions) n g .body .events) j w .place)
+unfolding resolve functionOf
+resolved-event s t n j f e g w h k =
+    let all : Names = namesIn s (latestFirst [] (items t)) in
+    let x : Function = getD (t .functions) n g in
+    let ns : Names = within all (eachOf (word s) (x .values)) (eachOf (word s) (x .parameters)) in
+    (
+      ns,
+      ap (λ (y : contract.Function). getD (y .events) j e) (each-at (functionOf s all) (t .functions) n g f h) ∙ each-at (eventOf s ns) (x .body .events) j w e k,
+      ap (λ (ps : List ℕ). getD ps j 0) (each-at (λ y. placesIn (y .body)) (t .functions) n g [] h) ∙ each-at (λ v. v .place) (x .body .events) j w 0 k,
+    )

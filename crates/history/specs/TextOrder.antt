@@ -14,7 +14,7 @@ abbrev pub beginning : Syntax → State → ℕ → ℕ
 beginning t s k = eventPlace t (pendingAt s k .function) (pendingAt s k .event)
 
 -- the event at place k is due, none that is due begins in the text before it, and of those that begin where it does it is the oldest;
--- proved (`first-in-text`) of the place that `dueIn` gives, and of no other
+-- proved (`first-in-text`), for a text that means c and a state within question 4, of the place that `dueIn` gives, and of no other
 pub record FirstInText (t : Syntax) (c : Contract) (s : State) (k : ℕ) : Type 0 where
   pub is-pending : k < length (live s)
   pub is-due : isDue c s (pendingAt s k) ≡ true

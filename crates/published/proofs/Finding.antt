@@ -17,7 +17,7 @@ use Rattle.state.specs.declared.State.{State}
 use Rattle.state.specs.declared.Pending.{Pending}
 use Rattle.state.specs.declared.Due.the-variants.{At, Nothing}
 use Rattle.state.specs.States.{blank, live, eventOf, isDue, standsBefore, dueIn, pendingAt, FirstToFire, partyName}
-use Rattle.state.proofs.Dues.{function-before, event-before, before-by, same-behind, neither-before, first-to-fire, none-to-fire, one-to-fire, due-none}
+use Rattle.state.proofs.Dues.{function-before, event-before, before-by, same-clear, neither-before, first-to-fire, none-to-fire, one-to-fire, due-none}
 use Rattle.machine.specs.Steps.{Invocation, answersTo, chosen, choose}
 use Rattle.published.specs.Published.{First, here, there, None, end, and, Ready, Before, by-function, by-event, Foremost, Called}
 
@@ -25,18 +25,18 @@ use Rattle.published.specs.Published.{First, here, there, None, end, and
 
 module _ {A : Type 0} (P : A → Type 0) (d : A) where
   -- x is the first with the property, at place k
-  pub record FirstAt (k : ℕ) (x : A) (l : List A) : Type 0 where
-    pub inside : k < length l
-    pub there-is : getD l k d ≡ x
-    pub has : P x
-    pub none-sooner : (j : ℕ) → j < k → P (getD l j d) → ⊥
+  record FirstAt (k : ℕ) (x : A) (l : List A) : Type 0 where
+    inside : k < length l
+    there-is : getD l k d ≡ x
+    has : P x
+    none-sooner : (j : ℕ) → j < k → P (getD l j d) → ⊥
 
   first-by : (k : ℕ) (l : List A) → k < length l → P (getD l k d) → ((j : ℕ) → j < k → P (getD l j d) → ⊥) → First P k (getD l k d) l
   first-by k [] h p f = absurd (omega arith)
   first-by zero (x ∷ l) h p f = here p
   first-by (suc k) (x ∷ l) h p f = there (f 0 (omega arith)) (first-by k l (omega arith) p (λ j i. f (suc j) (omega arith)))
 
-  pub first-told : {k : ℕ} {x : A} {l : List A} → First P k x l → FirstAt k x l
+  first-told : {k : ℕ} {x : A} {l : List A} → First P k x l → FirstAt k x l
   first-told (here p) = record { inside = omega arith; there-is = refl; has = p; none-sooner = λ j h. absurd (omega arith) }
   first-told {x = x} (there {n = n} {y = y} {xs = l} ne f) =
       let g : FirstAt n x l = first-told f in
@@ -50,10 +50,22 @@ module _ {A : Type 0} (P : A → Type 0) (d : A) where
   none-by [] f = end
   none-by (x ∷ l) f = and (f 0 (omega arith)) (none-by l (λ j h. f (suc j) (omega arith)))
 
-  pub none-told : {l : List A} → None P l → (j : ℕ) → j < length l → P (getD l j d) → ⊥
+  none-told : {l : List A} → None P l → (j : ℕ) → j < length l → P (getD l j d) → ⊥
   none-told end j h = absurd (omega arith)
   none-told (and ne n) zero h = ne
   none-told (and ne n) (suc j) h = none-told n j (omega arith)
+
+  -- where one has the property, which a test decides, there is a first
+  some-first : (p : A → Bool) → ((x : A) → p x ≡ true → P x) → ((x : A) → P x → p x ≡ true) → (l : List A) (j : ℕ) → j < length l → P (getD l j d)
+      → (n : ℕ) × First P n (getD l n d) l
+  some-first p f g [] j h q = absurd (omega arith)
+  some-first p f g (x ∷ l) j h q = go (p x) refl j h q (some-first p f g l)
+    where
+      go : (b : Bool) → p x ≡ b → (j : ℕ) → j < suc (length l) → P (getD (x ∷ l) j d) → ((j : ℕ) → j < length l → P (getD l j d) → (n : ℕ) × First P n (getD l n d) l)
+          → (n : ℕ) × First P n (getD (x ∷ l) n d) (x ∷ l)
+      go true e j h q r = (0, here (f x e))
+      go false e zero h q r = true-false (sym (g x q) ∙ e)
+      go false e (suc j) h q r = let y = r j (omega arith) q in (suc (y .0), there (λ z. true-false (sym (g x z) ∙ e)) (y .1))
 
 -- ---- the text's order
 
@@ -88,6 +100,11 @@ module _ (c : Contract) (s : State) where
 
   pub ready-none : None ReadyNow (live s) → dueIn c s ≡ Nothing
   ready-none n = due-none c s (λ j h. not-so _ λ e. none-told ReadyNow blank n j h (is-ready (pendingAt s j) e))
+
+  pub some-ready : (k : ℕ) → dueIn c s ≡ At k → (n : ℕ) × First ReadyNow n (pendingAt s n) (live s)
+  some-ready k e =
+      let f = first-to-fire c s k e in
+      some-first ReadyNow blank (isDue c s) is-ready ready-is (live s) k (f .is-pending) (is-ready (pendingAt s k) (f .is-due))
 
   abbrev ForemostNow : Pending → Type 0
   ForemostNow = Foremost c (s .state) (s .clock) (live s)
@@ -136,8 +153,7 @@ module _ (c : Contract) (s : State) where
       alike : ForemostNow (pendingAt s k) → (j : ℕ) → isDue c s (pendingAt s j) ≡ true
           → pendingAt s j .function ≡ pendingAt s k .function → pendingAt s j .event ≡ pendingAt s k .event → ForemostNow (pendingAt s j)
       alike o j e u v =
-          foremost-by (pendingAt s j) e λ i h t. not-so _ λ b.
-          true-false (sym (same-behind (pendingAt s k) (pendingAt s j) (sym u) (sym v) (pendingAt s i) b) ∙ none-earlier (pendingAt s k) o i h t)
+          foremost-by (pendingAt s j) e λ i h t. same-clear (pendingAt s j) (pendingAt s k) u v (pendingAt s i) (none-earlier (pendingAt s k) o i h t)
 
 pub first-at : {A : Type 0} {P : A → Type 0} {n : ℕ} {x : A} {xs : List A} (d : A) → First P n x xs → getD xs n d ≡ x
 first-at {P = P} d f = first-told P d f .there-is

@@ -18,7 +18,7 @@ use Rattle.state.specs.declared.State.{State}
 use Rattle.state.specs.declared.Pending.{Pending}
 use Rattle.state.specs.declared.Due.{Due}
 use Rattle.state.specs.declared.Due.the-variants as due
-use Rattle.state.specs.States.{blank, live, dueIn, pendingAt, withPending, lapsed, timePassed, passedTimes, timesUntilDue, FirstStop}
+use Rattle.state.specs.States.{live, dueIn, pendingAt, withPending, lapsed, timePassed, passedTimes, timesUntilDue, FirstStop}
 use Rattle.state.proofs.Within.{live-lapsed}
 use Rattle.state.proofs.Passing.{passed-clock, passed-state, passed-agreed, first-stop, one-stop}
 use Rattle.outcomes.specs.declared.Rule.the-variants.{Tick}
@@ -29,8 +29,8 @@ use Rattle.machine.specs.Steps.{jumpByDue, jumped}
 use Rattle.machine.specs.Steps as steps
 use Rattle.history.proofs.Scheduling.{ahead, TimeIn, time-in}
 use Rattle.history.proofs.Cases.{ComesOut, refusal, jumps, jump-came}
-use Rattle.published.specs.Published.{Configuration, runtime, noState, inState, nothing, afterTick, phaseOf, memoryAt, idle, time, Table2, tick, Ticks, no-tick, one-more, Stop, at-time, at-event, Jump, jump, First, None, Ready, Foremost, NothingReady, Comes}
-use Rattle.published.proofs.Finding.{first-told, none-told, none-ready, ready-none, first-ready}
+use Rattle.published.specs.Published.{Configuration, runtime, noState, inState, nothing, afterTick, phaseOf, memoryAt, idle, time, Table2, tick, Ticks, no-tick, one-more, Stop, at-time, at-event, Jump, jump, First, here, there, None, and, Ready, NothingReady, Comes}
+use Rattle.published.proofs.Finding.{none-ready, ready-none, some-ready}
 use Rattle.published.proofs.Idle.{standing, idle-standing, comes-by}
 
 -- a state's configuration in a phase of its own
@@ -77,9 +77,9 @@ end-stop c s T n l f = go (dueIn c (passedTimes n s)) refl
     go : (d : Due) → dueIn c (passedTimes n s) ≡ d → Stop c T (s .state) (memoryAt (passedTimes n s)) (live (passedTimes n s))
     go due.Nothing d = at-time (ap pos (passed-clock n s) ∙ f d)
     go (due.At k) d =
+        let r = some-ready c (passedTimes n s) k d in
         at-event (ap (λ (t : ℕ). leZ (pos t) T) (passed-clock n s) ∙ l)
-        (subst (λ (q : ℕ). First (Foremost c q (passedTimes n s .clock) (live (passedTimes n s))) k (pendingAt (passedTimes n s) k) (live (passedTimes n s))) (passed-state n s)
-        (first-ready c (passedTimes n s) k d))
+        (subst (λ (q : ℕ). First (Ready c q (passedTimes n s .clock)) (r .0) (pendingAt (passedTimes n s) (r .0)) (live (passedTimes n s))) (passed-state n s) (r .1))
 
 idle-end : (s : State) (n : ℕ) → s .agreed ≡ true → idle (passedTimes n s) ≡ at (s .state) (passedTimes n s)
 idle-end s n a = idle-standing (passedTimes n s) (passed-agreed n s ∙ a) ∙ ap (λ (q : ℕ). at q (passedTimes n s)) (passed-state n s)
@@ -111,10 +111,9 @@ InSome (runtime noState m r Ψ) = ⊥
 starts : {c : Contract} {T : ℤ} {C D : Configuration} → Jump c T C D → InSome C
 starts (jump r t x) = tt
 
-some-none : {c : Contract} {q t k : ℕ} {p : Pending} {Ψ : List Pending} → First (Foremost c q t Ψ) k p Ψ → None (Ready c q t) Ψ → ⊥
-some-none {c} {q} {t} {Ψ = Ψ} f n =
-    let g = first-told (Foremost c q t Ψ) blank f in
-    none-told (Ready c q t) blank n _ (g .inside) (subst (Ready c q t) (sym (g .there-is)) (g .has .ready))
+some-none : {A : Type 0} {P : A → Type 0} {n : ℕ} {x : A} {xs : List A} → First P n x xs → None P xs → ⊥
+some-none (here r) (and ne e) = ne r
+some-none (there ne f) (and ne' e) = some-none f e
 
 module _ {c : Contract} {T : ℤ} {q : ℕ} {m : Memory} {Ψ : List Pending} where
   stop-ahead : Stop c T q m Ψ → leZ (pos (m .clock)) T ≡ true

@@ -195,7 +195,7 @@ pub data Before (p r : Pending) : Type 0 where
   by-function : p .function < r .function → Before p r
   by-event : p .function ≡ r .function → p .event < r .event → Before p r
 
--- p is ready, and no ready event of Ψ stands before it in the text; of the same event in the text several may be foremost
+-- p is ready, and no ready event of Ψ stands before it in the text; several may be foremost, if they are the same event of the text
 pub record Foremost (c : Contract) (q t : ℕ) (Ψ : List Pending) (p : Pending) : Type 0 where
   pub ready : Ready c q t p
   pub none-before : None (λ r. Ready c q t r × Before r p) Ψ
@@ -364,10 +364,10 @@ pub data Ticks (c : Contract) : ℕ → Configuration → Configuration → Type
   no-tick : {C : Configuration} → Ticks c 0 C C
   one-more : {n : ℕ} {C C' C'' : Configuration} → Table2 c C time C' → Ticks c n C' C'' → Ticks c (suc n) C C''
 
--- where a jump to T ends: at T, or where an event is ready, which [EVENT MATCH] takes next, and the clock is not after T
+-- where a jump to T ends: at T, or where an event is ready and the clock is not after T
 pub data Stop (c : Contract) (T : ℤ) (q : ℕ) (m : Memory) (Ψ : List Pending) : Type 0 where
   at-time : pos (m .clock) ≡ T → Stop c T q m Ψ
-  at-event : {k : ℕ} {p : Pending} → leZ (pos (m .clock)) T ≡ true → First (Foremost c q (m .clock) Ψ) k p Ψ → Stop c T q m Ψ
+  at-event : {k : ℕ} {p : Pending} → leZ (pos (m .clock)) T ≡ true → First (Ready c q (m .clock)) k p Ψ → Stop c T q m Ψ
 
 -- a jump to T, where no event is ready now: so many [TICK]s, maybe none
 pub data Jump (c : Contract) (T : ℤ) : Configuration → Configuration → Type 0 where

@@ -27,7 +27,8 @@ use Rattle.reading.specs.Resolve.{Names, eachOf, latestFirst, functionOf, names
 use Rattle.reading_laws.specs.Walk.{nodes, closed}
 use Rattle.accepted.proofs.Judged.{Clean, judged-clean, clean-first, clean-second, latest-append}
 use Rattle.accepted.proofs.Counts.{tally, headsIn, tally-append, heads-append, count-latest, count-few, always-on}
-use Rattle.accepted.proofs.CodeItems.{plain-heads, declared-tally, declared-heads, functions-nodes, functions-events, length-each}
+use Rattle.accepted.proofs.CodeItems.{plain-heads, declared-tally, declared-heads, functions-nodes, functions-events}
+use Rattle.reading.proofs.Mapped.{length-each}
 use Rattle.accepted.proofs.FunctionsFit.{clauses-plain}
 use Rattle.reading_laws.proofs.TableSections.{tableFrom, head-load, encode-whole}
 use Rattle.reading_laws.proofs.Run.{fresh, runNamesOf, runClauses, runContract}

@@ -32,7 +32,8 @@ use Rattle.accepted.proofs.Judged.{Clean, clean-first, clean-second, latest-app
 use Rattle.accepted.proofs.Known.{rightItem, plain, known-few, every-latest, plain-known, shared-stays}
 use Rattle.accepted.proofs.FunctionsFit.{words-named}
 use Rattle.accepted.proofs.Counts.{tally, headsIn, heads-append, count-latest, count-few, always-on, declared-known, declared-other}
-use Rattle.accepted.proofs.CodeItems.{codeItems, declared-heads, code-of, block-of, events-of, precondition-of, plain-heads, length-each, function-right}
+use Rattle.accepted.proofs.CodeItems.{codeItems, declared-heads, code-of, block-of, events-of, precondition-of, plain-heads, function-right}
+use Rattle.reading.proofs.Mapped.{length-each}
 use Rattle.reading_laws.proofs.Run.{runState, stateIn, runHead, runNames, runPrecondition, runStatements, runEvents, runBody, runFunction, runFunctions}
 use Rattle.reading_laws.proofs.NotedFind.{mentioned-number}
 use Rattle.reading_laws.proofs.NotedTrees.{begun-noted}

@@ -14,12 +14,12 @@ use Rattle.laws.proofs.Truths.{both-left, both-right, both-of, both-true, not-t
 use Rattle.laws.proofs.Members.{every-at, every-of}
 use Rattle.contract.specs.Tree.{Contract}
 use Rattle.state.specs.States.{blank, live, isDue, standsBefore, isForemost, firstDue, dueIn, pendingAt, FirstToFire}
-use Rattle.state.specs.Private.{takesOver, searched}
+use Rattle.state.specs.Private.{takesOver}
 use Rattle.state.specs.declared.State.{State}
 use Rattle.state.specs.declared.Pending.{Pending}
 use Rattle.state.specs.declared.Due.{Due}
 use Rattle.state.specs.declared.Due.the-variants.{At, Nothing}
-use Rattle.state.proofs.First.{one-turn, turns-end}
+use Rattle.state.proofs.First.{searched, one-turn, turns-end}
 
 -- ---- the text's order
 
@@ -50,13 +50,14 @@ before-trans p q r a b =
     (λ f. before-by q r b (λ g. function-before p r (omega arith)) (λ g h. function-before p r (omega arith)))
     (λ e f. before-by q r b (λ g. function-before p r (omega arith)) (λ g h. event-before p r (omega arith) (omega arith)))
 
--- where p and q are the same event of the text, p stands before what q stands before, and behind what q stands behind
+-- where p and q are the same event of the text, p stands before what q stands before, and what does not stand before q does not stand before p
 module _ (p q : Pending) (e : p .function ≡ q .function) (h : p .event ≡ q .event) where
   same-before : (r : Pending) → standsBefore q r ≡ true → standsBefore p r ≡ true
   same-before r b = before-by q r b (λ f. function-before p r (omega arith)) (λ f g. event-before p r (omega arith) (omega arith))
 
-  pub same-behind : (r : Pending) → standsBefore r q ≡ true → standsBefore r p ≡ true
-  same-behind r b = before-by r q b (λ f. function-before r p (omega arith)) (λ f g. event-before r p (omega arith) (omega arith))
+  pub same-clear : (r : Pending) → standsBefore r q ≡ false → standsBefore r p ≡ false
+  same-clear r n =
+      not-so _ λ b. true-false (sym (before-by r p b (λ f. function-before r q (omega arith)) (λ f g. event-before r q (omega arith) (omega arith))) ∙ n)
 
 -- two events neither of which stands before the other are the same event of the text
 pub neither-before : (p q : Pending) → standsBefore p q ≡ false → standsBefore q p ≡ false → (p .function ≡ q .function) × (p .event ≡ q .event)
@@ -192,8 +193,7 @@ module _ (c : Contract) (s : State) where
         none-before = none-behind (pendingAt s k) (f .1);
         none-older = λ j h t u v.
             true-false
-            (sym (is-foremost (pendingAt s j) t λ i l d. not-so _ λ b.
-            true-false (sym (same-behind (pendingAt s k) (pendingAt s j) (sym u) (sym v) (pendingAt s i) b) ∙ none-behind (pendingAt s k) (f .1) i l d))
+            (sym (is-foremost (pendingAt s j) t λ i l d. same-clear (pendingAt s j) (pendingAt s k) u v (pendingAt s i) (none-behind (pendingAt s k) (f .1) i l d))
             ∙ f .2 j h);
       }
 

@@ -1,7 +1,7 @@
 -- The search for the first due event: one turn, and its end. Assumes nothing.
 use mathlib.Core.Path.{_≡_, ap, _∙_}
 use mathlib.Core.Bool.{Bool, true, false, _&&_}
-use mathlib.Core.List.{List}
+use mathlib.Core.List.{List, [], _∷_}
 use Prim.Native.Nat.{ℕ, suc, _+_, _<_, _≤_}
 use native.Mathlib.Numerals.{add-one}
 use native.Mathlib.Omega.{arith}
@@ -13,10 +13,15 @@ use Rattle.laws.proofs.Choice.{pick-true, pick-false}
 use Rattle.laws.proofs.Truths.{both-true, and-false}
 use Rattle.contract.specs.Tree.{Contract}
 use Rattle.state.specs.States.{blank, eventOf}
-use Rattle.state.specs.Private.{dueAt, takesOver, searched}
+use Rattle.state.specs.Private.{dueAt, takesOver}
 use Rattle.state.specs.declared.Pending.{Pending}
 use Rattle.state.specs.declared.Due.{Due}
 use Rattle.state.specs.declared.Due.the-variants.{At}
+
+-- what was found so far, with its event, and the events that are left, from place i on
+unfoldable pub searched : (Pending → Bool) → Due → Pending → ℕ → List Pending → Due
+searched test found first i [] = found
+searched test found first i (p ∷ ps) = pick (test p && takesOver found first p) (searched test (At i) p (suc i) ps) (searched test found first (suc i) ps)
 
 module _ {A : Type 0} where
   pub in-take : (n : ℕ) (l : List A) (i : ℕ) → i < n → i < length l → i < length (take n l)

@@ -1,10 +1,9 @@
--- How the pending events stand in their slots, how the first due one is searched for, and which of them time passing drops or meets.
+-- How the pending events stand in their slots, which of them is due, and takes another's place, and which of them time passing drops or meets.
 use mathlib.Core.Bool.{Bool, true, _&&_, _||_}
-use mathlib.Core.List.{List, [], _∷_, _++_}
-use Prim.Native.Nat.{ℕ, suc, _-_}
+use mathlib.Core.List.{List, _++_}
+use Prim.Native.Nat.{ℕ, _-_}
 use lib.Dec.{eqb, leb, ltb}
 use lib.ListN.{length}
-use Rattle.laws.specs.Choice.{pick}
 use Rattle.contract.specs.Tree.{Contract}
 use Rattle.state.specs.States.{maxPending, blank, eventOf, standsBefore}
 use Rattle.laws.specs.Lists.{repeated}
@@ -29,12 +28,7 @@ comesDue c state from stop p = leb from (p .time) && (ltb (p .time) stop && eqb 
 unfoldable pub dueAt : Contract → ℕ → ℕ → Pending → Bool
 dueAt c clock state p = eqb (p .time) clock && eqb (eventOf c p .state) state
 
--- event p takes the place of what was found so far: of nothing always, of the event `first` if it stands before it in the text
+-- event p takes the place of what was found so far: of nothing always, of the event `first` if p stands before that in the text
 abbrev pub takesOver : Due → Pending → Pending → Bool
 takesOver Nothing first p = true
 takesOver (At k) first p = standsBefore p first
-
--- the search for the first due event: what was found so far, with its event, and the events that are left, from place i on
-unfoldable pub searched : (Pending → Bool) → Due → Pending → ℕ → List Pending → Due
-searched test found first i [] = found
-searched test found first i (p ∷ ps) = pick (test p && takesOver found first p) (searched test (At i) p (suc i) ps) (searched test found first (suc i) ps)

@@ -111,7 +111,7 @@ unfoldable pub isDue : Contract → State → Pending → Bool
 isDue c s p = eqb (p .time) (s .clock) && eqb (eventOf c p .state) (s .state)
 
 -- p stands before r in the contract's text: its function's number is lower or, in the same function, its place among that function's
--- events is; by the bytes where events begin the order is the same (`events-in-order`, grammar)
+-- events is; in a text that means the contract, events begin in the same order (`events-in-order`, grammar)
 unfoldable pub standsBefore : Pending → Pending → Bool
 standsBefore p r = pick (eqb (p .function) (r .function)) (ltb (p .event) (r .event)) (ltb (p .function) (r .function))
 

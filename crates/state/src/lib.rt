@@ -322,7 +322,7 @@ fn due_at(table: &[u64], clock: u64, state: usize, p: Pending) -> bool
     false
 }
 
-// Where, of the due events, the one is that stands first in the contract's text; of those that are the same event, the oldest.
+// The place of the due event that stands first in the contract's text; of several that are the same event, the oldest's.
 pub fn first_due(table: &[u64], s: State) -> Due
     ensures { λ r. ⌜ r ≡ dueIn (contractOf (now (table .entry))) s ⌝ }
 {

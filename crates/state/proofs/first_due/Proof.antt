@@ -8,11 +8,11 @@ use native.Mathlib.Omega.{arith}
 use lib.ListN.{length, take, drop}
 use Rattle.contract.specs.Decode.{contractOf}
 use Rattle.state.specs.States.{blank, isDue}
-use Rattle.state.specs.Private.{dueAt, searched}
+use Rattle.state.specs.Private.{dueAt}
 use Rattle.state.specs.declared.Pending.{Pending}
 use Rattle.state.specs.declared.Due.the-variants.{Nothing}
 use Rattle.state.proofs.Lengths.{events-length}
-use Rattle.state.proofs.First.{turn-takes, turn-keeps, turn-passes, turns-end, out-take, past-take}
+use Rattle.state.proofs.First.{searched, turn-takes, turn-keeps, turn-passes, turns-end, out-take, past-take}
 use Rattle.state.proofs.Dues.{search-finds}
 use Rattle.state.proofs.first_due.Statement.{statement}
 use Rattle.state.proofs.first_due.Tie as tie
