@@ -208,8 +208,7 @@ unfolding resolve functionOf
 resolved-event s t n j f e g w h k =
     let all : Names = namesIn s (latestFirst [] (items t)) in
     let x : Function = getD (t .functions) n g in
-    let ns : Names = within all (eachOf (word s) (x .values)) (eachOf (word s) (x .parameters)) in
-    (
+    let ns : Names = within all (eachOf (word s) (x .values)) (eachOf (word s) (x .parameters)) in (
       ns,
       ap (λ (y : contract.Function). getD (y .events) j e) (each-at (functionOf s all) (t .functions) n g f h) ∙ each-at (eventOf s ns) (x .body .events) j w e k,
       ap (λ (ps : List ℕ). getD ps j 0) (each-at (λ y. placesIn (y .body)) (t .functions) n g [] h) ∙ each-at (λ v. v .place) (x .body .events) j w 0 k,
