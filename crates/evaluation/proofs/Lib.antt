@@ -1,3 +1,4 @@
 pub mod Values
 pub mod Truths
 pub mod Refusals
+pub mod Sides

@@ -1,7 +1,7 @@
 -- What holds of 30, 31, 32 and 33 holds of each refusal by an expression or a condition in scope; of one that is not, what holds of 3 too.
 -- Assumes nothing.
 use mathlib.Core.Path.{_≡_, sym}
-use mathlib.Core.Bool.{Bool, true, _&&_}
+use mathlib.Core.Bool.{Bool, true, false, _&&_}
 use mathlib.Core.Logic.{_⊎_, inl, inr}
 use Prim.Native.Nat.{ℕ}
 use lib.IntN.{ℤ}
@@ -86,14 +86,14 @@ module _ (P : ℕ → Type 0) (p30 : P 30) (p31 : P 31) (p32 : P 32) (p33 : P 33
   turned (truth.Refused n) g = g
 
   and : (a b : Truth) → TruthRefuses P a → TruthRefuses P b → TruthRefuses P (conjunction a b)
+  and (truth.Holds true) y g h = h
+  and (truth.Holds false) y g h = tt
   and (truth.Refused n) y g h = g
-  and (truth.Holds a) (truth.Refused n) g h = h
-  and (truth.Holds a) (truth.Holds b) g h = tt
 
   or : (a b : Truth) → TruthRefuses P a → TruthRefuses P b → TruthRefuses P (disjunction a b)
+  or (truth.Holds true) y g h = tt
+  or (truth.Holds false) y g h = h
   or (truth.Refused n) y g h = g
-  or (truth.Holds a) (truth.Refused n) g h = h
-  or (truth.Holds a) (truth.Holds b) g h = tt
 
   left : (a b : Bool) → P 3 ⊎ ((a && b) ≡ true) → P 3 ⊎ (a ≡ true)
   left a b (inl p) = inl p

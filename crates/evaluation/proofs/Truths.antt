@@ -1,6 +1,6 @@
 -- What truths are: of a comparison, below `~`s in a row, and of two parts joined. Assumes nothing.
 use mathlib.Core.Path.{_≡_, refl, sym, ap, subst, _∙_}
-use mathlib.Core.Bool.{Bool, true, false, not, _&&_, _||_}
+use mathlib.Core.Bool.{Bool, true, false, not}
 use mathlib.Core.List.{List}
 use Prim.Native.Nat.{ℕ, zero, suc, _+_, _-_, _<_, _≤_}
 use native.Mathlib.Omega.{arith}
@@ -98,6 +98,23 @@ no-parts w k b c = pick-false _ _ _ (ne-eqb (kindAt w k) 21 b) ∙ pick-false _ 
 last-kind : (i : ℕ) → 21 ≤ i → i ≤ 22 → (i ≡ 21 → ⊥) → i ≡ 22
 last-kind i h h′ g = omega arith
 
+-- a left side that decides, or doesn't
+false-and : (a : Bool) (y : Truth) → not a ≡ true → Holds a ≡ conjunction (Holds a) y
+false-and true y h = true-false (sym h)
+false-and false y h = refl
+
+true-and : (a : Bool) (y : Truth) → not a ≡ false → y ≡ conjunction (Holds a) y
+true-and true y h = refl
+true-and false y h = true-false h
+
+true-or : (a : Bool) (y : Truth) → a ≡ true → Holds a ≡ disjunction (Holds a) y
+true-or true y h = refl
+true-or false y h = true-false (sym h)
+
+false-or : (a : Bool) (y : Truth) → a ≡ false → y ≡ disjunction (Holds a) y
+false-or true y h = true-false h
+false-or false y h = refl
+
 module _ (m : Memory) (w : List ℕ) (k : ℕ) (n : Node) (e : n ≡ nodeOf w k) where
   kind-is : n .kind ≡ kindAt w k
   kind-is = ap (λ (x : Node). x .kind) e
@@ -190,17 +207,23 @@ module _ (m : Memory) (w : List ℕ) (k : ℕ) (n : Node) (e : n ≡ nodeOf w k)
         (λ s. ax ∙ sym (ap (λ (v : Truth). conjunction v y) ax)) (λ s. ax ∙ sym (ap (λ (v : Truth). disjunction v y) ax))
         ∙ sym (joined-at y refl)
 
-    pub refused-right : (y : Truth) (a : Bool) (q : ℕ) → x ≡ Holds a → y ≡ Refused q → y ≡ truthOf m (conditionAt w (k - 1)) → y ≡ truthOf m (conditionAt w k)
-    refused-right y a q ax ay ey =
-        by-cases (λ (t : Truth). y ≡ t) (eqb (n .kind) 21) (conjunction x y) (disjunction x y)
-        (λ s. ay ∙ sym (λ i. conjunction (ax i) (ay i))) (λ s. ay ∙ sym (λ i. disjunction (ax i) (ay i)))
-        ∙ sym (joined-at y ey)
+    -- the left side decides
+    pub left-decides : (a d : Bool) → x ≡ Holds a → d ≡ pick (eqb (n .kind) 21) (not a) a → d ≡ true → Holds a ≡ truthOf m (conditionAt w k)
+    left-decides a d ax ed t =
+        let y = truthOf m (conditionAt w (k - 1)) in
+        by-cases (λ (t : Truth). Holds a ≡ t) (eqb (n .kind) 21) (conjunction x y) (disjunction x y)
+        (λ s. false-and a y (sym (pick-true _ _ _ s) ∙ sym ed ∙ t) ∙ sym (ap (λ (v : Truth). conjunction v y) ax))
+        (λ s. true-or a y (sym (pick-false _ _ _ s) ∙ sym ed ∙ t) ∙ sym (ap (λ (v : Truth). disjunction v y) ax))
+        ∙ sym (joined-at y refl)
 
-    pub both-hold : (y : Truth) (a b c : Bool) → x ≡ Holds a → y ≡ Holds b → y ≡ truthOf m (conditionAt w (k - 1))
-        → c ≡ pick (eqb (n .kind) 21) (a && b) (a || b) → Holds c ≡ truthOf m (conditionAt w k)
-    both-hold y a b c ax ay ey ec =
-        ap Holds ec ∙ pick-ap Holds (eqb (n .kind) 21) (a && b) (a || b)
-        ∙ sym (λ i. pick (eqb (n .kind) 21) (conjunction (ax i) (ay i)) (disjunction (ax i) (ay i))) ∙ sym (joined-at y ey)
+    -- and else the right one
+    pub right-decides : (a d : Bool) (y : Truth) → x ≡ Holds a → d ≡ pick (eqb (n .kind) 21) (not a) a → d ≡ false → y ≡ truthOf m (conditionAt w (k - 1))
+        → y ≡ truthOf m (conditionAt w k)
+    right-decides a d y ax ed t ey =
+        by-cases (λ (t : Truth). y ≡ t) (eqb (n .kind) 21) (conjunction x y) (disjunction x y)
+        (λ s. true-and a y (sym (pick-true _ _ _ s) ∙ sym ed ∙ t) ∙ sym (ap (λ (v : Truth). conjunction v y) ax))
+        (λ s. false-or a y (sym (pick-false _ _ _ s) ∙ sym ed ∙ t) ∙ sym (ap (λ (v : Truth). disjunction v y) ax))
+        ∙ sym (joined-at y ey)
 
 -- ---- `~`s in a row
 pub not-kind : (w : List ℕ) (k : ℕ) (n : Node) → n ≡ nodeOf w k → (n .kind ≡ 20 → ⊥) → false ≡ negatesAt w k

@@ -1,3 +1,4 @@
 pub mod Memory
 pub mod Meaning
+pub mod Sides
 pub mod Private

@@ -1,6 +1,7 @@
--- What an expression and a condition give in a memory. Every operator works out both sides, left first.
+-- What an expression and a condition give in a memory. `+ - * /` and comparisons work out both sides, left first; the right side of `&&` is
+-- worked out only if the left is true, that of `||` only if the left is false (document 02, F-5).
 use Prim.Native.Nat.{ℕ}
-use mathlib.Core.Bool.{not, _&&_, _||_}
+use mathlib.Core.Bool.{true, false, not}
 use lib.ListN.{getD}
 use lib.Dec.{eqb}
 use lib.IntN.{ℤ, pos}
@@ -54,16 +55,16 @@ abbrev pub negated : Truth → Truth
 negated (truth.Holds a) = truth.Holds (not a)
 negated (truth.Refused n) = truth.Refused n
 
--- both sides are worked out, then joined
+-- where the right side is not worked out, the answer is the left one's: false of `&&`, true of `||`, or its refusal
 abbrev pub conjunction : Truth → Truth → Truth
-conjunction (truth.Refused n) y = truth.Refused n
-conjunction (truth.Holds a) (truth.Refused n) = truth.Refused n
-conjunction (truth.Holds a) (truth.Holds b) = truth.Holds (a && b)
+conjunction (truth.Holds true) right = right
+conjunction (truth.Holds false) right = truth.Holds false
+conjunction (truth.Refused n) right = truth.Refused n
 
 abbrev pub disjunction : Truth → Truth → Truth
-disjunction (truth.Refused n) y = truth.Refused n
-disjunction (truth.Holds a) (truth.Refused n) = truth.Refused n
-disjunction (truth.Holds a) (truth.Holds b) = truth.Holds (a || b)
+disjunction (truth.Holds true) right = truth.Holds true
+disjunction (truth.Holds false) right = right
+disjunction (truth.Refused n) right = truth.Refused n
 
 unfoldable pub truthOf : Memory → Condition → Truth
 truthOf m (tree.truth b) = truth.Holds b

@@ -1,6 +1,6 @@
 // Works out expressions and conditions by recursion on their parts, which stand before the whole in a table.
 ghost use mathlib.Core.Path.{_≡_};
-ghost use mathlib.Core.Bool.{false, _&&_, _||_};
+ghost use mathlib.Core.Bool.{false, not};
 ghost use Prim.Native.Nat.{suc, _+_, _<_};
 ghost use lib.Dec.{eqb, leb, ltb};
 ghost use lib.IntN.{pos};
@@ -324,17 +324,18 @@ fn turned(odd: bool, t: Truth) -> Truth
     t
 }
 
-// Two truth values joined by `&&`, else by `||`.
-fn both(kind: u64, a: bool, b: bool) -> bool
-    ensures { λ r. ⌜ r ≡ pick (eqb kind andKind) (a && b) (a || b) ⌝ }
+// Whether the left side of `&&`, else of `||`, decides by its truth: false decides `&&`, true decides `||`.
+fn decides(kind: u64, holds: bool) -> bool
+    ensures { λ r. ⌜ r ≡ pick (eqb kind andKind) (not holds) holds ⌝ }
 {
     if kind == Node::AND {
-        return a & b;
+        return !holds;
     }
-    a | b
+    holds
 }
 
-// The condition at node k. Runs of `~` are counted, so that only `&&` and `||` call on.
+// The condition at node k. Runs of `~` are counted, so that only `&&` and `||` call on: the left side, and the right one where the left is
+// neither refused nor decides.
 pub fn truth(
     table: &[u64],
     kinds: &[u8; Contract::FIELDS],
@@ -367,9 +368,9 @@ pub fn truth(
     let Truth::Holds(a) = one else {
         return one;
     };
+    if decides(kind, a) {
+        return turned(run.odd, one);
+    }
     let other = truth(table, kinds, numbers, texts, holdings, values, clock, last);
-    let Truth::Holds(b) = other else {
-        return other;
-    };
-    turned(run.odd, Truth::Holds(both(kind, a, b)))
+    turned(run.odd, other)
 }

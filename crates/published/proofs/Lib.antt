@@ -1,4 +1,3 @@
-pub mod Answers
 pub mod Meeting
 pub mod Runs
 pub mod Actions

@@ -72,6 +72,9 @@ pub data Configuration : Type 0 where
 
 -- ---- the memory
 
+-- [[E]]ℓ, which source 000 leaves undefined: `valueOf`, and `truthOf` for conditions. The right side of `&&` is worked out only if the left
+-- is true, that of `||` only if the left is false.
+
 -- ℓ(h), the amount at the place of h
 abbrev pub amountOf : Memory → Holder → ℕ
 amountOf m h = getD (m .holdings) (placeOf h) 0

@@ -18,8 +18,8 @@
 // A step prints its line and what came of it, the state's number or -, clock, number of pending events | assets | fields (_ nothing,
 // "N string N, ? else), and a line a label: kind, party, value. Other lines are left out; those with a semicolon are contracts' texts.
 // Expected results: worked steps on contracts whose texts stand beside their words in `stdin`, to be read against the documents (who worked
-// them out, and how, is not recorded here; those of jumps were worked out from document 02, F-3, before they were run); and for question 3
-// whether a table passes, as its name in `stdin` says.
+// them out, and how, is not recorded here; those of jumps, and of a right side of && without a value, were worked out from document 02, F-3
+// and F-5, before they were run); and for question 3 whether a table passes, as its name in `stdin` says.
 ghost use Prim.Native.Nat.{_≤_, _<_};
 ghost use lib.ListN.{length};
 use contract::Contract;

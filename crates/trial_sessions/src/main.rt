@@ -1,6 +1,6 @@
 // Plays the session of each folder that standard input names, one a line, and prints the name and what the desk prints. The functions
 // under "a session" are those of crate `desk` without its options and without what it says of failures. Expected results: what the
-// published vectors expect of each session once requests up to F-4 have landed, byte for byte; of the examples, what the customer's plain
+// published vectors expect of each session once requests up to F-5 have landed, byte for byte; of the examples, what the customer's plain
 // desk prints.
 ghost use Prim.Native.Nat.{_≤_};
 ghost use lib.ListN.{length};
