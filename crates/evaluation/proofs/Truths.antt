@@ -98,22 +98,20 @@ no-parts w k b c = pick-false _ _ _ (ne-eqb (kindAt w k) 21 b) ∙ pick-false _ 
 last-kind : (i : ℕ) → 21 ≤ i → i ≤ 22 → (i ≡ 21 → ⊥) → i ≡ 22
 last-kind i h h′ g = omega arith
 
--- a left side that decides, or doesn't
-false-and : (a : Bool) (y : Truth) → not a ≡ true → Holds a ≡ conjunction (Holds a) y
-false-and true y h = true-false (sym h)
-false-and false y h = refl
+-- a left side that decides `&&` (b), else `||`, and one that doesn't
+alone : (b a : Bool) (y : Truth) → pick b (not a) a ≡ true → Holds a ≡ pick b (conjunction (Holds a) y) (disjunction (Holds a) y)
+unfolding pick
+alone true true y h = true-false (sym h)
+alone true false y h = refl
+alone false true y h = refl
+alone false false y h = true-false (sym h)
 
-true-and : (a : Bool) (y : Truth) → not a ≡ false → y ≡ conjunction (Holds a) y
-true-and true y h = refl
-true-and false y h = true-false h
-
-true-or : (a : Bool) (y : Truth) → a ≡ true → Holds a ≡ disjunction (Holds a) y
-true-or true y h = refl
-true-or false y h = true-false (sym h)
-
-false-or : (a : Bool) (y : Truth) → a ≡ false → y ≡ disjunction (Holds a) y
-false-or true y h = true-false h
-false-or false y h = refl
+passed-on : (b a : Bool) (y : Truth) → pick b (not a) a ≡ false → y ≡ pick b (conjunction (Holds a) y) (disjunction (Holds a) y)
+unfolding pick
+passed-on true true y h = refl
+passed-on true false y h = true-false h
+passed-on false true y h = true-false h
+passed-on false false y h = refl
 
 module _ (m : Memory) (w : List ℕ) (k : ℕ) (n : Node) (e : n ≡ nodeOf w k) where
   kind-is : n .kind ≡ kindAt w k
@@ -200,30 +198,20 @@ module _ (m : Memory) (w : List ℕ) (k : ℕ) (n : Node) (e : n ≡ nodeOf w k)
         ap (truthOf m) (start ∙ pick-false _ _ _ (ne-eqb (kindAt w k) 21 (λ i. u (q ∙ i))) ∙ pick-true _ _ _ (eq-eqb (kindAt w k) 22 (sym q ∙ last-kind (n .kind) h h′ u)))
         ∙ sym (λ i. disjunction (xs i) (ey i)))
 
+    -- where the left side gives v, and the whole z by that
+    by-left : (v y z : Truth) → x ≡ v → y ≡ truthOf m (conditionAt w (k - 1)) → z ≡ pick (eqb (n .kind) 21) (conjunction v y) (disjunction v y)
+        → z ≡ truthOf m (conditionAt w k)
+    by-left v y z ev ey ez = ez ∙ sym (λ i. pick (eqb (n .kind) 21) (conjunction (ev i) y) (disjunction (ev i) y)) ∙ sym (joined-at y ey)
+
     pub refused-left : (q : ℕ) → x ≡ Refused q → x ≡ truthOf m (conditionAt w k)
-    refused-left q ax =
-        let y = truthOf m (conditionAt w (k - 1)) in
-        by-cases (λ (t : Truth). x ≡ t) (eqb (n .kind) 21) (conjunction x y) (disjunction x y)
-        (λ s. ax ∙ sym (ap (λ (v : Truth). conjunction v y) ax)) (λ s. ax ∙ sym (ap (λ (v : Truth). disjunction v y) ax))
-        ∙ sym (joined-at y refl)
+    refused-left q ax = ax ∙ by-left (Refused q) _ (Refused q) ax refl (sym (pick-same (eqb (n .kind) 21) (Refused q)))
 
-    -- the left side decides
     pub left-decides : (a d : Bool) → x ≡ Holds a → d ≡ pick (eqb (n .kind) 21) (not a) a → d ≡ true → Holds a ≡ truthOf m (conditionAt w k)
-    left-decides a d ax ed t =
-        let y = truthOf m (conditionAt w (k - 1)) in
-        by-cases (λ (t : Truth). Holds a ≡ t) (eqb (n .kind) 21) (conjunction x y) (disjunction x y)
-        (λ s. false-and a y (sym (pick-true _ _ _ s) ∙ sym ed ∙ t) ∙ sym (ap (λ (v : Truth). conjunction v y) ax))
-        (λ s. true-or a y (sym (pick-false _ _ _ s) ∙ sym ed ∙ t) ∙ sym (ap (λ (v : Truth). disjunction v y) ax))
-        ∙ sym (joined-at y refl)
+    left-decides a d ax ed t = by-left (Holds a) _ (Holds a) ax refl (alone (eqb (n .kind) 21) a _ (sym ed ∙ t))
 
-    -- and else the right one
     pub right-decides : (a d : Bool) (y : Truth) → x ≡ Holds a → d ≡ pick (eqb (n .kind) 21) (not a) a → d ≡ false → y ≡ truthOf m (conditionAt w (k - 1))
         → y ≡ truthOf m (conditionAt w k)
-    right-decides a d y ax ed t ey =
-        by-cases (λ (t : Truth). y ≡ t) (eqb (n .kind) 21) (conjunction x y) (disjunction x y)
-        (λ s. true-and a y (sym (pick-true _ _ _ s) ∙ sym ed ∙ t) ∙ sym (ap (λ (v : Truth). conjunction v y) ax))
-        (λ s. false-or a y (sym (pick-false _ _ _ s) ∙ sym ed ∙ t) ∙ sym (ap (λ (v : Truth). disjunction v y) ax))
-        ∙ sym (joined-at y ey)
+    right-decides a d y ax ed t ey = by-left (Holds a) y y ax ey (passed-on (eqb (n .kind) 21) a y (sym ed ∙ t))
 
 -- ---- `~`s in a row
 pub not-kind : (w : List ℕ) (k : ℕ) (n : Node) → n ≡ nodeOf w k → (n .kind ≡ 20 → ⊥) → false ≡ negatesAt w k

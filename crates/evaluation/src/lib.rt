@@ -335,7 +335,7 @@ fn decides(kind: u64, holds: bool) -> bool
 }
 
 // The condition at node k. Runs of `~` are counted, so that only `&&` and `||` call on: the left side, and the right one where the left is
-// neither refused nor decides.
+// not refused and does not decide.
 pub fn truth(
     table: &[u64],
     kinds: &[u8; Contract::FIELDS],

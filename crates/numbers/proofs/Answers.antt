@@ -31,9 +31,6 @@ module _ {x : Answer} where
   no-negative p q = let y : _≡_ {A = ℕ} 0 1 = cc in omega arith
 
 module _ {x : Truth} where
-  pub same-decision : {b b' : Bool} → x ≡ truth.Holds b → x ≡ truth.Holds b' → b ≡ b'
-  same-decision p q = cc
-
   pub same-undecided : {n n' : ℕ} → x ≡ truth.Refused n → x ≡ truth.Refused n' → n ≡ n'
   same-undecided p q = cc
 

@@ -7,12 +7,12 @@ use lib.IntN.{pos, negsuc}
 use Rattle.numbers.specs.declared.Value.the-variants.{Integer, Text}
 use Rattle.numbers.specs.declared.Answer.{Answer}
 use Rattle.numbers.specs.declared.Answer.the-variants as answer
+use Rattle.numbers.proofs.Answers.{same-amount, same-refusal, no-value, no-text, no-negative, same-undecided, undecided}
 use Rattle.contract.specs.Tree.{Holder, Expression}
 use Rattle.evaluation.specs.Memory.{Memory}
 use Rattle.evaluation.specs.Meaning.{valueOf}
 use Rattle.statements.specs.declared.Label.{Label}
 use Rattle.published.specs.Published.{Statement, amountOf, Table3, valueSend, assetSend, fieldUpdate, assetUpdate, assetUpdateSelf, condTrue, condFalse, NoAmount, refuses, string, negative, uncovered, Meets, send-meets, assign-meets, pay-meets, move-meets, move-full, condition-meets, Stuck}
-use Rattle.numbers.proofs.Answers.{same-amount, same-refusal, no-value, no-text, no-negative, same-undecided, undecided}
 
 -- ---- no rule applies
 

@@ -3,10 +3,10 @@ use mathlib.Core.Path.{_≡_, refl, sym, ap, subst}
 use mathlib.Core.List.{List, [], _∷_, _++_, append-assoc}
 use Prim.Native.Nat.{ℕ, _+_, _-_}
 use Rattle.numbers.specs.declared.Value.{Value}
+use Rattle.numbers.proofs.Answers.{same-value, same-amount, true-not-false}
 use Rattle.evaluation.specs.Memory.{Memory}
 use Rattle.statements.specs.declared.Label.{Label}
 use Rattle.published.specs.Published.{Statement, act, when, amountOf, withAmount, withValue, sends, pays, Table3, valueSend, assetSend, fieldUpdate, assetUpdate, assetUpdateSelf, condTrue, condFalse, Statements, stop, next, Meets}
-use Rattle.numbers.proofs.Answers.{same-value, same-amount, true-not-false}
 use Rattle.published.proofs.Meeting.{meets-stuck, one-no}
 
 -- one run after another

@@ -72,8 +72,7 @@ pub data Configuration : Type 0 where
 
 -- ---- the memory
 
--- [[E]]ℓ, which source 000 leaves undefined: `valueOf`, and `truthOf` for conditions. The right side of `&&` is worked out only if the left
--- is true, that of `||` only if the left is false.
+-- [[E]]ℓ, whose definition source 000 omits: `valueOf`, and of conditions `truthOf` (`&&` and `||` by document 02, F-5)
 
 -- ℓ(h), the amount at the place of h
 abbrev pub amountOf : Memory → Holder → ℕ
