@@ -1,4 +1,6 @@
 // The table of a contract: its limits, its rows and nodes, and their readers.
+#![tactic(auto)]
+
 ghost use Rattle.std.specs.Prelude.{◌≡◌, ◌+◌, ◌*◌, ◌≤◌, ◌<◌};
 ghost use Rattle.contract.specs.Table.{word_at, clause_word, parameters_start};
 ghost use Rattle.contract.specs.Decode.{packed_byte};
@@ -8,7 +10,7 @@ ghost use Rattle.contract.specs.Private.{RowAt};
 use tokens::Token;
 
 // The limits of document 01 on a contract.
-#[derive(Drop)]
+#[derive(Clone, Copy)]
 pub struct Contract {}
 
 impl Contract {
@@ -42,7 +44,7 @@ impl Contract {
 }
 
 // The head of a table: how many there are of each, and the initial state.
-#[derive(Drop)]
+#[derive(Clone, Copy)]
 pub struct TableHead {
     pub parties: usize,
     pub assets: usize,
@@ -62,7 +64,7 @@ impl TableHead {
 }
 
 // A function's row. Its nodes start at `first`: those of the precondition, those of the body, its events.
-#[derive(Drop)]
+#[derive(Clone, Copy)]
 pub struct Function {
     pub state: usize,
     pub party: usize,
@@ -92,7 +94,7 @@ impl Function {
 }
 
 // An event's row: its states, and its node, which stands after its guard and its handler.
-#[derive(Drop)]
+#[derive(Clone, Copy)]
 pub struct Event {
     pub state: usize,
     pub last: usize,
@@ -104,7 +106,7 @@ impl Event {
 }
 
 // A clause's row: its party, its verb (0 SET, 1 OK), and how many fields it names.
-#[derive(Drop)]
+#[derive(Clone, Copy)]
 pub struct Clause {
     pub party: usize,
     pub verb: usize,
@@ -120,7 +122,7 @@ impl Clause {
 
 // A node: its parts stand before it. Of an expression, a condition or an event its size counts the nodes of its whole, of a
 // statement those of its block up to and with it.
-#[derive(Drop)]
+#[derive(Clone, Copy)]
 pub struct Node {
     pub kind: u64,
     pub argument: u64,
@@ -316,7 +318,7 @@ pub fn packed_length(table: &[u64], i: usize) -> u64
 }
 
 // Byte j of row i of the parameters.
-pub fn packed_byte_lem(table: &[u64], i: usize, j: usize) -> u64
+pub fn packed_byte(table: &[u64], i: usize, j: usize) -> u64
     ensures { result ≡ packed_byte table.now (parameters_start + i * 5) j }
 {
     let eight = word(table, row(table, PARAMETERS, PACKED_WORDS, i) + (1 + j / 8));

@@ -13,7 +13,7 @@ use Rattle.contract.specs.Fits.{total, is_name, is_string}
 use Rattle.laws.proofs.Members.{every_head, every_tail}
 use Rattle.laws.specs.Lists.{every}
 use Rattle.contract.specs.Table.{name_words, string_words, clause_words, function_words, packed_words, parameter_words}
-use Rattle.contract.specs.Encode.{zeros, padded, joined, holder_node, expression_nodes, condition_nodes, action_parts, block_nodes, precondition_nodes, event_nodes, function_nodes, name_row, string_row, packs, packed_row, parameter_rows, clause_row, function_row, function_rows, event_rows, all_event_rows}
+use Rattle.contract.specs.Encode.{padded, joined, holder_node, expression_nodes, condition_nodes, action_parts, block_nodes, precondition_nodes, event_nodes, function_nodes, name_row, string_row, packs, packed_row, parameter_rows, clause_row, function_row, function_rows, event_rows, all_event_rows}
 use Rattle.contract.proofs.Zeros.{length_zeros}
 use Rattle.contract.proofs.Fitting.{name_length, string_length}
 

@@ -12,7 +12,7 @@ use borrow.Author.Tests.{ltb-true, ltb-false, le-leb, lt-leb, ne_eqb}
 use Rattle.laws.specs.Choice.{pick}
 use Rattle.laws.proofs.Choice.{true_false}
 use Rattle.laws.specs.Lists.{every}
-use Rattle.laws.proofs.Members.{every_at, every_head, every_tail, every_so}
+use Rattle.laws.proofs.Members.{every_head, every_tail, every_so}
 use Rattle.laws.proofs.Truths.{link, both_true}
 use Rattle.tokens.specs.Classes.{within, is_letter, is_digit, is_name_byte}
 use Rattle.tokens.proofs.Facts.{letter_name}

@@ -2,7 +2,7 @@
 use mathlib.Core.Path.{◌≡◌, refl, ap, ◌∙◌}
 use mathlib.Core.Bool.{Bool, true}
 use mathlib.Core.List.{List, [], ◌∷◌, ◌++◌}
-use Prim.Native.Nat.{ℕ, zero, suc, ◌+◌, ◌-◌, ◌*◌, ◌<◌, ◌≤◌}
+use Prim.Native.Nat.{ℕ, zero, suc, ◌+◌, ◌-◌, ◌*◌, ◌<◌}
 use native.Mathlib.Omega.{arith}
 use native.Mathlib.Nat.{suc-mul, zero-mul}
 use lib.ListN.{length, get_or, take, length-append}
@@ -17,7 +17,7 @@ use Rattle.contract.specs.Encode.{zeros, padded, joined, function_nodes, name_ro
 use Rattle.contract.specs.Decode.{each_from}
 use Rattle.contract_laws.proofs.Stands.{Stands, first_part, second_part, moved, same_words, whole, first_word}
 use Rattle.contract.proofs.Fitting.{FitsContract, fits_clause, fits_function}
-use Rattle.contract_laws.proofs.Lengths.{length_padded, rows_long, values_long, length_packed_row, length_parameter_rows, length_name_row, length_string_row, length_clause_row, length_function_row, length_joined, length_function_rows, length_event_rows, length_all_event_rows, length_function, length_functions}
+use Rattle.contract_laws.proofs.Lengths.{length_padded, rows_long, values_long, length_parameter_rows, length_name_row, length_string_row, length_clause_row, length_function_row, length_function_rows, length_event_rows, length_all_event_rows, length_function, length_functions}
 
 -- ---- rows
 
@@ -30,7 +30,7 @@ joined_row row right n f [] e s i h d = absurd (omega arith)
 joined_row {w} {o} row right n f (x ∷ l) e s zero h d = moved (omega (arith, zero-mul n)) (first_part (row x) (joined row l) s)
 joined_row {w} {o} row right n f (x ∷ l) e s (suc i) h d =
     moved (omega (arith, f x (every_head right x l e), suc-mul i n))
-    (joined_row row right n f l (every_tail right x l e) (second_part (row x) (joined row l) s) i (omega arith) d)
+    (joined_row {o = o + length (row x)} row right n f l (every_tail right x l e) (second_part (row x) (joined row l) s) i (omega arith) d)
 
 -- reading from i on gives the members of a list, if reading at i + j gives member j
 pub each_is : {A : Type 0} (l : List A) (i : ℕ) (g : ℕ → A) → ((j : ℕ) → j < length l → (d : A) → g (i + j) ≡ get_or l j d)
@@ -108,11 +108,11 @@ event_row_lem first [] s j h d = absurd (omega arith)
 event_row_lem first (e ∷ es) s zero h d =
     let n : first ≡ first + 0 = omega arith in
     moved (omega arith) (same_words (λ t. event_row (n t) e) (first_part (event_row first e) (event_rows (first + event_size e) es) s))
-event_row_lem first (e ∷ es) s (suc j) h d =
+event_row_lem {w = w} {o = o} first (e ∷ es) s (suc j) h d =
     let n : first + event_size e + total event_size (take j es) ≡ first + (event_size e + total event_size (take j es)) = omega arith in
     moved (omega arith)
     (same_words (λ t. event_row (n t) (get_or es j d))
-    (event_row_lem (first + event_size e) es (second_part (event_row first e) (event_rows (first + event_size e) es) s) j (omega arith) d))
+    (event_row_lem {o = o + length (event_row first e)} (first + event_size e) es (second_part (event_row first e) (event_rows (first + event_size e) es) s) j (omega arith) d))
 
 -- the row of function i, where the functions' first node and first event have these numbers
 pub function_row_lem : {w : List ℕ} {o : ℕ} (first event : ℕ) (fs : List Function) → every (λ f. is_name f.name) fs ≡ true
@@ -126,13 +126,13 @@ function_row_lem first event (f ∷ fs) e s zero h d =
     moved (omega arith)
     (same_words (λ t. function_row (n t) (m t) f)
     (first_part (function_row first event f) (function_rows (first + function_size f) (event + length f.events) fs) s))
-function_row_lem first event (f ∷ fs) e s (suc i) h d =
+function_row_lem {w = w} {o = o} first event (f ∷ fs) e s (suc i) h d =
     let n : first + function_size f + total function_size (take i fs) ≡ first + (function_size f + total function_size (take i fs)) = omega arith in
     let m : event + length f.events + total event_count (take i fs) ≡ event + (length f.events + total event_count (take i fs)) = omega arith in
     let r = length_function_row first event f (every_head (λ f. is_name f.name) f fs e) in
     moved (omega arith)
     (same_words (λ t. function_row (n t) (m t) (get_or fs i d))
-    (function_row_lem (first + function_size f) (event + length f.events) fs (every_tail (λ f. is_name f.name) f fs e)
+    (function_row_lem {o = o + length (function_row first event f)} (first + function_size f) (event + length f.events) fs (every_tail (λ f. is_name f.name) f fs e)
     (second_part (function_row first event f) (function_rows (first + function_size f) (event + length f.events) fs) s)
     i (omega arith) d))
 
@@ -151,12 +151,12 @@ event_rows_lem first (f ∷ fs) s zero h d =
     moved (omega arith)
     (same_words (λ t. event_rows (events_first (n t) f) f.events)
     (first_part (event_rows (events_first first f) f.events) (all_event_rows (first + function_size f) fs) s))
-event_rows_lem first (f ∷ fs) s (suc i) h d =
+event_rows_lem {w = w} {o = o} first (f ∷ fs) s (suc i) h d =
     let n : first + function_size f + total function_size (take i fs) ≡ first + (function_size f + total function_size (take i fs)) = omega arith in
     let r = length_event_rows (events_first first f) f.events in
     moved (omega arith)
     (same_words (λ t. event_rows (events_first (n t) (get_or fs i d)) (get_or fs i d).events)
-    (event_rows_lem (first + function_size f) fs
+    (event_rows_lem {o = o + length (event_rows (events_first first f) f.events)} (first + function_size f) fs
     (second_part (event_rows (events_first first f) f.events) (all_event_rows (first + function_size f) fs) s)
     i (omega arith) d))
 
@@ -178,7 +178,7 @@ laid_at [] i h s = absurd (omega arith)
 laid_at (x ∷ []) zero h s = moved (omega arith) s
 laid_at (x ∷ []) (suc i) h s = absurd (omega arith)
 laid_at (x ∷ y ∷ l) zero h s = moved (omega arith) (first_part x (laid (y ∷ l)) s)
-laid_at (x ∷ y ∷ l) (suc i) h s = moved (omega arith) (laid_at (y ∷ l) i (omega arith) (second_part x (laid (y ∷ l)) s))
+laid_at {w = w} {o = o} (x ∷ y ∷ l) (suc i) h s = moved (omega arith) (laid_at {o = o + length x} (y ∷ l) i (omega arith) (second_part x (laid (y ∷ l)) s))
 
 length_laid : (l : List (List ℕ)) → length (laid l) ≡ before (length l) l
 length_laid [] = refl

@@ -1,4 +1,4 @@
--- What `inRange` gives, from the linear facts of `Whole.antt`. Assumes nothing.
+-- What `in_range` gives, from the linear facts of `Whole.antt`. Assumes nothing.
 use mathlib.Core.Path.{◌≡◌, refl, sym, ap, ◌∙◌}
 use Prim.Native.Nat.{ℕ, ◌+◌, ◌^◌, ◌<◌, ◌≤◌}
 use native.Mathlib.Omega.{arith}

@@ -1,9 +1,11 @@
 // Values, and the checked arithmetic and comparisons on them. Each result is that of a definition over all integers.
+#![tactic(auto)]
+
 ghost use Rattle.std.specs.Prelude.{◌≡◌, pos, nat_abs, neg_ℤ, ◌+ℤ◌, ◌-ℤ◌, ◌*ℤ◌};
 ghost use Rattle.numbers.specs.Numbers.{in_range, divided, applied, integers, strings, compared};
 
 // A value of a field, a parameter or an expression: an integer, or a string by its number.
-#[derive(Drop)]
+#[derive(Clone, Copy)]
 pub enum Value {
     Integer(i64),
     Text(u8),
@@ -19,20 +21,20 @@ impl Value {
 }
 
 // What working out an expression gives: a value, or the number of the question that refused.
-#[derive(Drop)]
+#[derive(Clone, Copy)]
 pub enum Answer {
     Is(Value),
     Refused(u8),
 }
 
 // What working out a condition gives: its truth, or the number of the question that refused.
-#[derive(Drop)]
+#[derive(Clone, Copy)]
 pub enum Truth {
     Holds(bool),
     Refused(u8),
 }
 
-#[derive(Drop)]
+#[derive(Clone, Copy)]
 pub enum Operator {
     Plus,
     Minus,
@@ -40,7 +42,7 @@ pub enum Operator {
     Over,
 }
 
-#[derive(Drop)]
+#[derive(Clone, Copy)]
 pub enum Comparison {
     Equal,
     Unequal,
@@ -66,7 +68,8 @@ pub fn magnitude(a: i64) -> u64
 pub fn natural(n: u64) -> Answer
     ensures { result ≡ in_range (pos n) }
 {
-    if Value::LIMIT <= n {
+    let past_top = Value::LIMIT <= n;
+    if past_top {
         return Answer::Refused(questions::RESULT_RANGE);
     }
     Answer::Is(Value::Integer(n as i64))
@@ -139,7 +142,8 @@ fn div(a: i64, b: i64) -> Answer
     if b == 0 {
         return Answer::Refused(questions::DIVISOR);
     }
-    if b == -1 {
+    let minus_one = b == -1;
+    if minus_one {
         return sub(0, a);
     }
     // rounded towards zero, which is down where the signs are alike

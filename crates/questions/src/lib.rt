@@ -1,4 +1,5 @@
 // The questions that can refuse, by the documents' number. Definitions in specs/ write the number itself, code the name.
+#![tactic(auto)]
 
 // Reading.
 

@@ -1,4 +1,6 @@
 // Names as they stand in a table, compared with bytes.
+#![tactic(auto)]
+
 ghost use Rattle.std.specs.Prelude.{◌≡◌};
 ghost use Rattle.laws.specs.Bytes.{same_bytes};
 ghost use Rattle.contract.specs.Decode.{word_of};

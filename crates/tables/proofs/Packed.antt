@@ -2,13 +2,13 @@
 use mathlib.Core.Path.{◌≡◌, refl, sym, ap, ◌∙◌}
 use mathlib.Core.Bool.{Bool, true, false, ◌&&◌}
 use mathlib.Core.List.{List, [], ◌∷◌}
-use Prim.Native.Nat.{ℕ, zero, suc, ◌+◌, ◌-◌, ◌*◌, ◌<◌, ◌≤◌}
+use Prim.Native.Nat.{ℕ, zero, suc, ◌+◌, ◌-◌, ◌*◌, ◌≤◌}
 use native.Mathlib.Omega.{arith}
 use lib.ListN.{length, take, length-take}
 use lib.Dec.{eqb, ltb, leb}
 use borrow.Author.Tests.{leb-true, le-leb, lt-ltb}
 use Rattle.laws.specs.Lists.{every, all_below}
-use Rattle.laws.proofs.Truths.{link, both_left, both_right}
+use Rattle.laws.proofs.Truths.{link}
 use Rattle.tokens.specs.Classes.{is_letter, is_name_byte}
 use Rattle.contract.specs.Fits.{is_name}
 use Rattle.contract.specs.Table.{word_at, function_word, function_words, functions_start, packed_words, parameters_start, values_of, parameters_of}

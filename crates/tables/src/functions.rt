@@ -29,7 +29,7 @@ fn precondition_ok(table: &[u64], values: usize, parameters: usize, first: usize
 }
 
 // The statements in the n nodes from `first` on.
-fn body_ok_lem(table: &[u64], values: usize, parameters: usize, first: usize, n: usize) -> bool
+fn body_ok(table: &[u64], values: usize, parameters: usize, first: usize, n: usize) -> bool
     requires table_len { length table.now ≡ 24659 }
     requires n_bound { first + n ≤ 4096 }
     ensures { result ≡ body_ok table.now (scope_at table.now values parameters) first n }
@@ -58,7 +58,7 @@ fn guarded_ok(
     if is_sort(Sort::Expression, guard.kind) {
         if guard.size == start - first {
             if nodes_ok(table, values, parameters, first, start - first) {
-                return body_ok_lem(table, 0, 0, start, handler);
+                return body_ok(table, 0, 0, start, handler);
             }
         }
     }
@@ -148,7 +148,7 @@ fn function_nodes_ok(table: &[u64], i: usize, f: Function) -> bool
         let body = f.first + f.precondition;
         if body + f.body <= word(table, 8) as usize {
             if precondition_ok(table, f.values, f.parameters, f.first, f.precondition) {
-                if body_ok_lem(table, f.values, f.parameters, body, f.body) {
+                if body_ok(table, f.values, f.parameters, body, f.body) {
                     return events_ok(table, i, f);
                 }
             }

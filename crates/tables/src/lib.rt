@@ -1,4 +1,6 @@
 // Question 3: whether a table is one that reading could have written, as docs/TABLE.md says.
+#![tactic(auto)]
+
 ghost use Rattle.std.specs.Prelude.{◌≡◌, ◌+◌, true, ◌&&◌, length, ltb};
 ghost use Rattle.contract.specs.Table.{word_at, clause_word};
 ghost use Rattle.contract.specs.Check.{head_ok, names_ok, clause_ok, clause_below, passes};

@@ -26,7 +26,7 @@ pub(crate) fn node_in(table: &[u64], k: usize) -> Node
 }
 
 // What a part of a node may be.
-#[derive(Drop)]
+#[derive(Clone, Copy)]
 pub(crate) enum Sort {
     Expression,
     Condition,
@@ -40,7 +40,7 @@ pub(crate) enum Sort {
 }
 
 // Where something starts, if it is as it should be.
-#[derive(Drop)]
+#[derive(Clone, Copy)]
 pub(crate) enum Start {
     At(usize),
     Nowhere,

@@ -13,7 +13,6 @@ use Rattle.laws.proofs.Choice.{pick_true, pick_false, true_false}
 use Rattle.laws.proofs.Lists.{cons_at, next_at}
 use Rattle.tokens.specs.Classes.{within, is_letter, is_digit, is_printable, is_blank, is_text, run, decimal, gap}
 use Rattle.tokens.specs.Tokens.{digits_at}
-use Rattle.tokens.specs.declared.Digits.{Digits}
 
 -- a letter, a digit and a quote are text
 within_true : (b lo hi : ℕ) → within b lo hi ≡ true → (lo ≤ b) × (b ≤ hi)

@@ -1,4 +1,6 @@
 // A tokenizer over a lent text: a token with its place, a refusal with its place, or the text's end.
+#![tactic(auto)]
+
 ghost use Rattle.std.specs.Prelude.{◌≡◌, true, false, ◌+◌, ◌-◌, ◌*◌, ◌≤◌, ◌<◌, min, length, drop, get_or, eqb};
 ghost use Rattle.laws.specs.Choice.{pick};
 ghost use Rattle.laws.specs.Bytes.{same_bytes};
@@ -8,7 +10,7 @@ ghost use Rattle.tokens.specs.Tokens.{token, digits_at, token_at, part_of, betwe
 
 use numbers::Value;
 
-#[derive(Drop)]
+#[derive(Clone, Copy)]
 pub struct Token {
     pub start: usize,
     // The place after its last byte.
@@ -34,7 +36,7 @@ impl Token {
 }
 
 // What stands at a place of a text: a token, the question that refuses with its place, or the text's end.
-#[derive(Drop)]
+#[derive(Clone, Copy)]
 pub enum Lexed {
     Found(Token),
     Refused(u8, usize),
@@ -122,7 +124,8 @@ fn comment_end(text: &[u8], at: usize) -> usize
     let mut i = at;
     while i < text.len() {
         let b = text[i];
-        if b == b'\n' {
+        let closes = b == b'\n';
+        if closes {
             return i + 1;
         }
         if is_text(b) {
@@ -165,7 +168,7 @@ fn string_end(text: &[u8], at: usize) -> usize
 }
 
 // The end of digits, and their value; where that is greater than 2 ^ 63, the number after it.
-#[derive(Drop)]
+#[derive(Clone, Copy)]
 pub struct Digits {
     pub end: usize,
     pub value: u64,
@@ -273,7 +276,8 @@ fn name_at(text: &[u8], i: usize) -> Lexed
     ensures { result ≡ name_at text.now i }
 {
     let end = name_end(text, i + 1);
-    if end - i <= Token::NAME_BYTES {
+    let fits = end - i <= Token::NAME_BYTES;
+    if fits {
         found(name_kind(&text[i..end]), i, end)
     } else {
         Lexed::Refused(questions::WORD_LENGTH, i)

@@ -3,7 +3,7 @@ use mathlib.Core.Path.{◌≡◌, refl, sym, ap, subst, ◌∙◌}
 use mathlib.Core.List.{List, [], ◌∷◌, ◌++◌}
 use Prim.Native.Nat.{ℕ, zero, suc, ◌+◌, ◌-◌, ◌≤◌}
 use native.Mathlib.Omega.{arith}
-use lib.ListN.{length, get_or, take, replicate, length-append, get_or-eq_default}
+use lib.ListN.{length, take, replicate, length-append, get_or-eq_default}
 use Rattle.laws.specs.Bytes.{bytes}
 use Rattle.words.specs.Words.{spellings, spelled}
 use Rattle.words.specs.Spellings.{spelling_of}

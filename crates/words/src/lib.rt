@@ -1,4 +1,6 @@
 // The fixed words of document 01 by their numbers: handed out as bytes, and compared with a part of a text.
+#![tactic(auto)]
+
 ghost use Rattle.std.specs.Prelude.{◌≡◌, [], ◌∷◌, ◌≤◌, length, drop, set};
 ghost use Rattle.std.proofs.lemmas.List.Edits.{sets};
 ghost use Rattle.laws.specs.Bytes.{same_bytes, starts_with};
@@ -113,7 +115,7 @@ pub const SPACE: u8 = 46;
 pub const LINE_END: u8 = 47;
 
 // A fixed word: its bytes, then zeros, and how many bytes it has.
-#[derive(Drop)]
+#[derive(Clone, Copy)]
 pub struct Word {
     pub bytes: [u8; Word::BYTES],
     pub length: usize,

@@ -1,0 +1,44 @@
+-- `numbers::apply` meets its contract. Assumes nothing.
+use mathlib.Core.Path.{◌≡◌, sym, ◌∙◌}
+use Prim.Native.Nat.{◌^◌, ◌<◌}
+use lib.IntN.{ℤ}
+use lib.Signed.{mag}
+use mir.Syntax.{w64}
+use mir.Val.{to_z, of_z}
+use Rattle.numbers.specs.Numbers.{arithmetic, applied}
+use Rattle.numbers.specs.declared.Answer.{Answer}
+use Rattle.numbers.specs.declared.Value.{Value}
+use Rattle.numbers.specs.declared.Value.TheVariants.{Integer}
+use Rattle.numbers.specs.declared.Operator.{Operator}
+use Rattle.numbers.specs.declared.Operator.TheVariants.{Plus, Minus, Times, Over}
+use Rattle.numbers.proofs.Whole.{back}
+use Rattle.numbers.proofs.apply.Goals as goal
+
+-- the operator and two integers that were found, read back from their bits
+known : {o : Operator} {a b : Value} {x y : ℤ} {r : Answer} (p : Operator) → o ≡ p → a ≡ Integer x → b ≡ Integer y → mag x < 2 ^ 63 → mag y < 2 ^ 63
+    → r ≡ arithmetic p (to_z w64 (of_z w64 x)) (to_z w64 (of_z w64 y)) → r ≡ applied o a b
+known p eo ea eb fx fy e = e ∙ back (arithmetic p) (record { sfits = fx }) (record { sfits = fy }) ∙ sym (λ i. applied (eo i) (ea i) (eb i))
+
+pub returns-in-Plus : goal.returns-in-Plus
+returns-in-Plus c =
+    let k = c in
+    known Plus c.in-Plus.is k.in-Integer.is k.in-Integer-b.is
+    k.in-Integer.known_told-1-own.given.0.1 k.in-Integer-b.known_told-in-Integer-b-1-own.given.0.1 c.add.ensures
+
+pub returns-in-Minus : goal.returns-in-Minus
+returns-in-Minus c =
+    let k = c in
+    known Minus c.in-Minus.is k.in-Integer.is k.in-Integer-b.is
+    k.in-Integer.known_told-1-own.given.0.1 k.in-Integer-b.known_told-in-Integer-b-1-own.given.0.1 c.sub.ensures
+
+pub returns-in-Times : goal.returns-in-Times
+returns-in-Times c =
+    let k = c in
+    known Times c.in-Times.is k.in-Integer.is k.in-Integer-b.is
+    k.in-Integer.known_told-1-own.given.0.1 k.in-Integer-b.known_told-in-Integer-b-1-own.given.0.1 c.mul.ensures
+
+pub returns-in-Over : goal.returns-in-Over
+returns-in-Over c =
+    let k = c in
+    known Over c.in-Over.is k.in-Integer.is k.in-Integer-b.is
+    k.in-Integer.known_told-1-own.given.0.1 k.in-Integer-b.known_told-in-Integer-b-1-own.given.0.1 c.div.ensures
