@@ -17,7 +17,7 @@ use Rattle.contract.specs.Fits.{Scope, holder_in, expression_in, condition_in, a
 use Rattle.laws.proofs.Members.{every_first, every_second}
 use Rattle.laws.proofs.Truths.{both_left, both_right, both_true, or_right, or_last}
 use Rattle.laws.specs.Lists.{every}
-use Rattle.reading.specs.Syntax.{Term, named, numeral, quoted, fixed, negated, operated, Action, sends, moves, moves_all, Block, none, perform, conditional, Event, Precondition, omitted, given, Function}
+use Rattle.reading.specs.Syntax.{Term, named, numeral, quoted, fixed, negated, operated, Action, sends, moves, moves_all, Block, none, perform, conditional, Event, Precondition, omitted, given}
 use Rattle.reading.specs.Grammar.{is_one_of, comparisons}
 use Rattle.reading.specs.Items.{Item, counts, uses, opens, Site, in_function, in_handler, of_each, state_item, value_kinds, asset_kinds, name_items, term_items, action_items, block_items, event_items, precondition_items}
 use Rattle.reading.specs.Items as kind

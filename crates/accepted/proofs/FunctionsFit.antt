@@ -8,7 +8,7 @@ use lib.ListN.{length}
 use lib.Dec.{eqb, ltb, leb}
 use borrow.Author.Tests.{le-leb}
 use Rattle.laws.specs.Choice.{pick}
-use Rattle.contract.specs.Tree.{Word, Clause}
+use Rattle.contract.specs.Tree.{Word}
 use Rattle.contract.specs.Limits.{max_statements, max_values, max_parameters, max_fields}
 use Rattle.contract.specs.Fits.{is_name, Scope, block_in, precondition_in, scope_of, function_in, clause_in, words_in, has_clause}
 use Rattle.laws.proofs.Members.{every_first, every_second, every_append}

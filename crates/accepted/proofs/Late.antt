@@ -6,7 +6,6 @@ use Prim.Native.Nat.{ℕ, ◌<◌, ◌≤◌}
 use native.Mathlib.Omega.{arith}
 use lib.Dec.{eqb, ltb}
 use borrow.Author.Tests.{ltb-true, eqb-true}
-use Rattle.laws.specs.Choice.{pick}
 use Rattle.laws.proofs.Choice.{true_false, pick_false}
 use Rattle.laws.proofs.Members.{every_append}
 use Rattle.laws.proofs.Truths.{both_left, both_right, both_true}

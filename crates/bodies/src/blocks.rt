@@ -197,7 +197,7 @@ pub(crate) fn is_start(kind: u8) -> bool
     }
 }
 
-#[cycle(braces_conditional_statement_statements)]
+#[cycle(blocks)]
 fn statement(
     text: &[u8],
     table: &mut [u64],
@@ -223,7 +223,7 @@ fn statement(
 }
 
 // The statements of a block.
-#[cycle(braces_conditional_statement_statements)]
+#[cycle(blocks)]
 fn statements(
     text: &[u8],
     table: &mut [u64],
@@ -254,7 +254,7 @@ fn statements(
 }
 
 // { S }
-#[cycle(braces_conditional_statement_statements)]
+#[cycle(blocks)]
 pub(crate) fn braces(
     text: &[u8],
     table: &mut [u64],
@@ -281,7 +281,7 @@ pub(crate) fn braces(
 }
 
 // (B) { S }, with so many levels left for it.
-#[cycle(braces_conditional_statement_statements)]
+#[cycle(blocks)]
 pub(crate) fn conditional(
     text: &[u8],
     table: &mut [u64],

@@ -85,7 +85,7 @@ fn event(
 
 // One more event of the function at hand.
 fn one_more(notes: &mut [u64])
-    ensures { notes.new ≡ walk.oneMore [] notes.old }
+    ensures { notes.new ≡ walk.one_more_event [] notes.old }
 {
     let n = contract::word(notes, Notes::HERE);
     if n < Contract::NODES as u64 {

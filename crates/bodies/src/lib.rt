@@ -1,4 +1,6 @@
 // A function's body, read at a cursor; told for every text, cursor and list of words.
+#![tactic(auto)]
+
 ghost use Rattle.std.specs.Prelude.{◌≡◌};
 ghost use Rattle.cursors.specs.Packed.{cursor_in, step_in, entered, step_after, table_after, notes_after};
 ghost use Rattle.reading_laws.specs.Walk as walk;

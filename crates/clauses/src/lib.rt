@@ -1,4 +1,6 @@
 // Lists of declared names, and the agreement's clauses, read at a cursor. Each is told for every text, cursor and list of words.
+#![tactic(auto)]
+
 ghost use Rattle.std.specs.Prelude.{◌≡◌, length};
 ghost use Rattle.cursors.specs.Packed.{cursor_in, step_in, entered, step_after, table_after, notes_after};
 ghost use Rattle.reading_laws.specs.Walk as walk;

@@ -1,5 +1,7 @@
 // A cursor, and a parser's answer, as one number, which goes through registers: specs/Packed.antt tells its parts. And what
 // all parsers share.
+#![tactic(auto)]
+
 ghost use Rattle.std.specs.Prelude.{◌≡◌, true, false, ◌-◌, ◌%◌, []};
 ghost use Rattle.cursors.specs.Packed.{kind_in, start_in, end_in, at_in, question_in, is_stop, cursor_in, step_in};
 ghost use Rattle.cursors.specs.Packed.{clipped, clipped_step, left_after};

@@ -1,5 +1,7 @@
 // What one pass over a contract's text notes and writes: names, counts, the least finding, rows and nodes. Every function takes any lent
 // words: a word past their end reads as 0, and is not written.
+#![tactic(auto)]
+
 ghost use Rattle.std.specs.Prelude.{◌≡◌, true, false, [], ◌∷◌, ◌+◌, ◌-◌, ◌*◌, ◌%◌, ◌≤◌, ◌<◌, length, set, take, drop, eqb};
 ghost use Rattle.std.proofs.lemmas.List.Edits.{sets};
 ghost use Rattle.laws.specs.Choice.{pick};
@@ -47,7 +49,7 @@ pub const WRITTEN: usize = 14;
 pub const EXCESS: usize = 15;
 
 // The notes: the words above, then a slot for each name, then two words more.
-#[derive(Drop)]
+#[derive(Clone, Copy)]
 pub struct Notes {}
 
 impl Notes {
@@ -82,7 +84,7 @@ impl Notes {
 }
 
 // What a name stands for: the kind of its node and its number; kind 0 where it is unknown.
-#[derive(Drop)]
+#[derive(Clone, Copy)]
 pub struct Known {
     pub kind: u64,
     pub number: u64,
@@ -420,11 +422,8 @@ fn first_row(kind: usize) -> usize
     ensures value { result ≡ pick (eqb kind 4) 8 0 }
     ensures upper_bound { result ≤ 8 }
 {
-    if kind == PARAMETER {
-        Function::VALUES
-    } else {
-        0
-    }
+    let value = kind == PARAMETER;
+    if value { Function::VALUES } else { 0 }
 }
 
 // Parameter i of a kind, of the last of so many functions.
@@ -692,7 +691,8 @@ pub fn want(notes: &mut [u64], name: Known, place: usize)
     ensures { notes.new ≡ draft.wanted name place notes.old }
 {
     let kind = name.kind;
-    if kind == 0 {
+    let unknown = kind == 0;
+    if unknown {
         find(notes, questions::NAME_KIND, place);
     }
 }
@@ -943,7 +943,7 @@ pub fn head(
 }
 
 // The rest of a function's row.
-#[derive(Drop)]
+#[derive(Clone, Copy)]
 pub struct Rest {
     pub last: usize,
     pub first: usize,

@@ -1,5 +1,5 @@
 -- Laws of expressions and conditions, with cursors and answers as numbers. Assumes nothing.
-use mathlib.Core.Path.{◌≡◌, refl, sym, ap, ◌∙◌}
+use mathlib.Core.Path.{◌≡◌, sym, ap, ◌∙◌}
 use mathlib.Core.List.{List, []}
 use mathlib.Core.Bool.{Bool, true, false}
 use Prim.Native.Nat.{ℕ, ◌-◌, ◌<◌}
@@ -13,11 +13,10 @@ use Rattle.reading_laws.specs.Walk.{Cursor}
 use Rattle.expressions.specs.declared.terms.Nots.{Nots}
 use Rattle.cursors.specs.Packed.{kind_in, start_in, end_in, is_stop, cursor_in, step_in}
 use Rattle.expressions.specs.Private.{NotsAre}
-use Rattle.reading_laws.specs.Walk.{Step}
-use Rattle.reading_laws.specs.Walk.{On, Stop}
+use Rattle.reading_laws.specs.Walk.{Stop}
 use Rattle.cursors.proofs.Packs.{step_in_on, step_in_stop}
 use Rattle.reading_laws.proofs.AgreesWith.{went, leaves_same, is_on, is_stop_lem, goes, handed}
-use Rattle.expressions.proofs.Ranks.{row_off, row_none, row_halt, row_turn, chain_halt, chain_more, chain_done, factor_shut, factor_open, simple_shut, simple_open, primary_halt, primary_done, compare_halt, compare_unfit, compare_stop, compare_done}
+use Rattle.expressions.proofs.Ranks.{row_off, row_halt, row_turn, chain_halt, chain_more, chain_done, factor_shut, factor_open, simple_shut, simple_open, primary_halt, primary_done, compare_halt, compare_unfit, compare_stop, compare_done}
 
 module _ (s : List ℕ) where
   -- ---- the parts of a cursor

@@ -12,7 +12,7 @@ use Rattle.words.specs.Words.{now_word, not_mark}
 use Rattle.tokens.specs.Tokens.{between, name as nameKind, number as numberKind, string as string_kind}
 use Rattle.contract.specs.Table.{constant_kind, string_kind as stringNode, now_kind}
 use Rattle.entries.specs.declared.Known.{Known}
-use Rattle.entries.specs.Draft.{Draft, note, counted, mention, number_in, name_in, put, put_name, put_leaf}
+use Rattle.entries.specs.Draft.{note, counted, mention, number_in, name_in, put, put_name, put_leaf}
 use Rattle.reading_laws.specs.Walk.{AgreesWith, draft, cursor_at, unfit_at, string_leaf, leaf}
 use Rattle.cursors.specs.Packed.{kind_in, start_in, end_in, is_stop, digits_at, cursor_in, step_in}
 use Rattle.cursors.proofs.Packs.{step_in_on}

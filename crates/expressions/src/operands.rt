@@ -8,7 +8,7 @@ use crate::terms;
 use contract::Node;
 
 // Operators of a rank, each with an operand after it.
-#[cycle(comparison_condition_conjunction_expression_factor_operand_primary_product_rest_simple)]
+#[cycle(operands)]
 fn rest(
     text: &[u8],
     table: &mut [u64],
@@ -51,7 +51,7 @@ fn rest(
 }
 
 // An operand of a rank, and the operators of the next rank after it.
-#[cycle(comparison_condition_conjunction_expression_factor_operand_primary_product_rest_simple)]
+#[cycle(operands)]
 fn operand(
     text: &[u8],
     table: &mut [u64],
@@ -73,7 +73,7 @@ fn operand(
 }
 
 // Factors with * and / between them.
-#[cycle(comparison_condition_conjunction_expression_factor_operand_primary_product_rest_simple)]
+#[cycle(operands)]
 fn product(
     text: &[u8],
     table: &mut [u64],
@@ -98,7 +98,7 @@ fn product(
 }
 
 // An expression, with so many levels left inside it.
-#[cycle(comparison_condition_conjunction_expression_factor_operand_primary_product_rest_simple)]
+#[cycle(operands)]
 pub(crate) fn expression(
     text: &[u8],
     table: &mut [u64],
@@ -123,7 +123,7 @@ pub(crate) fn expression(
 }
 
 // Conditions with && between them.
-#[cycle(comparison_condition_conjunction_expression_factor_operand_primary_product_rest_simple)]
+#[cycle(operands)]
 fn conjunction(
     text: &[u8],
     table: &mut [u64],
@@ -148,7 +148,7 @@ fn conjunction(
 }
 
 // A condition, with so many levels left inside it.
-#[cycle(comparison_condition_conjunction_expression_factor_operand_primary_product_rest_simple)]
+#[cycle(operands)]
 pub(crate) fn condition(
     text: &[u8],
     table: &mut [u64],
@@ -172,7 +172,7 @@ pub(crate) fn condition(
     r
 }
 
-#[cycle(comparison_condition_conjunction_expression_factor_operand_primary_product_rest_simple)]
+#[cycle(operands)]
 fn factor(
     text: &[u8],
     table: &mut [u64],
@@ -202,7 +202,7 @@ fn factor(
 }
 
 // `~` in a row before a simple condition.
-#[cycle(comparison_condition_conjunction_expression_factor_operand_primary_product_rest_simple)]
+#[cycle(operands)]
 fn primary(
     text: &[u8],
     table: &mut [u64],
@@ -227,7 +227,7 @@ fn primary(
 }
 
 // A condition in parentheses, true, false or a comparison.
-#[cycle(comparison_condition_conjunction_expression_factor_operand_primary_product_rest_simple)]
+#[cycle(operands)]
 fn simple(
     text: &[u8],
     table: &mut [u64],
@@ -266,7 +266,7 @@ fn simple(
 }
 
 // Two expressions with a comparison between them.
-#[cycle(comparison_condition_conjunction_expression_factor_operand_primary_product_rest_simple)]
+#[cycle(operands)]
 fn comparison(
     text: &[u8],
     table: &mut [u64],

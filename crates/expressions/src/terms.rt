@@ -126,7 +126,7 @@ pub(crate) fn negate(table: &mut [u64], notes: &mut [u64], many: usize, before: 
 }
 
 // `~` in a row: how many, and the cursor after them.
-#[derive(Drop)]
+#[derive(Clone, Copy)]
 pub(crate) struct Nots {
     pub(crate) many: usize,
     pub(crate) next: u64,

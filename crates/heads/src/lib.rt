@@ -1,4 +1,6 @@
 // The functions of a contract, read at a cursor; told for every text, cursor and list of words.
+#![tactic(auto)]
+
 ghost use Rattle.std.specs.Prelude.{◌≡◌, length};
 ghost use Rattle.cursors.specs.Packed.{cursor_in, step_in, entered, step_after, table_after, notes_after};
 ghost use Rattle.reading_laws.specs.Walk as walk;
@@ -14,7 +16,8 @@ pub fn functions(text: &[u8], table: &mut [u64], notes: &mut [u64], c: u64) -> u
     ensures table_after { table.new ≡ table_after table.old (entered text.now (walk.functions text.now (length text.now) (cursor_in text.now c) (draft table.old notes.old))) }
     ensures notes_after { notes.new ≡ notes_after notes.old (entered text.now (walk.functions text.now (length text.now) (cursor_in text.now c) (draft table.old notes.old))) }
 {
-    if Answer::TEXT < text.len() {
+    let long = Answer::TEXT < text.len();
+    if long {
         return cursors::leave(table, notes, cursors::stop(questions::TEXT_LENGTH, 0));
     }
     let r = parts::functions(text, table, notes, cursors::going(c));

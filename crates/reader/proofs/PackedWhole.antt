@@ -19,7 +19,7 @@ module _ (s : List ℕ) where
       → step_in s r ≡ token s open_brace (cursor_in s next) → AgreesWith (opening s (cursor_in s c) (draft t n)) (step_in s r) t₁ n
   unfolding cursor_in
   opens c d l next a b e t n t₁ r f g a-is b-is titled e-is then h =
-      enclosing.opens s (cursor_in s c) (cursor_in s d) (cursor_in s l) (cursor_in s next) t n t₁ (step_in s r) f (sym (enclosing.name-here s (cursor_in s d)) ∙ g)
+      enclosing.opens s (cursor_in s c) (cursor_in s d) (cursor_in s l) (cursor_in s next) t n t₁ (step_in s r) f (sym (enclosing.name_here_lem s (cursor_in s d)) ∙ g)
       (then ∙ ap (λ (x : ℕ). cursor_at s x) e-is) (titled ∙ (λ i. title s (a-is i) (b-is i) t)) h
 
   -- the agreement's end

@@ -1,4 +1,6 @@
 // Reading a contract's text into a table.
+#![tactic(auto)]
+
 ghost use Rattle.std.specs.Prelude.{◌≡◌, false, ◌-◌, ◌≤◌, [], length};
 ghost use Rattle.contract.specs.Encode.{zeros};
 ghost use Rattle.entries.specs.Draft.{note};

@@ -1,7 +1,8 @@
 // Reading defined: the syntax tree, the grammar, the rules, and what reading a text answers.
+#![tactic(auto)]
 
 // What reading answers: the table holds the contract, or a question refuses the text, with its number and the byte's place.
-#[derive(Drop)]
+#[derive(Clone, Copy)]
 pub enum Answer {
     Accepted,
     Refused(u8, usize),

@@ -13,7 +13,7 @@ use Rattle.contract.specs.Encode.{padded, joined, clause_row}
 use Rattle.laws.proofs.Members.{every_head, every_tail}
 use Rattle.laws.specs.Lists.{every}
 use Rattle.contract_laws.proofs.Lengths.{length_padded, length_clause_row, length_joined}
-use Rattle.reading_laws.proofs.TableSections.{Sections, clauses, widths, lengths, whole, table_from, parameters, before, after, split, split_set, ten, wide, first_starts, first_is, first_set}
+use Rattle.reading_laws.proofs.TableSections.{Sections, clauses, widths, lengths, table_from, parameters, before, after, split, split_set, ten, wide, first_starts, first_is, first_set}
 use Rattle.reading_laws.proofs.NotesInvariant.{in_order}
 use Rattle.reading_laws.proofs.NotedRows.{row_word, padded_word, Words}
 

@@ -4,7 +4,7 @@ use mathlib.Core.Bool.{true}
 use mathlib.Core.List.{List, [], ◌∷◌, ◌++◌, append_assoc, append-nil}
 use Prim.Native.Nat.{ℕ, zero, suc, ◌+◌, ◌-◌, ◌*◌, ◌≤◌}
 use native.Mathlib.Omega.{arith}
-use native.Mathlib.Nat.{zero-add, suc-add, sub-zero, suc-sub-suc, zero-sub, add-zero}
+use native.Mathlib.Nat.{zero-add, sub-zero, suc-sub-suc, zero-sub, add-zero}
 use lib.ListN.{length, get_or, drop, length-append}
 use lib.Seq.{sets, sets-eq, length-sets}
 use Rattle.contract.proofs.Zeros.{length_zeros, zeros_more}

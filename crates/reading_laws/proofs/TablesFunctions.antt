@@ -13,7 +13,7 @@ use Rattle.contract.specs.Tree as tree
 use Rattle.contract.specs.Tree.{Word}
 use Rattle.contract.specs.Fits.{total, is_name}
 use Rattle.laws.proofs.Members.{every_append}
-use Rattle.laws.proofs.Truths.{both_left, both_right, both_true}
+use Rattle.laws.proofs.Truths.{both_left, both_right}
 use Rattle.laws.specs.Lists.{every}
 use Rattle.contract.specs.Limits.{max_functions, max_events, max_nodes, max_values, max_parameters}
 use Rattle.contract.specs.Table.{function_words, event_words, packed_words, parameter_words}
@@ -22,7 +22,7 @@ use Rattle.contract.specs.Encode.{joined, padded, packed_row, parameter_rows, bl
 use Rattle.contract_laws.proofs.Lengths.{rows_long, length_packed_row, length_parameter_rows, length_precondition, length_block, length_function, length_event_rows}
 use Rattle.contract.proofs.Fitting.{name_length}
 use Rattle.entries.specs.Draft.{Draft, note, limit, function_count, body_nodes, events_here, notes_length, number_in}
-use Rattle.reading.specs.Syntax.{Span, Event, Body, Precondition, omitted, given, Function}
+use Rattle.reading.specs.Syntax.{Span, Body, Precondition, omitted, given, Function}
 use Rattle.reading.specs.Grammar.{is_one_of}
 use Rattle.reading.specs.Items.{Item, uses, opens, heads, in_function, of_each, declared, state_item, block_items, event_items, precondition_items, function_items}
 use Rattle.reading.specs.Rules.{word, known, count, headers, header, number_of, fine, judge, or_breaks}

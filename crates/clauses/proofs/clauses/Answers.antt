@@ -1,0 +1,23 @@
+-- `clauses::clauses` meets its contract. Assumes nothing.
+use native.Mathlib.Omega.{arith}
+use lib.ListN.{length}
+use Rattle.reading_laws.specs.Walk as walk
+use Rattle.reading_laws.specs.Walk.{Cursor, draft}
+use Rattle.cursors.proofs.Clipped.{leaves, refuses}
+use Rattle.clauses.proofs.clauses.Goals as goal
+
+pub returns-then-text-gt-TEXT : goal.returns-then-text-gt-TEXT
+returns-then-text-gt-TEXT c =
+    let z = c.args in
+    let e = c.leave.ensures in
+    let p = refuses z.text.now _ _ _ z.table.now z.notes.now _ _ (omega (arith, c.if-text-gt-TEXT.true)) c.stop.ensures.result_value c.stop.ensures.result_value_2 e.value e.table_after e.notes_after in
+    record { result_value = p.0; table_after = p.1.0; notes_after = p.1.1 }
+
+pub returns : goal.returns
+returns c =
+    let z = c.args in
+    let s = z.text.now in
+    let d = draft z.table.now z.notes.now in
+    let e = c.leave-2.ensures in
+    let p = leaves s (λ (x : Cursor). walk.clauses s (length s) x d) z.c _ _ _ z.table.now z.notes.now _ _ _ _ (omega (arith, c.if-text-gt-TEXT.false)) c.going.ensures c.clauses-r.ensures c.clauses-r.auto.table c.clauses-r.auto.notes e.value e.table_after e.notes_after in
+    record { result_value = p.0; table_after = p.1.0; notes_after = p.1.1 }

@@ -1,0 +1,16 @@
+-- `cursors::mention_state` meets its contract. Assumes nothing.
+use mathlib.Core.Path.{◌∙◌}
+use Rattle.tokens.specs.Tokens.{between}
+use Rattle.entries.specs.Draft.{number_in, mention}
+use Rattle.reading_laws.specs.Walk as walk
+use Rattle.cursors.specs.Packed.{cursor_in}
+use Rattle.cursors.proofs.mention_state.Goals as goal
+
+pub returns : goal.returns
+unfolding cursor_in
+returns c =
+    let a = c.args in
+    let p = walk.draft a.table.now a.notes.now in
+    let start = c.start_of-start.ensures in
+    let end = c.end_of-end.ensures in
+    let e = c.mention.ensures in record { value = e.value ∙ (λ t. number_in a.text.now a.notes.now 5 (between a.text.now (start t) (end t))); table_after = e.table_value ∙ (λ t. (mention a.text.now 5 (start t) (end t) (start t) p).table); notes_after = e.notes_after ∙ (λ t. (mention a.text.now 5 (start t) (end t) (start t) p).notes) }

@@ -1,0 +1,29 @@
+-- `entries::same_bytes` meets its contract. Assumes nothing.
+use mathlib.Core.Path.{refl, sym, ◌∙◌}
+use native.Mathlib.Omega.{arith}
+use Rattle.laws.proofs.Bytes.{same_length}
+use Rattle.entries.proofs.Finds.{same_more, same_other, same_all}
+use Rattle.entries.proofs.same_bytes.Goals as goal
+
+pub returns-then-a-b : goal.returns-then-a-b
+returns-then-a-b c =
+    sym (same_length c.args.a.now c.args.b.now c.if-a-b.true)
+
+pub loop-i-init : goal.loop-i-init
+loop-i-init c =
+    (c.if-a-b.false, refl)
+
+pub loop-i-preserved : goal.loop-i-preserved
+loop-i-preserved c =
+    let l = c.loop-i in
+    (l.invariant.0, l.invariant.1 ∙ same_more c.args.a.now c.args.b.now l.i c.loop-i-test.true (omega (arith, l.invariant.0, c.loop-i-test.true)) c.if-a-i.true)
+
+pub returns-else-a-i : goal.returns-else-a-i
+returns-else-a-i c =
+    let l = c.loop-i in
+    sym (l.invariant.1 ∙ same_other c.args.a.now c.args.b.now l.i c.loop-i-test.true (omega (arith, l.invariant.0, c.loop-i-test.true)) c.if-a-i.false)
+
+pub returns : goal.returns
+returns c =
+    let l = c.loop-i in
+    sym (l.invariant.1 ∙ same_all c.args.a.now c.args.b.now l.i c.loop-i-test.false (omega (arith, l.invariant.0, c.loop-i-test.false)))

@@ -1,0 +1,41 @@
+-- `expressions::terms::count_nots` meets its contract. Assumes nothing.
+use mathlib.Core.Path.{refl, ◌∙◌}
+use Rattle.cursors.specs.Packed.{cursor_in}
+use Rattle.reading_laws.proofs.Operators.{nots_begin, nots_stop, nots_end}
+use Rattle.expressions.proofs.PackedTerms.{another}
+use Rattle.cursors.proofs.Clipped.{lexed}
+use Rattle.expressions.proofs.terms.count_nots.Goals as goal
+
+pub loop-many-init : goal.loop-many-init
+loop-many-init c =
+    let z = c.args in
+    (nots_begin z.text.now z.notes.now (cursor_in z.text.now z.c), c.requires.1, refl)
+
+pub returns-then-kind_of-ne-NOT : goal.returns-then-kind_of-ne-NOT
+unfolding cursor_in
+returns-then-kind_of-ne-NOT c =
+    let z = c.args in
+    let l = c.loop-many in
+    record {
+      goes = l.invariant.1;
+      same = nots_stop z.text.now z.notes.now (cursor_in z.text.now z.c) l.notes (cursor_in z.text.now l.here) l.many l.invariant.0 (λ e. c.if-kind_of-ne-NOT.true (c.kind_of.ensures ∙ e));
+    }
+
+pub loop-many-preserved : goal.loop-many-preserved
+loop-many-preserved c =
+    let short = c.requires.0 in
+    let z = c.args in
+    let l = c.loop-many in (
+      another z.text.now z.notes.now z.c l.notes l.here l.many l.invariant.0 _ _ _ c.loop-many-test.true c.kind_of.ensures c.if-kind_of-ne-NOT.false c.start_of.ensures _ c.count.ensures c.end_of.ensures _ (lexed _ _ _ _ short c.end_of.ensures c.lex-here.ensures.cursor_in),
+      c.lex-here.ensures.goes,
+      c.count.auto.notes ∙ l.invariant.2,
+    )
+
+pub returns : goal.returns
+returns c =
+    let z = c.args in
+    let l = c.loop-many in
+    record {
+      goes = l.invariant.1;
+      same = nots_end z.text.now z.notes.now (cursor_in z.text.now z.c) l.notes (cursor_in z.text.now l.here) l.many l.invariant.0 c.loop-many-test.false;
+    }

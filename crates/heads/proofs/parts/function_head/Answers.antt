@@ -1,0 +1,59 @@
+-- `heads::parts::function_head` meets its contract. Assumes nothing.
+use Rattle.cursors.specs.Packed.{cursor_in}
+use Rattle.reading_laws.proofs.Exits as parts
+use Rattle.cursors.proofs.Tested as packed
+use Rattle.heads.proofs.FunctionHeads.{party_number, party_used_lem, head_table, head_notes}
+use Rattle.cursors.proofs.Clipped.{lexed, stated, tokened}
+use Rattle.heads.proofs.parts.function_head.Goals as goal
+
+pub returns-then-stops : goal.returns-then-stops
+returns-then-stops c =
+    let short = c.requires.0 in
+    let z = c.args in
+    parts.head_unfit z.text.now (cursor_in z.text.now z.c) z.table.now z.notes.now _ (stated _ _ _ short c.state_at-a.ensures) _ _ _ _ (packed.halts
+    z.text.now _ _ c.stops.ensures c.if-stops.true)
+
+pub returns-then-stops-2 : goal.returns-then-stops-2
+returns-then-stops-2 c =
+    let short = c.requires.0 in
+    let z = c.args in
+    parts.head_no_party z.text.now (cursor_in z.text.now z.c) z.table.now z.notes.now _ (stated _ _ _ short c.state_at-a.ensures) _ (packed.keeps
+    z.text.now _ _ c.stops.ensures c.if-stops.false) _ (packed.next_is z.text.now _ _ _ c.end_of.ensures (lexed _ _ _ _ short c.end_of.ensures c.lex.ensures.cursor_in)) _
+    c.name_here-b.ensures _ _ _ _ (packed.halts z.text.now _ _ c.stops-2.ensures c.if-stops-2.true)
+
+pub returns-then-stops-3 : goal.returns-then-stops-3
+returns-then-stops-3 c =
+    let short = c.requires.0 in
+    let z = c.args in
+    parts.head_no_colon z.text.now (cursor_in z.text.now z.c) z.table.now z.notes.now _ (stated _ _ _ short c.state_at-a.ensures) _ (packed.keeps
+    z.text.now _ _ c.stops.ensures c.if-stops.false) _ (packed.next_is z.text.now _ _ _ c.end_of.ensures (lexed _ _ _ _ short c.end_of.ensures c.lex.ensures.cursor_in)) _
+    c.name_here-b.ensures _ (packed.keeps z.text.now _ _ c.stops-2.ensures c.if-stops-2.false) _ (packed.next_is z.text.now _ _ _
+    c.end_of-2.ensures (lexed _ _ _ _ short c.end_of-2.ensures c.lex-2.ensures.cursor_in)) _ (tokened _ _ _ _ short c.token-d.ensures) _ _ _ _ (packed.halts z.text.now _ _ c.stops-3.ensures
+    c.if-stops-3.true)
+
+pub returns-then-stops-4 : goal.returns-then-stops-4
+returns-then-stops-4 c =
+    let short = c.requires.0 in
+    let z = c.args in
+    parts.head_no_name z.text.now (cursor_in z.text.now z.c) z.table.now z.notes.now _ (stated _ _ _ short c.state_at-a.ensures) _ (packed.keeps
+    z.text.now _ _ c.stops.ensures c.if-stops.false) _ (packed.next_is z.text.now _ _ _ c.end_of.ensures (lexed _ _ _ _ short c.end_of.ensures c.lex.ensures.cursor_in))
+    _ c.name_here-b.ensures _ (packed.keeps z.text.now _ _ c.stops-2.ensures c.if-stops-2.false) _ (packed.next_is z.text.now _ _ _
+    c.end_of-2.ensures (lexed _ _ _ _ short c.end_of-2.ensures c.lex-2.ensures.cursor_in)) _ (tokened _ _ _ _ short c.token-d.ensures) _ (packed.keeps z.text.now _ _ c.stops-3.ensures c.if-stops-3.false) _
+    c.name_here-g.ensures _ _ _ _ (packed.halts z.text.now _ _ c.stops-4.ensures c.if-stops-4.true)
+
+pub returns : goal.returns
+returns c =
+    let short = c.requires.0 in
+    let z = c.args in
+    packed.as_on z.text.now _ _ _ _ c.lex-3.ensures.goes
+    (parts.head_on z.text.now (cursor_in z.text.now z.c) z.table.now z.notes.now _ (stated _ _ _ short c.state_at-a.ensures) _ (packed.keeps
+    z.text.now _ _ c.stops.ensures c.if-stops.false) _ (packed.next_is z.text.now _ _ _ c.end_of.ensures (lexed _ _ _ _ short c.end_of.ensures c.lex.ensures.cursor_in))
+    _ c.name_here-b.ensures _ (packed.keeps z.text.now _ _ c.stops-2.ensures c.if-stops-2.false) _ (packed.next_is z.text.now _ _ _
+    c.end_of-2.ensures (lexed _ _ _ _ short c.end_of-2.ensures c.lex-2.ensures.cursor_in)) _ (tokened _ _ _ _ short c.token-d.ensures) _ (packed.keeps z.text.now _ _ c.stops-3.ensures
+    c.if-stops-3.false) _ c.name_here-g.ensures _ _ _ _ _ _ _ _ _ (packed.keeps z.text.now _ _ c.stops-4.ensures c.if-stops-4.false)
+    c.mention_state-state.ensures.value c.mention_state-state.ensures.table_after c.mention_state-state.ensures.notes_after (party_number z.text.now _ _
+    _ _ _ c.start_of.ensures c.end_of-3.ensures c.use_party-number.ensures.value) (party_used_lem z.text.now _ _ _ _ _
+    c.start_of.ensures c.end_of-3.ensures c.use_party-number.ensures.notes_after) (head_table z.text.now z.c _ _ _ _ _ _ _ _
+    c.start_of-2.ensures c.start_of-3.ensures c.end_of-4.ensures _ c.head.ensures.table_value) (head_notes z.text.now z.c _ _ _
+    _ _ _ _ _ c.start_of-2.ensures c.start_of-3.ensures c.end_of-4.ensures _ c.head.ensures.notes_after) (packed.next_is z.text.now _ _ _
+    c.end_of-5.ensures (lexed _ _ _ _ short c.end_of-5.ensures c.lex-3.ensures.cursor_in)))
