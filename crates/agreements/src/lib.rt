@@ -1,4 +1,6 @@
 // The agreement: the parties' clauses in the contract's order, with the fields' values, as parts of a session line.
+#![tactic(auto)]
+
 ghost use Rattle.std.specs.Prelude.{◌≡◌, true, ◌&&◌, ◌*◌, ◌/◌, ◌≤◌, ◌<◌, length, get_or, drop, pos, eqb};
 ghost use Rattle.laws.specs.Bytes.{same_bytes};
 ghost use Rattle.numbers.specs.Numbers.{eq_z};
@@ -190,7 +192,7 @@ fn set_clause(table: &[u64], s: State, i: usize, values: &[i64], at: usize) -> S
 }
 
 // The clauses' fields get their values.
-fn set_clauses_lem(table: &[u64], s: State, values: &[i64]) -> State
+fn set_clauses(table: &[u64], s: State, values: &[i64]) -> State
     requires { passes table.now ≡ true }
     ensures { result ≡ set_by s (contract_of table.now).clauses values.now }
 {
@@ -348,7 +350,7 @@ fn agree_on_contract(
     if !same_clauses(table, line, parts, spans, values) {
         return outcomes::refuse(s, questions::SAME_CLAUSES);
     }
-    let set = set_clauses_lem(table, s, values);
+    let set = set_clauses(table, s, values);
     if !same_map(table, set, values) {
         return outcomes::refuse(s, questions::SAME_VALUES);
     }

@@ -15,7 +15,7 @@ use Rattle.evaluation.specs.Sides.{WorkedOut, itself, in_negation, left_of_and, 
 
 module _ (m : Memory) where
   -- what refuses a part that is worked out refuses the whole
-  refused_in : {c d : Condition} {n : ℕ} → WorkedOut m d c → truth_of m d ≡ Refused n → truth_of m c ≡ Refused n
+  refused_in : {d c : Condition} {n : ℕ} → WorkedOut m d c → truth_of m d ≡ Refused n → truth_of m c ≡ Refused n
   unfolding truth_of
   refused_in itself e = e
   refused_in (in_negation u) e = ap negated (refused_in u e)

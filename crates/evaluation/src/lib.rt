@@ -1,4 +1,6 @@
 // Works out expressions and conditions by recursion on their parts, which stand before the whole in a table.
+#![tactic(auto)]
+
 ghost use Rattle.std.specs.Prelude.{◌≡◌, false, not, suc, ◌+◌, ◌<◌, eqb, leb, ltb, pos, get_or};
 ghost use Rattle.laws.specs.Choice.{pick};
 ghost use Rattle.numbers.specs.Numbers.{in_range};
@@ -13,7 +15,7 @@ use contract::{Contract, Function, Node};
 use numbers::{Answer, Comparison, Operator, Truth, Value};
 
 // The amounts that expressions read: those of the assets, then those of the asset parameters.
-#[derive(Drop)]
+#[derive(Clone, Copy)]
 pub struct Holdings {}
 
 impl Holdings {
@@ -21,7 +23,7 @@ impl Holdings {
 }
 
 // `~`s in a row: the node below them, and whether their number is odd.
-#[derive(Drop)]
+#[derive(Clone, Copy)]
 struct Run {
     end: usize,
     odd: bool,

@@ -1,4 +1,6 @@
 // What statements begin with: amounts of the assets and of the asset parameters; and the state that they reach.
+#![tactic(auto)]
+
 ghost use Rattle.std.specs.Prelude.{◌≡◌, [], get_or, take, drop, pos, eqb};
 ghost use Rattle.std.specs.Int.Signed.{le_z};
 ghost use Rattle.laws.specs.Lists.{every};

@@ -9,8 +9,6 @@ use lib.ListN.{length, get_or, drop, replicate, length-replicate, length-append}
 use lib.Seq.{sets, sets-eq, get_or-drop}
 use lib.Dec.{eqb, leb}
 use borrow.Author.Tests.{eqb-true, le-leb, lt-leb}
-use types.Run.{OneOf, miss}
-use denote.Enum.Declared.{tag_of}
 use Rattle.laws.specs.Choice.{pick}
 use Rattle.laws.specs.Bytes.{bytes, starts_with}
 use Rattle.laws.proofs.Choice.{true_false, pick_true, pick_false}
@@ -20,7 +18,6 @@ use Rattle.lines.specs.Answers.{padded, plain, line_of, parts_of, fields_of}
 use Rattle.lines.specs.Private.{time_of, request_of}
 use Rattle.lines.specs.declared.Time.{Time}
 use Rattle.lines.specs.declared.Time.TheVariants as time
-use Rattle.lines.specs.contracts.Time.{the_type}
 use Rattle.lines.proofs.Ahead.{then_done, taken, mark_size}
 use Rattle.lines.proofs.Turns.{begin, missing, next_yes}
 use Rattle.lines.proofs.Size.{total, items_size, items_some, total_eight}
@@ -176,11 +173,11 @@ module _ (s : List ℕ) (short : length s ≤ 512) where
       go no q = refl
 
   -- a line that is one of those
-  pub asked_timed : (t : Time) → t ≡ time_of (tick_line s 0) → OneOf (0 ∷ 1 ∷ []) (tag_of the_type t) → plain (request_of t) ≡ line_of (asked s)
+  pub asked_timed : (t : Time) → t ≡ time_of (tick_line s 0) → (t ≡ time.Nothing → ⊥) → plain (request_of t) ≡ line_of (asked s)
   unfolding line_of
   asked_timed time.Tick told k = sym (ap line_of (asked_time told refl))
   asked_timed (time.Jump T) told k = sym (ap line_of (asked_time told refl))
-  asked_timed time.Nothing told k = absurd (miss (0 ∷ 1 ∷ []) 2 tt k)
+  asked_timed time.Nothing told k = absurd (k refl)
 
   -- the parts of any line are those of an agreement
   pub asked_parts : parts_of (or_refused (agreement_line s 0)) ≡ parts_of (asked s)

@@ -19,7 +19,6 @@ use Rattle.tokens.specs.declared.Digits.{Digits}
 use Rattle.lines.specs.Lines.{Parsed, done, no, skipped, is_next, mark, end, name_from, name, digits, integer}
 use Rattle.lines.specs.Private.{place_of, is_done, whole_of}
 use Rattle.lines.specs.declared.Place.TheVariants as place
-use Rattle.lines.specs.declared.Found.TheVariants as found
 use Rattle.lines.specs.declared.Whole.{Whole}
 use Rattle.lines.specs.declared.Whole.TheVariants as whole
 use Rattle.lines.proofs.Range.{ranged}

@@ -9,7 +9,7 @@ use Rattle.laws.specs.Bytes.{bytes, same_bytes, starts_with}
 use Rattle.words.specs.Words.{spelled}
 use Rattle.tokens.specs.Classes.{within, is_letter, is_digit, is_name_byte, run, decimal}
 use Rattle.tokens.specs.Tokens.{between}
-use Rattle.lines.specs.Lines.{Span, Verb, set, ok, Field, Part, Names, Lists, Call, Asked, refused, tick, jump, call, agreement, is_space, skipped, is_next, mark, end, name_from, name, digits, integer, is_word, word, items, list, closed, jump_end, tick_line, names, lists, call_line, verb, field, part, parts, agreement_line, asked}
+use Rattle.lines.specs.Lines.{Span, Verb, set, ok, Field, Part, Asked, refused, tick, jump, call, agreement, is_space, skipped, is_next, mark, end, name_from, name, digits, integer, is_word, word, items, list, closed, jump_end, tick_line, names, lists, call_line, verb, field, part, parts, agreement_line, asked}
 
 abbrev span : ℕ → ℕ → Span
 span a e = record { start = a; end = e }

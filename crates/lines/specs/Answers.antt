@@ -1,6 +1,6 @@
 -- What `read` and `agreement_of` answer for what a line asks.
 use Rattle.std.specs.Prelude.{ℕ, ◌-◌, List, [], ◌∷◌, ◌++◌, length, replicate, ℤ, pos}
-use Rattle.lines.specs.Lines.{Verb, set, ok, Field, Part, Call, Asked, refused, tick, jump, call, agreement}
+use Rattle.lines.specs.Lines.{Verb, set, ok, Field, Part, Asked, refused, tick, jump, call, agreement}
 use Rattle.lines.specs.declared.Request as declared
 use Rattle.lines.specs.declared.Request.TheVariants as request
 use Rattle.lines.specs.declared.Line.{Line}

@@ -1,4 +1,6 @@
 // A reader of one session line, the bytes before its LF: an agreement, a call, a tick or a jump, or the question that refuses it.
+#![tactic(auto)]
+
 ghost use Rattle.std.specs.Prelude.{◌≡◌, [], ◌∷◌, ◌+◌, ◌*◌, ◌≤◌, ◌<◌, length, set, pos, neg_ℤ};
 ghost use Rattle.std.proofs.lemmas.List.Edits.{sets};
 ghost use Rattle.laws.specs.Choice.{pick};
@@ -13,7 +15,7 @@ ghost use Rattle.lines.specs.Private.{place_of, is_done, name_of, verb_of, whole
 use numbers::Value;
 
 // What a session line asks for.
-#[derive(Drop)]
+#[derive(Clone, Copy)]
 pub enum Request {
     Agreement,
     Call,
@@ -23,7 +25,7 @@ pub enum Request {
     Refused(u8),
 }
 
-#[derive(Drop)]
+#[derive(Clone, Copy)]
 pub struct Line {
     pub request: Request,
     // Of a call: where its party's and its function's name stand in the line; how many values and assets it has. Else zeros.
@@ -45,7 +47,7 @@ impl Line {
 }
 
 // The parts of an agreement; nothing for any other line. A line has at most 64 parts and 85 fields.
-#[derive(Drop)]
+#[derive(Clone, Copy)]
 pub struct Agreement {
     pub parts: usize,
     // How many fields all parts have.
@@ -70,35 +72,35 @@ impl Agreement {
 }
 
 // The place after a mark.
-#[derive(Drop)]
+#[derive(Clone, Copy)]
 enum Place {
     At(usize),
     Nothing,
 }
 
 // Two numbers: a name's start and end, a verb's number and its end, or the place after what was stored and the place after what was read.
-#[derive(Drop)]
+#[derive(Clone, Copy)]
 enum Found {
     At(usize, usize),
     Nothing,
 }
 
 // An integer, and the place after it.
-#[derive(Drop)]
+#[derive(Clone, Copy)]
 enum Whole {
     Is(i64, usize),
     Nothing,
 }
 
 // A field: its name's start and end, its value, and the place after it.
-#[derive(Drop)]
+#[derive(Clone, Copy)]
 enum Pair {
     Of(usize, usize, i64, usize),
     Nothing,
 }
 
 // A tick, or a jump to this clock.
-#[derive(Drop)]
+#[derive(Clone, Copy)]
 enum Time {
     Tick,
     Jump(i64),
@@ -106,7 +108,7 @@ enum Time {
 }
 
 // A call's names: the party's start and end, the function's start and end.
-#[derive(Drop)]
+#[derive(Clone, Copy)]
 enum Names {
     At(usize, usize, usize, usize),
     Nothing,
@@ -181,7 +183,8 @@ fn name(line: &[u8], at: usize) -> Found
 fn natural(n: u64, end: usize) -> Whole
     ensures { result ≡ pick (inside (pos n)) (Whole.Is (pos n) end) Whole.Nothing }
 {
-    if Value::LIMIT <= n {
+    let past_top = Value::LIMIT <= n;
+    if past_top {
         return Whole::Nothing;
     }
     Whole::Is(n as i64, end)

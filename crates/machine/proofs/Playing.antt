@@ -29,7 +29,7 @@ use Rattle.machine.specs.declared.Reply.{Reply}
 use Rattle.machine.specs.declared.Next.{Next}
 use Rattle.machine.specs.declared.Played.{Played}
 use Rattle.machine.specs.Steps.{fired}
-use Rattle.machine.specs.Sessions.{Said, asks, said, heard, end_of_line, Turn, takes, wait, turn_by_due, turn_at, Session, here, before, on_turn, session_for, session, not_played, played, reports_of}
+use Rattle.machine.specs.Sessions.{Said, said, heard, end_of_line, Turn, takes, wait, turn_by_due, turn_at, Session, here, before, on_turn, session_for, session, not_played, played, reports_of}
 use Rattle.machine.specs.Private.{first_no, reply_of, taken_by, taken, TurnIs, stepped, waits, PlayedIs}
 use Rattle.step_reports.specs.Reports.{report_of, label_reports, told as lines_told, room_in, has_room, step_reports}
 use Rattle.step_reports.proofs.Reports.{Told, told_none, told_more, numbers_kept, integers_kept, sent_length, words_told}

@@ -4,7 +4,7 @@ use mathlib.Core.Bool.{true, not}
 use mathlib.Core.List.{List, [], ◌∷◌, ◌++◌}
 use Prim.Native.Nat.{ℕ, ◌+◌, ◌*◌, ◌/◌, ◌<◌, ◌≤◌}
 use native.Mathlib.Omega.{arith}
-use lib.ListN.{length, get_or, take, drop, length-append, length-map}
+use lib.ListN.{length, get_or, take, drop, length-append}
 use lib.Seq.{take-append_seam, drop-append_seam}
 use lib.Dec.{eqb}
 use lib.IntN.{ℤ, pos}
@@ -43,7 +43,7 @@ use Rattle.machine.specs.Sessions.{name_in, verb_in, names_in, parts_said, end_o
 -- ---- the lengths of the arrays in structs that are lent by value
 
 pub numbers_length : (r : Line) (vs : List Val) → Is line.the_row r vs → length r.numbers ≡ 256
-numbers_length r vs g = sym (length-map r.numbers _) ∙ g.1.1.1.1.1.1.1.1.1.0.1.0.1
+numbers_length r vs g = g.1.1.1.1.1.1.1.1.1.0.1.0.1
 
 pub record Arrays (a : Agreement) : Type 0 where
   pub heads : length a.heads ≡ 256
@@ -53,9 +53,9 @@ pub record Arrays (a : Agreement) : Type 0 where
 pub arrays : (a : Agreement) (vs : List Val) → Is agreement.the_row a vs → Arrays a
 arrays a vs g =
     record {
-      heads = sym (length-map a.heads _) ∙ g.1.1.1.1.0.1.0.1;
-      spans = sym (length-map a.spans _) ∙ g.1.1.1.1.1.0.1.0.1;
-      values = sym (length-map a.values _) ∙ g.1.1.1.1.1.1.0.1.0.1;
+      heads = g.1.1.1.1.0.1.0.1;
+      spans = g.1.1.1.1.1.0.1.0.1;
+      values = g.1.1.1.1.1.1.0.1.0.1;
     }
 
 -- ---- the numbers of an agreement line mean its parts

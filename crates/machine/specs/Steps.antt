@@ -25,7 +25,7 @@ use Rattle.statements.specs.declared.Work.{Work}
 use Rattle.statements.specs.Running.{max_labels, memory_in, ran}
 use Rattle.outcomes.specs.declared.Rule.{Rule}
 use Rattle.outcomes.specs.declared.Rule.TheVariants.{Call, EventMatch, Tick}
-use Rattle.outcomes.specs.declared.Outcome.TheVariants.{Accepted, Failed, Refused}
+use Rattle.outcomes.specs.declared.Outcome.TheVariants.{Accepted, Failed}
 use Rattle.outcomes.specs.declared.Stepped.{Stepped}
 use Rattle.outcomes.specs.Outcomes.{no_labels, answered, refused}
 use Rattle.holdings.specs.Holdings.{amounts, reached}

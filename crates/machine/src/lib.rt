@@ -1,4 +1,6 @@
 // The five steps of the machine. Each answers with the state, what came of it, and the labels sent.
+#![tactic(auto)]
+
 ghost use Rattle.std.specs.Prelude.{◌≡◌, true, [], ◌+◌, ◌-◌, ◌*◌, ◌/◌, ◌≤◌, ◌<◌, length, pos, nat_abs};
 ghost use Rattle.std.proofs.lemmas.List.Edits.{sets};
 ghost use Rattle.std.specs.Int.Signed.{le_z};
@@ -31,7 +33,7 @@ mod turns;
 
 // What came of a session: the question that refused it or 0, the state after it, how many bytes were taken, and how many result lines
 // there are. `many` 0 with question 0 means that nothing is due and no line is whole.
-#[derive(Drop)]
+#[derive(Clone, Copy)]
 pub struct Played {
     pub question: u8,
     pub state: State,
@@ -40,7 +42,7 @@ pub struct Played {
 }
 
 // A step's answer without its labels, which stand in a lent array of words.
-#[derive(Drop)]
+#[derive(Clone, Copy)]
 struct Reply {
     outcome: Outcome,
     state: State,
@@ -48,7 +50,7 @@ struct Reply {
 }
 
 // What a turn answers: whether a step was made, where the next line starts, and the step.
-#[derive(Drop)]
+#[derive(Clone, Copy)]
 struct Next {
     more: bool,
     at: usize,
@@ -56,14 +58,14 @@ struct Next {
 }
 
 // The number of a function that was looked for.
-#[derive(Drop)]
+#[derive(Clone, Copy)]
 enum Found {
     At(usize),
     Nothing,
 }
 
 // Where a handler's block stands, and the state after it.
-#[derive(Drop)]
+#[derive(Clone, Copy)]
 struct Handler {
     from: usize,
     end: usize,
@@ -160,10 +162,12 @@ fn is_due(table: &[u64], s: State) -> bool
 fn jump_no(due: bool, past: bool) -> u8
     ensures { result ≡ jump_no due past }
 {
-    if due {
+    let first = due;
+    if first {
         return questions::NOTHING_DUE;
     }
-    if past {
+    let second = past;
+    if second {
         return questions::TIME_NOT_PAST;
     }
     0
@@ -468,7 +472,8 @@ fn conclude(
         }
         j += 1;
     }
-    if State::PENDING - s.pending < joined {
+    let full = State::PENDING - s.pending < joined;
+    if full {
         return turn_down(s, questions::PENDING_ROOM);
     }
     let after = holdings::reach(next, kinds, numbers, texts, holdings, row.last);
@@ -609,8 +614,8 @@ fn call_on(
 ) -> Reply
     requires table_value { (passes table.now ≡ true) × (s.pending ≤ 64) }
     requires labels_value { labels_from labels.old ≡ no_labels }
-    ensures value { result ≡ reply_of (called (contract_of table.now) s (record { caller = caller.entry.now; function = function.now; values = values.now; assets = assets.now })) }
-    ensures labels_after { labels_from labels.new ≡ (called (contract_of table.now) s (record { caller = caller.entry.now; function = function.now; values = values.now; assets = assets.now })).labels }
+    ensures value { result ≡ reply_of (called (contract_of table.now) s (record { caller = caller.now; function = function.now; values = values.now; assets = assets.now })) }
+    ensures labels_after { labels_from labels.new ≡ (called (contract_of table.now) s (record { caller = caller.now; function = function.now; values = values.now; assets = assets.now })).labels }
 {
     if !s.agreed {
         return turn_down(s, questions::AGREED);
@@ -638,7 +643,8 @@ fn first_no(table: &[u64], s: State, room: usize) -> u8
     if !state::state_ok(table, s) {
         return questions::STATE_RANGES;
     }
-    if room < Label::MOST {
+    let short = room < Label::MOST;
+    if short {
         return questions::LABEL_ROOM;
     }
     0
@@ -673,7 +679,7 @@ pub fn call(
     values: &[i64],
     assets: &[i64],
 ) -> Stepped
-    ensures { result ≡ step table.now room s (λ c. called c s (record { caller = caller.entry.now; function = function.now; values = values.now; assets = assets.now })) }
+    ensures { result ≡ step table.now room s (λ c. called c s (record { caller = caller.now; function = function.now; values = values.now; assets = assets.now })) }
 {
     let no = first_no(table, s, room);
     if no != 0 {

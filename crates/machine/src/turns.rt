@@ -179,7 +179,8 @@ fn clear_sent(labels: &mut [i64; Label::ROOM], count: usize)
     requires { count ≡ 0 → labels_from labels.old ≡ no_labels }
     ensures { labels_from labels.new ≡ no_labels }
 {
-    if count == 0 {
+    let none = count == 0;
+    if none {
         return;
     }
     crate::clear(labels);

@@ -1,4 +1,6 @@
 // What comes of a step: its outcome, the state after it, and the labels sent.
+#![tactic(auto)]
+
 ghost use Rattle.std.specs.Prelude.{◌≡◌};
 ghost use Rattle.statements.specs.Running.{labels_from};
 ghost use Rattle.outcomes.specs.Outcomes.{no_labels, answered, refused};
@@ -7,7 +9,7 @@ use state::State;
 use statements::Label;
 
 // The published rules, as they are printed: AGREE, FUNCTION, EVENT MATCH, TICK; a jump answers as TICK.
-#[derive(Drop)]
+#[derive(Clone, Copy)]
 pub enum Rule {
     Agree,
     Call,
@@ -16,14 +18,14 @@ pub enum Rule {
 }
 
 // What came of a step: accepted by a rule, a failed firing with its question, or refused with the question.
-#[derive(Drop)]
+#[derive(Clone, Copy)]
 pub enum Outcome {
     Accepted(Rule),
     Failed(u8),
     Refused(u8),
 }
 
-#[derive(Drop)]
+#[derive(Clone, Copy)]
 pub struct Stepped {
     pub outcome: Outcome,
     pub state: State,

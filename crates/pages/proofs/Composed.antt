@@ -185,12 +185,12 @@ module _ {w ns : List ℕ} {zs : List ℤ} (a : AllPayable w ns zs) (number : �
 -- ---- the answer and the buffer
 
 abbrev pub PageAnswers : List ℕ → List Entry → ℕ → List ℕ → Paged → List ℕ → Type 0
-PageAnswers w es n old r new = (r ≡ paged w es (length old)) × (new ≡ buffer_after w es n old)
+PageAnswers w es n old r new = record { value : r ≡ paged w es (length old); buffer_after : new ≡ buffer_after w es n old }
 
 module _ (w : List ℕ) (es : List Entry) (n : ℕ) (old : List ℕ) where
   refused_page : (q : ℕ) → Refused q ≡ paged w es (length old) → PageAnswers w es n old (Refused q) old
   unfolding after
-  refused_page q e = (e, ap (λ (r : Paged). after r (page_of (contract_of w) es n) old) e)
+  refused_page q e = record { value = e; buffer_after = ap (λ (r : Paged). after r (page_of (contract_of w) es n) old) e }
 
   pub short_buffer : length old < 5185 → PageAnswers w es n old (Refused 60) old
   unfolding paged
@@ -210,4 +210,4 @@ module _ (w : List ℕ) (es : List Entry) (n : ℕ) (old : List ℕ) where
     unfolding paged after
     page_written t p e =
         let q = sym (pick_false _ _ _ (le-ltb (length old) 5185 h) ∙ pick_true _ _ _ t ∙ pick_true _ _ _ p) in
-        (q, e ∙ ap (λ (r : Paged). after r (page_of (contract_of w) es n) old) q)
+        record { value = q; buffer_after = e ∙ ap (λ (r : Paged). after r (page_of (contract_of w) es n) old) q }

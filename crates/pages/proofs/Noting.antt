@@ -20,7 +20,7 @@ use Rattle.pages.specs.declared.Gathered.{Gathered}
 
 -- what is gathered after a result line, and the two lists
 abbrev pub Noted : Gathered → Report → List ℕ → List ℤ → Gathered → List ℕ → List ℤ → Type 0
-Noted g r ns zs h ms ys = (h ≡ gathered g r) × ((ms ≡ numbers_after g r ns) × (ys ≡ values_after g r zs))
+Noted g r ns zs h ms ys = record { value : h ≡ gathered g r; entries_after : ms ≡ numbers_after g r ns; values_after : ys ≡ values_after g r zs }
 
 noted_as : (g : Gathered) (ns : List ℕ) (zs : List ℤ) {h : Gathered} {ms : List ℕ} {ys : List ℤ} {r s : Report} → r ≡ s → Noted g r ns zs h ms ys → Noted g s ns zs h ms ys
 noted_as g ns zs {h} {ms} {ys} e n = subst (λ (r : Report). Noted g r ns zs h ms ys) e n
@@ -43,7 +43,7 @@ five_stores old {l1} {l2} {l3} {l4} {l5} at a b c d e p1 p2 p3 p4 p5 =
 module _ (g : Gathered) (kind party : ℕ) (z : ℤ) (ns : List ℕ) (zs : List ℤ) where
   joins_not : joins g (Sent kind party z) ≡ false → Noted g (Sent kind party z) ns zs g ns zs
   unfolding gathered numbers_after values_after
-  joins_not j = (sym (pick_false _ _ _ j), (sym (pick_false _ _ _ j), sym (pick_false _ _ _ j)))
+  joins_not j = record { value = sym (pick_false _ _ _ j); entries_after = sym (pick_false _ _ _ j); values_after = sym (pick_false _ _ _ j) }
 
   -- no payout
   pub no_payout : (kind ≡ 3 → ⊥) → Noted g (Sent kind party z) ns zs g ns zs
@@ -61,25 +61,25 @@ module _ (g : Gathered) (kind party : ℕ) (z : ℤ) (ns : List ℕ) (zs : List 
   unfolding gathered numbers_after values_after joins
   noted q e l n v =
       let j : eqb kind 3 && ltb g.count 60 ≡ true = both_true (eqb kind 3) (ltb g.count 60) (eq-eqb kind 3 e) (lt-ltb g.count 60 l) in
-      (sym (pick_true _ _ _ j), (n ∙ sym (pick_true _ _ _ j), v ∙ ap (set zs g.count) q ∙ sym (pick_true _ _ _ j)))
+      record { value = sym (pick_true _ _ _ j); entries_after = n ∙ sym (pick_true _ _ _ j); values_after = v ∙ ap (set zs g.count) q ∙ sym (pick_true _ _ _ j) }
 
 -- ---- result lines by their numbers
 
 refused_notes : (g : Gathered) (n : ℕ) (ns : List ℕ) (zs : List ℤ) → Noted g (Refused n) ns zs g ns zs
 unfolding gathered numbers_after values_after
-refused_notes g n ns zs = (refl, (refl, refl))
+refused_notes g n ns zs = record { value = refl; entries_after = refl; values_after = refl }
 
 failed_notes : (g : Gathered) (n : ℕ) (ns : List ℕ) (zs : List ℤ) → Noted g (Failed n) ns zs g ns zs
 unfolding gathered numbers_after values_after
-failed_notes g n ns zs = (refl, (refl, refl))
+failed_notes g n ns zs = record { value = refl; entries_after = refl; values_after = refl }
 
 held_notes : (g : Gathered) (a b : ℕ) (ns : List ℕ) (zs : List ℤ) → Noted g (Held a b) ns zs g ns zs
 unfolding gathered numbers_after values_after
-held_notes g a b ns zs = (refl, (refl, refl))
+held_notes g a b ns zs = record { value = refl; entries_after = refl; values_after = refl }
 
 ruled_notes : (g : Gathered) (a b t : ℕ) (ns : List ℕ) (zs : List ℤ) → Noted g (Ruled a b t) ns zs (record { rule = a; clock = t; count = g.count }) ns zs
 unfolding gathered numbers_after values_after
-ruled_notes g a b t ns zs = (refl, (refl, refl))
+ruled_notes g a b t ns zs = record { value = refl; entries_after = refl; values_after = refl }
 
 module _ (numbers : List ℕ) (integers : List ℤ) (i : ℕ) where
   -- none stands there

@@ -1,5 +1,5 @@
 -- The settlement page (document 02, F-1), byte by byte.
-use Rattle.std.specs.Prelude.{ℕ, zero, suc, ◌+◌, ◌-◌, ◌*◌, ◌/◌, ◌%◌, List, [], ◌∷◌, ◌++◌, length, get_or, take, drop, nat_abs}
+use Rattle.std.specs.Prelude.{ℕ, zero, suc, ◌-◌, ◌*◌, ◌/◌, ◌%◌, List, [], ◌∷◌, ◌++◌, length, get_or, take, drop, nat_abs}
 use Rattle.laws.specs.Bytes.{bytes}
 use Rattle.words.specs.Words.{spelled, line_end}
 use Rattle.contract.specs.Tree.{Contract}

@@ -1,4 +1,6 @@
 // Settlement pages (document 02, F-1), written into a lent buffer, and the payouts among result lines gathered for them.
+#![tactic(auto)]
+
 ghost use Rattle.std.specs.Prelude.{◌≡◌, length};
 ghost use Rattle.results.specs.Coded.{report_at};
 ghost use Rattle.pages.specs.Entries.{entries_of};
@@ -13,7 +15,7 @@ mod payouts;
 mod sheets;
 
 // The limits of a page.
-#[derive(Drop)]
+#[derive(Clone, Copy)]
 pub struct Sheet {}
 
 impl Sheet {
@@ -38,7 +40,7 @@ impl Sheet {
 }
 
 // What asking for a page answers.
-#[derive(Drop)]
+#[derive(Clone, Copy)]
 pub enum Paged {
     Accepted,
     // The number of the question that refused; then nothing was written.
@@ -46,7 +48,7 @@ pub enum Paged {
 }
 
 // What is gathered of a session: the rule and the clock of its last accepted step, and how many payouts wait for their page.
-#[derive(Drop)]
+#[derive(Clone, Copy)]
 pub struct Gathered {
     pub rule: u64,
     pub clock: u64,

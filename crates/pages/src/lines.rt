@@ -59,8 +59,8 @@ fn put_party(table: &[u64], party: usize, buffer: &mut [u8], at: usize) -> usize
 // Clock and rule, each with a space after it.
 fn put_step(buffer: &mut [u8], at: usize, clock: u64, rule: u64) -> usize
     requires rule_value { (eqb rule 1 || eqb rule 2) ≡ true }
-    requires bytes_in_bounds { at + length (right 19 (decimal clock) ++ (bytes " " ++ (left 11 (ruleName rule) ++ bytes " "))) ≤ length buffer.old }
-    ensures { Put buffer.old at (right 19 (decimal clock) ++ (bytes " " ++ (left 11 (ruleName rule) ++ bytes " "))) result buffer.new }
+    requires bytes_in_bounds { at + length (right 19 (decimal clock) ++ (bytes " " ++ (left 11 (rule_name rule) ++ bytes " "))) ≤ length buffer.old }
+    ensures { Put buffer.old at (right 19 (decimal clock) ++ (bytes " " ++ (left 11 (rule_name rule) ++ bytes " "))) result buffer.new }
 {
     let space = put_right(buffer, at, clock);
     let name = printing::put_byte(buffer, space, b' ');
@@ -71,8 +71,8 @@ fn put_step(buffer: &mut [u8], at: usize, clock: u64, rule: u64) -> usize
 // Party, a space, the amount and LF.
 fn put_payee(table: &[u64], party: usize, amount: u64, buffer: &mut [u8], at: usize) -> usize
     requires table_value { (passes table.now ≡ true) × (party < length (contract_of table.now).parties) }
-    requires line_end_in_bounds { at + length (left 32 (get_or (contractOf table.now).parties party []) ++ (bytes " " ++ (right 19 (decimal amount) ++ spelled lineEnd))) ≤ length buffer.old }
-    ensures { Put buffer.old at (left 32 (get_or (contractOf table.now).parties party []) ++ (bytes " " ++ (right 19 (decimal amount) ++ spelled lineEnd))) result buffer.new }
+    requires line_end_in_bounds { at + length (left 32 (get_or (contract_of table.now).parties party []) ++ (bytes " " ++ (right 19 (decimal amount) ++ spelled line_end))) ≤ length buffer.old }
+    ensures { Put buffer.old at (left 32 (get_or (contract_of table.now).parties party []) ++ (bytes " " ++ (right 19 (decimal amount) ++ spelled line_end))) result buffer.new }
 {
     let space = put_party(table, party, buffer, at);
     let number = printing::put_byte(buffer, space, b' ');

@@ -12,7 +12,7 @@ use crate::Sheet;
 use crate::lines::{put_blank, put_foot, put_line};
 
 // The number of a page's first entry, of so many.
-fn first_reports(number: usize, count: usize) -> usize
+fn first_of(number: usize, count: usize) -> usize
     ensures { result ≡ min (60 * number) count }
 {
     if count / Sheet::LINES < number {
@@ -80,7 +80,7 @@ pub(crate) fn write_sheet(
     requires page_bytes_in_bounds { page_bytes ≤ length buffer.old }
     ensures { buffer.new ≡ page_of (contract_of table.now) (entries_of numbers.now values.now) number ++ drop page_bytes buffer.old }
 {
-    let first = first_reports(number, values.len());
+    let first = first_of(number, values.len());
     let end = end_of(first, values.len());
     let blank = put_lines(table, numbers, values, first, end, buffer);
     let foot = put_blanks(buffer, blank, Sheet::LINES - (end - first));

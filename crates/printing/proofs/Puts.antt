@@ -76,7 +76,7 @@ module _ {r : Bool} (at n size : ℕ) (e : r ≡ leb (at + n) size) where
 
 -- the place after it and the list with it
 abbrev pub Puts : List ℕ → ℕ → List ℕ → ℕ → List ℕ → Type 0
-Puts old at w n new = (n ≡ place_after old at w) × (new ≡ put old at w)
+Puts old at w n new = record { value : n ≡ place_after old at w; buffer_after : new ≡ put old at w }
 
 module _ (old : List ℕ) (at : ℕ) (w : List ℕ) where
   -- what a caller knows of a piece that has room
@@ -90,21 +90,21 @@ module _ (old : List ℕ) (at : ℕ) (w : List ℕ) where
   unfolding put place_after
   no_room h =
       let t : leb (at + length w) (length old) ≡ false = lt-leb (at + length w) (length old) h in
-      (sym (pick_false _ _ _ t), sym (pick_false _ _ _ t))
+      record { value = sym (pick_false _ _ _ t); buffer_after = sym (pick_false _ _ _ t) }
 
 pub has_put : {old w new : List ℕ} {at n : ℕ} → Put old at w n new → Puts old at w n new
 has_put {old} {w} {new} {at} {n} p =
     let q = put_room old at w p.room in
-    (p.place ∙ sym q.place, p.list ∙ sym q.list)
+    record { value = p.place ∙ sym q.place; buffer_after = p.list ∙ sym q.list }
 
 -- the same from a piece's two equations
 pub put_of : {old new : List ℕ} {at n : ℕ} (w : List ℕ) → Puts old at w n new → at + length w ≤ length old → Put old at w n new
 put_of {old} {new} {at} {n} w e h =
     let p = put_room old at w h in
-    record { place = e.0 ∙ p.place; list = e.1 ∙ p.list; room = h }
+    record { place = e.value ∙ p.place; list = e.buffer_after ∙ p.list; room = h }
 
 pub puts_as : (old : List ℕ) (at : ℕ) {new : List ℕ} {n : ℕ} {u v : List ℕ} → u ≡ v → Puts old at u n new → Puts old at v n new
-puts_as old at e p = (p.0 ∙ ap (place_after old at) e, p.1 ∙ ap (put old at) e)
+puts_as old at e p = record { value = p.value ∙ ap (place_after old at) e; buffer_after = p.buffer_after ∙ ap (put old at) e }
 
 -- ---- pieces of a line
 

@@ -1,4 +1,6 @@
 // Pieces of printed lines, each stored into a lent buffer from a place on, where it has room; each hands back the place after it.
+#![tactic(auto)]
+
 ghost use Rattle.std.specs.Prelude.{◌≡◌, [], ◌∷◌, ◌+◌, ◌≤◌, ◌<◌, length, leb};
 ghost use Rattle.words.specs.Words.{spelled};
 ghost use Rattle.printing.specs.Decimal.{decimal, signed};

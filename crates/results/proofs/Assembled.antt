@@ -240,7 +240,7 @@ module _ {old new : List ℕ} {n : ℕ} where
 
 -- an answer and the buffer after it
 abbrev pub Answers : List ℕ → Report → List ℕ → Written → List ℕ → Type 0
-Answers w report old r new = (r ≡ written w report (length old)) × (new ≡ buffer_after w report old)
+Answers w report old r new = record { value : r ≡ written w report (length old); buffer_after : new ≡ buffer_after w report old }
 
 refused_after : {old : List ℕ} (line : List ℕ) {r : Written} {q : ℕ} → Refused q ≡ r → old ≡ after r line old
 unfolding after
@@ -255,46 +255,46 @@ module _ (w : List ℕ) (report : Report) (old : List ℕ) where
   unfolding written
   no_space h =
       let e : Refused 52 ≡ written w report (length old) = sym (pick_true _ _ _ (lt-ltb (length old) 128 h)) in
-      (e, refused_after _ e)
+      record { value = e; buffer_after = refused_after _ e }
 
   pub no_table : 128 ≤ length old → passes w ≡ false → Answers w report old (Refused 3) old
   unfolding written
   no_table h t =
       let e : Refused 3 ≡ written w report (length old) = sym (pick_false _ _ _ (le-ltb (length old) 128 h) ∙ pick_false _ _ _ t) in
-      (e, refused_after _ e)
+      record { value = e; buffer_after = refused_after _ e }
 
   pub no_kind : 128 ≤ length old → passes w ≡ true → report_ok (contract_of w) report ≡ false → Answers w report old (Refused 53) old
   unfolding written
   no_kind h t k =
       let e : Refused 53 ≡ written w report (length old) = sym (pick_false _ _ _ (le-ltb (length old) 128 h) ∙ pick_true _ _ _ t ∙ pick_false _ _ _ k) in
-      (e, refused_after _ e)
+      record { value = e; buffer_after = refused_after _ e }
 
   pub wrote : {n : ℕ} {new : List ℕ} → Ready w report (length old) → Put old 0 (line_of (contract_of w) report) n new → Answers w report old (Wrote n) new
   unfolding written
   wrote {n} r p =
       let e : Wrote n ≡ written w report (length old) =
       ap Wrote (line_end_lem p) ∙ sym (pick_false _ _ _ (le-ltb (length old) 128 r.room) ∙ pick_true _ _ _ r.table ∙ pick_true _ _ _ r.range) in
-      (e, wrote_after e p)
+      record { value = e; buffer_after = wrote_after e p }
 
 abbrev pub TextAnswers : ℕ → ℕ → List ℕ → Written → List ℕ → Type 0
-TextAnswers k place old r new = (r ≡ text_written k place (length old)) × (new ≡ text_buffer_after k place old)
+TextAnswers k place old r new = record { value : r ≡ text_written k place (length old); buffer_after : new ≡ text_buffer_after k place old }
 
 module _ (k place : ℕ) (old : List ℕ) where
   pub text_no_space : length old < 128 → TextAnswers k place old (Refused 52) old
   unfolding text_written
   text_no_space h =
       let e : Refused 52 ≡ text_written k place (length old) = sym (pick_true _ _ _ (lt-ltb (length old) 128 h)) in
-      (e, refused_after _ e)
+      record { value = e; buffer_after = refused_after _ e }
 
   pub text_no_kind : 128 ≤ length old → text_refusal k ≡ false → TextAnswers k place old (Refused 53) old
   unfolding text_written
   text_no_kind h t =
       let e : Refused 53 ≡ text_written k place (length old) = sym (pick_false _ _ _ (le-ltb (length old) 128 h) ∙ pick_false _ _ _ t) in
-      (e, refused_after _ e)
+      record { value = e; buffer_after = refused_after _ e }
 
   pub text_wrote : {n : ℕ} {new : List ℕ} → 128 ≤ length old → text_refusal k ≡ true → Put old 0 (text_line k place) n new → TextAnswers k place old (Wrote n) new
   unfolding text_written
   text_wrote {n} h t p =
       let e : Wrote n ≡ text_written k place (length old) =
       ap Wrote (line_end_lem p) ∙ sym (pick_false _ _ _ (le-ltb (length old) 128 h) ∙ pick_true _ _ _ t) in
-      (e, wrote_after e p)
+      record { value = e; buffer_after = wrote_after e p }

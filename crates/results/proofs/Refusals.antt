@@ -7,7 +7,7 @@ use lib.ListN.{length}
 use lib.Dec.{eqb}
 use Rattle.laws.proofs.Choice.{by_cases, true_false}
 use Rattle.contract.specs.Decode.{contract_of}
-use Rattle.results.specs.Results.{written, text_written, after, nothing, lines_of, batch_of, batch, batch_after, is_refused, RefusedWritesNothing}
+use Rattle.results.specs.Results.{written, text_written, after, lines_of, batch_of, batch, batch_after, is_refused, RefusedWritesNothing}
 use Rattle.results.specs.Results.Writing.{write, write_text_refusal, write_batch}
 use Rattle.results.specs.declared.Batch.{Batch}
 use Rattle.results.specs.declared.Report.{Report}

@@ -264,7 +264,7 @@ module _ {c : Contract} {ns : List ℕ} {zs : List ℤ} {from to : ℕ} {old : L
 -- ---- the answer and the buffer after many lines
 
 abbrev pub BatchAnswers : Contract → List Report → List ℕ → Batch → List ℕ → Type 0
-BatchAnswers c rs old r new = (r ≡ batch_of c rs (length old)) × (new ≡ batch_after c rs r old)
+BatchAnswers c rs old r new = record { value : r ≡ batch_of c rs (length old); buffer_after : new ≡ batch_after c rs r old }
 
 module _ (ns : List ℕ) (zs : List ℤ) (from to : ℕ) (old : List ℕ) {end : ℕ} (e : end ≡ from + min (length old / 128) (to - from)) where
   -- the reports that are written
@@ -282,30 +282,27 @@ module _ (ns : List ℕ) (zs : List ℤ) (from to : ℕ) (old : List ℕ) {end :
     all_written {used} k p =
         let m : end - from ≡ min (end - from) (to - from) = omega (arith, e) in
         let many : end - from ≡ length (first_reports (length old) (reports_from ns zs from (to - from))) = sym (ap length firsts ∙ reports_long ns zs from (end - from)) in
-        let bytes : used ≡ length (lines_of c (first_reports (length old) (reports_from ns zs from (to - from)))) = line_end_lem p ∙ sym (ap (λ (rs : List Report). length (lines_of c rs)) firsts) in (
-          (λ j. record { question = 0; many = many j; used = bytes j }) ∙ sym (pick_true _ _ _ (ap (every (report_ok c)) firsts ∙ k)),
-          over p ∙ ap (λ (rs : List Report). lines_of c rs ++ drop used old) (sym (first_reports_lem ns zs from (end - from) (to - from) (end - from) m)),
-        )
+        let bytes : used ≡ length (lines_of c (first_reports (length old) (reports_from ns zs from (to - from)))) = line_end_lem p ∙ sym (ap (λ (rs : List Report). length (lines_of c rs)) firsts) in record { value = (λ j. record { question = 0; many = many j; used = bytes j }) ∙ sym (pick_true _ _ _ (ap (every (report_ok c)) firsts ∙ k)); buffer_after = over p ∙ ap (λ (rs : List Report). lines_of c rs ++ drop used old) (sym (first_reports_lem ns zs from (end - from) (to - from) (end - from) m)) }
 
     pub none_written : every (report_ok c) (reports_from ns zs from (end - from)) ≡ false → BatchAnswers c (reports_from ns zs from (to - from)) old (nothing 53) old
     unfolding batch_of batch_after lines_of
-    none_written k = (sym (pick_false _ _ _ (ap (every (report_ok c)) firsts ∙ k)), refl)
+    none_written k = record { value = sym (pick_false _ _ _ (ap (every (report_ok c)) firsts ∙ k)); buffer_after = refl }
 
 -- ---- questions 52 and 3
 
 -- the same with them
 abbrev pub AllAnswers : List ℕ → List Report → List ℕ → Batch → List ℕ → Type 0
-AllAnswers w rs old r new = (r ≡ batch w rs (length old)) × (new ≡ batch_after (contract_of w) rs r old)
+AllAnswers w rs old r new = record { value : r ≡ batch w rs (length old); buffer_after : new ≡ batch_after (contract_of w) rs r old }
 
 module _ (w : List ℕ) (rs : List Report) (old : List ℕ) where
   pub none_space : length old < 128 → AllAnswers w rs old (nothing 52) old
   unfolding batch batch_after lines_of
-  none_space h = (sym (pick_true _ _ _ (lt-ltb (length old) 128 h)), refl)
+  none_space h = record { value = sym (pick_true _ _ _ (lt-ltb (length old) 128 h)); buffer_after = refl }
 
   pub none_table : 128 ≤ length old → passes w ≡ false → AllAnswers w rs old (nothing 3) old
   unfolding batch batch_after lines_of
-  none_table h t = (sym (pick_false _ _ _ (le-ltb (length old) 128 h) ∙ pick_false _ _ _ t), refl)
+  none_table h t = record { value = sym (pick_false _ _ _ (le-ltb (length old) 128 h) ∙ pick_false _ _ _ t); buffer_after = refl }
 
   pub some_lines : {r : Batch} {new : List ℕ} → 128 ≤ length old → passes w ≡ true → BatchAnswers (contract_of w) rs old r new → AllAnswers w rs old r new
   unfolding batch
-  some_lines h t a = (a.0 ∙ sym (pick_false _ _ _ (le-ltb (length old) 128 h) ∙ pick_true _ _ _ t), a.1)
+  some_lines h t a = record { value = a.value ∙ sym (pick_false _ _ _ (le-ltb (length old) 128 h) ∙ pick_true _ _ _ t); buffer_after = a.buffer_after }

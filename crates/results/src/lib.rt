@@ -1,4 +1,6 @@
 // The lines that the desk prints, written into a lent buffer.
+#![tactic(auto)]
+
 ghost use Rattle.std.specs.Prelude.{◌≡◌, ◌-◌, length};
 ghost use Rattle.contract.specs.Decode.{contract_of};
 ghost use Rattle.results.specs.Coded.{reports_from};
@@ -8,7 +10,7 @@ mod many;
 mod reports;
 
 // A line that the desk prints.
-#[derive(Drop)]
+#[derive(Clone, Copy)]
 pub enum Report {
     // A rule (0 an agreement, 1 a call, 2 a firing, 3 a tick or a jump), and the state's number and the clock after it.
     Ruled(u8, usize, u64),
@@ -30,14 +32,14 @@ impl Report {
 }
 
 // How many bytes were written, or the number of the question that refused; then nothing was.
-#[derive(Drop)]
+#[derive(Clone, Copy)]
 pub enum Written {
     Wrote(usize),
     Refused(u8),
 }
 
 // What came of many lines: the question that refused them or 0, how many were written, and how many bytes they have; none where refused.
-#[derive(Drop)]
+#[derive(Clone, Copy)]
 pub struct Batch {
     pub question: u8,
     pub many: usize,

@@ -101,7 +101,7 @@ fn put_rule_name(buffer: &mut [u8], at: usize, rule: u8) -> usize
 // The name of a rule in its brackets, and a space.
 fn put_rule(buffer: &mut [u8], rule: u8) -> usize
     requires { 128 ≤ length buffer.old }
-    ensures { Put buffer.old 0 (bytes "[" ++ (ruleName rule ++ bytes "] ")) result buffer.new }
+    ensures { Put buffer.old 0 (bytes "[" ++ (rule_name rule ++ bytes "] ")) result buffer.new }
 {
     let name = put_byte(buffer, 0, b'[');
     let end = put_rule_name(buffer, name, rule);
@@ -199,7 +199,7 @@ fn write_refused(n: u8, buffer: &mut [u8]) -> usize
 
 fn write_failed(n: u8, buffer: &mut [u8]) -> usize
     requires { 128 ≤ length buffer.old }
-    ensures { Put buffer.old 0 (bytes "[" ++ (spelled eventMatch ++ (bytes "] " ++ (refusedText n ++ spelled lineEnd)))) result buffer.new }
+    ensures { Put buffer.old 0 (bytes "[" ++ (spelled event_match ++ (bytes "] " ++ (refused_text n ++ spelled line_end)))) result buffer.new }
 {
     let number = put_rule(buffer, 2);
     let end = put_refused(buffer, number, n);

@@ -1,4 +1,6 @@
 // The state of a contract, handed on by value.
+#![tactic(auto)]
+
 ghost use Rattle.std.specs.Prelude.{◌≡◌, true, ◌&&◌, suc, ◌+◌, ◌-◌, ◌++◌, pos, take, drop, eqb, leb, ltb};
 ghost use Rattle.laws.specs.Choice.{pick};
 ghost use Rattle.numbers.specs.Numbers.{eq_z};
@@ -11,14 +13,14 @@ ghost use Rattle.state.specs.Private.{slots_of, not_dropped, comes_due, due_at, 
 use contract::Contract;
 
 // A pending event: its function, which of that function's events it is, and its time.
-#[derive(Drop)]
+#[derive(Clone, Copy)]
 pub struct Pending {
     pub function: u8,
     pub event: u8,
     pub time: u64,
 }
 
-#[derive(Drop)]
+#[derive(Clone, Copy)]
 pub struct State {
     // Whether the state name is not none, and its number; 0 where it is none.
     pub agreed: bool,
@@ -35,14 +37,14 @@ pub struct State {
 }
 
 // Where the first due event stands among the pending ones.
-#[derive(Drop)]
+#[derive(Clone, Copy)]
 pub enum Due {
     At(usize),
     Nothing,
 }
 
 // The pending events that are kept: how many, and the slots with those in front.
-#[derive(Drop)]
+#[derive(Clone, Copy)]
 struct Slots {
     pending: usize,
     events: [Pending; State::PENDING],
@@ -255,7 +257,8 @@ pub fn state_ok(table: &[u64], s: State) -> bool
     if !name_ok(c.states, agreed, s.state, pending) {
         return false;
     }
-    if State::PENDING < pending {
+    let too_many = State::PENDING < pending;
+    if too_many {
         return false;
     }
     if !fields_ok(s, c.strings, used_of(agreed, c.fields)) {
@@ -315,7 +318,8 @@ fn takes_over(found: Due, first: Pending, p: Pending) -> bool
 fn due_at(table: &[u64], clock: u64, state: usize, p: Pending) -> bool
     ensures { result ≡ due_at (contract_of table.now) clock state p }
 {
-    if p.time == clock {
+    let on_time = p.time == clock;
+    if on_time {
         return event_state(table, p) == state;
     }
     false

@@ -1,4 +1,6 @@
 // Runs the statements of a block, which stand in a table with their parts before them.
+#![tactic(auto)]
+
 ghost use Rattle.std.specs.Prelude.{◌≡◌, List, [], ℕ, ◌-◌, ◌<◌, get_or, set, ℤ, eqb};
 ghost use Rattle.laws.specs.Choice.{pick};
 ghost use Rattle.contract.specs.Table.{argument_at, size_at};
@@ -12,7 +14,7 @@ use evaluation::Holdings;
 use numbers::{Answer, Truth, Value};
 
 // What a send leaves: kind (1 integer, 2 string, 3 asset), party, and value, a string's being its number.
-#[derive(Drop)]
+#[derive(Clone, Copy)]
 pub struct Label {
     pub kind: u64,
     pub party: usize,
@@ -36,7 +38,7 @@ impl Label {
 
 // A memory that statements work on, with the labels that they have sent and the question that refused, 0 where none did. Definitions speak
 // of it whole; the code has its parts in lent arrays.
-#[derive(Drop)]
+#[derive(Clone, Copy)]
 pub struct Work {
     pub kinds: [u8; Contract::FIELDS],
     pub numbers: [i64; Contract::FIELDS],
@@ -49,7 +51,7 @@ pub struct Work {
 }
 
 // How statements ended: how many labels are sent, and the question that refused, 0 where none did.
-#[derive(Drop)]
+#[derive(Clone, Copy)]
 pub struct Ran {
     pub count: usize,
     pub refusal: u8,
@@ -232,7 +234,8 @@ fn move_amount(holdings: &mut [u64; Holdings::MOST], i: usize, j: usize, n: u64)
     if Holdings::MOST <= j {
         return questions::TABLE_CHECK;
     }
-    if i == j {
+    let itself = i == j;
+    if itself {
         return 0;
     }
     let target = amount(holdings, j);
@@ -487,7 +490,8 @@ fn begin(count: usize, from: usize, end: usize) -> Ran
     ensures count_value { result.count ≡ count }
     ensures refusal_value { result.refusal ≡ pick (eqb end from) 0 3 }
 {
-    if end == from {
+    let empty = end == from;
+    if empty {
         return Ran { count, refusal: 0 };
     }
     broken(count)
@@ -606,7 +610,8 @@ pub fn run(
         from,
         end_before(table, k),
     );
-    if before.refusal != 0 {
+    let stopped = before.refusal != 0;
+    if stopped {
         return before;
     }
     let sent = before.count;

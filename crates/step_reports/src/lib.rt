@@ -1,4 +1,6 @@
 // What comes of a step as result lines, handed on as four numbers and an integer each.
+#![tactic(auto)]
+
 ghost use Rattle.std.specs.Prelude.{◌≡◌, ◌+◌, ◌*◌, ◌≤◌, ◌<◌, min, [], ◌∷◌, length, get_or, pos, nat_abs};
 ghost use Rattle.std.proofs.lemmas.List.Edits.{sets};
 ghost use Rattle.laws.specs.Choice.{pick};

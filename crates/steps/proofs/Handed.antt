@@ -1,6 +1,6 @@
 -- What a step's core answered: its parts with what is known of their machine values, and the slice with the labels handed to `copy`. Assumes nothing.
 use mathlib.Core.Path.{refl}
-use mathlib.Core.List.{[], ◌∷◌, List, map}
+use mathlib.Core.List.{[], ◌∷◌, List}
 use Prim.Native.Nat.{◌<◌, ◌^◌}
 use lib.ListN.{length}
 use seplogic.Ra.Ura.{Ura}
@@ -29,7 +29,6 @@ use Rattle.statements.specs.contracts.Label as T
 use Rattle.statements.proofs.Label.TheLaws as T'
 use Rattle.steps.specs.declared.Out.{Out}
 use Rattle.steps.specs.contracts.copy as copy
-use Rattle.steps.proofs.Fields.{array_is}
 use Rattle.steps.specs.contracts.Out as O
 use Rattle.steps.proofs.Out.TheLaws as O'
 use Rattle.steps.specs.contracts.Left as B
@@ -45,13 +44,13 @@ abbrev pub left_val : Out → Val
 left_val r = (O'.the_laws).0.val ((B.the_field).into r.left)
 
 abbrev labels_val : Out → Val
-labels_val r = (O'.the_laws).1.1.0.val (map (T.the_field).into r.labels)
+labels_val r = (O'.the_laws).1.1.0.val r.labels
 
 pub is_left : (r : Out) → Is O.the_row r (LL.vals O.the_type O'.the_laws r) → Is B.the_row r.left (left_val r ∷ [])
 is_left r is = (LL.owed O.the_type O'.the_laws r _ is).0
 
 pub is_labels : (r : Out) → Is O.the_row r (LL.vals O.the_type O'.the_laws r) → Is Arr r.labels (labels_val r ∷ [])
-is_labels r is = array_is 64 r.labels _ (LL.owed O.the_type O'.the_laws r _ is).1.1.0
+is_labels r is = (LL.owed O.the_type O'.the_laws r _ is).1.1.0
 
 pub count_fits : (r : Out) → Is O.the_row r (LL.vals O.the_type O'.the_laws r) → r.count < 2 ^ 64
 count_fits r is = (LL.owed O.the_type O'.the_laws r _ is).1.0.1

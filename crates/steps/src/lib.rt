@@ -1,4 +1,6 @@
 // The machine's steps with the labels in a lent slice of entries: first to last, and entries after them keep what they held.
+#![tactic(auto)]
+
 ghost use Rattle.std.specs.Prelude.{◌≡◌, length};
 ghost use Rattle.machine.specs.Steps.{step, fired, ticked, jumped};
 ghost use Rattle.steps.specs.Left.{count_of, copied_of, out_of, left_of, slots_of, agree_of, call_of};
@@ -8,7 +10,7 @@ use state::State;
 use statements::Label;
 
 // What a step leaves beside its labels: what came of it, the state, and how many labels there are.
-#[derive(Drop)]
+#[derive(Clone, Copy)]
 pub struct Left {
     pub outcome: Outcome,
     pub state: State,
@@ -16,7 +18,7 @@ pub struct Left {
 }
 
 // What a step leaves, and its labels.
-#[derive(Drop)]
+#[derive(Clone, Copy)]
 struct Out {
     left: Left,
     count: usize,
@@ -30,7 +32,8 @@ fn count(slots: usize, n: usize) -> usize
     if slots < Label::MOST {
         return 0;
     }
-    if Label::MOST < n {
+    let over = Label::MOST < n;
+    if over {
         return Label::MOST;
     }
     n

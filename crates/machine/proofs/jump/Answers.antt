@@ -1,0 +1,24 @@
+-- `machine::jump` meets its contract. Assumes nothing.
+use mathlib.Core.Path.{ap, ◌∙◌}
+use lib.IntN.{ℤ}
+use mir.Facts.{to_z-of_z}
+use Rattle.contract.specs.Tree.{Contract}
+use Rattle.contract.specs.Decode.{contract_of}
+use Rattle.machine.specs.Steps.{jumped}
+use Rattle.machine.specs.Private.{reply_of}
+use Rattle.machine.proofs.Gates.{refused_first, stepped}
+use Rattle.machine.proofs.Answers.{jump_plain}
+use Rattle.machine.proofs.jump.Goals as goal
+
+pub returns-then-no-ne0 : goal.returns-then-no-ne0
+returns-then-no-ne0 c =
+    c.refuse.ensures ∙ refused_first c.args.table.now c.args.room c.args.s _ c.first_no-no.ensures (λ (x : Contract). jumped x c.args.s c.args.to) c.if-no-ne0.true
+
+pub returns : goal.returns
+returns c =
+    let k = contract_of c.args.table.now in
+    c.answer.ensures
+    ∙ jump_plain k c.args.s c.args.to _
+    (c.jump_on-r.ensures ∙ ap (λ (z : ℤ). reply_of (jumped k c.args.s z)) (to_z-of_z c.ranges.to))
+    ∙ stepped c.args.table.now c.args.room c.args.s _ c.first_no-no.ensures
+    (λ (x : Contract). jumped x c.args.s c.args.to) c.if-no-ne0.false

@@ -1,0 +1,34 @@
+-- `machine::run_handler` meets its contract. Assumes nothing.
+use mathlib.Core.Path.{ap, ◌∙◌}
+use mathlib.Core.List.{[]}
+use Rattle.contract.specs.Decode.{block_between}
+use Rattle.statements.specs.declared.Work.{Work}
+use Rattle.statements.specs.Running.{ran}
+use Rattle.outcomes.specs.declared.Stepped.{Stepped}
+use Rattle.holdings.specs.Holdings.{amounts}
+use Rattle.machine.specs.Private.{reply_of}
+use Rattle.machine.proofs.Firings.{handler_failed, handler_done}
+use Rattle.machine.proofs.Answers.{started}
+use Rattle.machine.proofs.run_handler.Goals as goal
+
+pub returns-then-ran-ne0 : goal.returns-then-ran-ne0
+unfolding amounts
+returns-then-ran-ne0 c =
+    let b = started c.args.s [] _ _ c.holdings_of-holdings.ensures c.requires in
+    let run = c.run-ran.ensures ∙ ap (λ (x : Work). ran [] c.args.s.clock x (block_between c.args.table.now c.args.h.from c.args.h.end)) b in
+    let e = handler_failed c.args.left c.args.h.last _ _ run c.if-ran-ne0.true in
+    record {
+      value = c.without_labels.ensures ∙ ap reply_of e;
+      labels_after = c.clear.ensures ∙ ap (λ (t : Stepped). t.labels) e;
+    }
+
+pub returns : goal.returns
+unfolding amounts
+returns c =
+    let b = started c.args.s [] _ _ c.holdings_of-holdings.ensures c.requires in
+    let run = c.run-ran.ensures ∙ ap (λ (x : Work). ran [] c.args.s.clock x (block_between c.args.table.now c.args.h.from c.args.h.end)) b in
+    let e = handler_done c.args.left c.args.h.last _ _ run c.if-ran-ne0.false _ c.reach-next.ensures in
+    record {
+      value = ap reply_of e;
+      labels_after = ap (λ (t : Stepped). t.labels) e;
+    }

@@ -1,0 +1,56 @@
+-- `machine::turns::play_on` meets its contract. Assumes nothing.
+use borrow.Author.Tests.{not-true, not-false}
+use native.Mathlib.Omega.{arith}
+use Rattle.laws.specs.Lists.{repeated}
+use Rattle.state.proofs.Lengths.{events_length}
+use Rattle.outcomes.proofs.Labels.{no_labels_lem}
+use Rattle.step_reports.proofs.Reports.{numbers_kept, integers_kept}
+use Rattle.machine.proofs.Playing.{going_first, goes_up, going_on, left_blank, ended_full, ended_wait}
+use Rattle.machine.proofs.turns.play_on.Goals as goal
+
+pub loop-n-init : goal.loop-n-init
+unfolding repeated
+loop-n-init c =
+    (going_first _ c.room_in-room.ensures c.args.s (record { events = events_length c.args.s _ c.well_formed.1.0; pending = c.requires.1 }), no_labels_lem)
+
+pub overflow_sub-room : goal.overflow_sub-room
+overflow_sub-room c = omega (arith, c.loop-n.invariant.0.within)
+
+pub shape_of-numbers-after-loop-n : goal.shape_of-numbers-after-loop-n
+shape_of-numbers-after-loop-n c = numbers_kept c.loop-n.invariant.0.written
+
+pub shape_of-integers-after-loop-n : goal.shape_of-integers-after-loop-n
+shape_of-integers-after-loop-n c = integers_kept c.loop-n.invariant.0.written
+
+pub returns-after-loop-n : goal.returns-after-loop-n
+returns-after-loop-n c = ended_full c.loop-n.invariant.0 c.loop-n-test.false
+
+pub shape_of-numbers-then-not-t : goal.shape_of-numbers-then-not-t
+shape_of-numbers-then-not-t c = numbers_kept c.loop-n.invariant.0.written
+
+pub shape_of-integers-then-not-t : goal.shape_of-integers-then-not-t
+shape_of-integers-then-not-t c = integers_kept c.loop-n.invariant.0.written
+
+pub returns-then-not-t : goal.returns-then-not-t
+returns-then-not-t c =
+    ended_wait c.loop-n.invariant.0 _ _ c.turn-t.ensures (not-true _ c.if-not-t.true)
+
+pub turn-t-requires : goal.turn-t-requires
+turn-t-requires c =
+    record {
+      table_value = (c.requires.0, c.loop-n.invariant.0.slotted.pending);
+      labels_value = c.loop-n.invariant.1;
+    }
+
+pub clear_sent-requires : goal.clear_sent-requires
+clear_sent-requires c =
+    left_blank c.loop-n.invariant.0 c.turn-t.result _ c.turn-t.ensures (not-false _ c.if-not-t.false)
+
+pub loop-n-smaller : goal.loop-n-smaller
+loop-n-smaller c =
+    goes_up c.loop-n.invariant.0 c.loop-n-test.true c.room_in-room.ensures _ _ c.report-n.ensures.value
+
+pub loop-n-preserved : goal.loop-n-preserved
+loop-n-preserved c =
+    let u = c.report-n.ensures in
+    (going_on c.loop-n.invariant.0 c.loop-n-test.true c.room_in-room.ensures c.turn-t.result _ c.turn-t.ensures (not-false _ c.if-not-t.false) u.value u.numbers_after u.integers_after, c.clear_sent.ensures)

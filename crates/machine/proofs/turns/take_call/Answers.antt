@@ -1,0 +1,42 @@
+-- `machine::take_call` meets its contract. Assumes nothing.
+use Prim.Native.Nat.{ℕ}
+use mathlib.Core.List.{List}
+use mathlib.Core.Path.{◌≡◌, sym, ap, ◌∙◌}
+use native.Mathlib.Omega.{arith}
+use lib.ListN.{take, drop}
+use Rattle.tokens.specs.Tokens.{between}
+use Rattle.lines.specs.Lines.{asked}
+use Rattle.contract.specs.Decode.{contract_of}
+use Rattle.outcomes.specs.declared.Stepped.{Stepped}
+use Rattle.machine.specs.Private.{reply_of, called_by, taken}
+use Rattle.machine.proofs.Taken.{numbers_length, does_call}
+use Rattle.machine.proofs.turns.take_call.Goals as goal
+
+pub slice_bounds-call_with-end : goal.slice_bounds-call_with-end
+slice_bounds-call_with-end c =
+    sym (numbers_length c.args.read _ c.well_formed.1.1.1.0)
+
+pub returns : goal.returns
+returns c =
+    let r = c.args.read in
+    let l = numbers_length r _ c.well_formed.1.1.1.0 in
+    let k = does_call (contract_of c.args.table.now) c.args.s c.args.line.now (asked c.args.line.now) r c.requires.read_value c.requires.request_value l in
+    let does : List ℕ → List ℕ → Stepped =
+    λ x y. called_by (contract_of c.args.table.now) c.args.s x y (take r.values r.numbers) (take r.assets (drop r.values r.numbers)) in
+    let caller = c.between-caller.ensures in
+    let function = c.between-function.ensures in
+    let e : does c.between-caller.result.now c.between-function.result.now ≡ taken (contract_of c.args.table.now) c.args.s c.args.line.now =
+    ap (λ (x : List ℕ). does x c.between-function.result.now) caller
+    ∙ ap (does (between c.args.line.now r.party_start r.party_end)) function
+    ∙ k.does in
+    record { value = c.call_with.ensures.value ∙ ap reply_of e; labels_after = c.call_with.ensures.labels_after ∙ ap (λ (t : Stepped). t.labels) e }
+
+pub call_with-requires : goal.call_with-requires
+call_with-requires c =
+    let r = c.args.read in
+    let l = numbers_length r _ c.well_formed.1.1.1.0 in
+    let k = does_call (contract_of c.args.table.now) c.args.s c.args.line.now (asked c.args.line.now) r c.requires.read_value c.requires.request_value l in
+    record {
+      table_value = (c.requires.table_value.0, c.requires.table_value.1, omega (arith, k.room, l));
+      labels_value = c.requires.labels_value;
+    }

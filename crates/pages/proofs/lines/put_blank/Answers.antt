@@ -1,0 +1,7 @@
+-- `pages::lines::put_blank` meets its contract. Assumes nothing.
+use Rattle.pages.proofs.Assembled.{blank_line_lem}
+use Rattle.pages.proofs.lines.put_blank.Goals as goal
+
+pub returns : goal.returns
+returns c =
+    blank_line_lem c.requires c.put_spaces-end.ensures c.put_byte.ensures

@@ -1,0 +1,7 @@
+-- `pages::lines::put_foot` meets its contract. Assumes nothing.
+use Rattle.pages.proofs.Assembled.{foot_line}
+use Rattle.pages.proofs.lines.put_foot.Goals as goal
+
+pub returns : goal.returns
+returns c =
+    foot_line c.args.n c.requires.1 c.put_spaces-tens.ensures c.put_byte-ones.ensures c.put_byte-end.ensures c.put_byte.ensures

@@ -1,0 +1,19 @@
+-- `pages::lines::put_party` meets its contract. Assumes nothing.
+use native.Mathlib.Omega.{arith}
+use Rattle.results.proofs.Rows.{party_row}
+use Rattle.pages.proofs.Assembled.{name_room, party_piece}
+use Rattle.pages.proofs.lines.put_party.Goals as goal
+
+pub overflow_mul-row : goal.overflow_mul-row
+overflow_mul-row c = let s = c in record { fits = omega (arith, (party_row s.args.table.now s.requires.table_value.0 s.args.party s.requires.table_value.1).low) }
+
+pub overflow_add-row : goal.overflow_add-row
+overflow_add-row c = let s = c in record { fits = omega (arith, (party_row s.args.table.now s.requires.table_value.0 s.args.party s.requires.table_value.1).low) }
+
+pub overflow_sub-end : goal.overflow_sub-end
+overflow_sub-end c =
+    omega (arith, (name_room c.args.table.now c.args.party c.requires.table_value.0 c.requires.table_value.1 c.requires.party_in_bounds c.put_name-end.ensures).place)
+
+pub returns : goal.returns
+returns c =
+    party_piece c.args.table.now c.args.party c.requires.table_value.0 c.requires.table_value.1 c.requires.party_in_bounds c.put_name-end.ensures c.gap.ensures c.put_spaces.ensures

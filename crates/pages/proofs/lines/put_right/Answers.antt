@@ -1,0 +1,7 @@
+-- `pages::lines::put_right` meets its contract. Assumes nothing.
+use Rattle.pages.proofs.Assembled.{right_piece}
+use Rattle.pages.proofs.lines.put_right.Goals as goal
+
+pub returns : goal.returns
+returns c =
+    right_piece c.args.n c.requires c.digit_count.ensures c.gap.ensures c.put_spaces-first.ensures c.put_number.ensures

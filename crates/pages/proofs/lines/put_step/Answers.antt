@@ -1,0 +1,20 @@
+-- `pages::lines::put_step` meets its contract. Assumes nothing.
+use mathlib.Core.List.{◌++◌}
+use Rattle.laws.specs.Bytes.{bytes}
+use Rattle.printing.specs.Decimal.{decimal}
+use Rattle.results.specs.Lines.{rule_name}
+use Rattle.pages.specs.Page.{right, left}
+use Rattle.pages.proofs.Assembled.{room_first, third_room, four_pieces}
+use Rattle.pages.proofs.lines.put_step.Goals as goal
+
+pub put_right-space-requires : goal.put_right-space-requires
+put_right-space-requires c =
+    room_first c.args.at (right 19 (decimal c.args.clock)) (bytes " " ++ (left 11 (rule_name c.args.rule) ++ bytes " ")) c.requires.bytes_in_bounds
+
+pub put_rule-end-requires : goal.put_rule-end-requires
+put_rule-end-requires c =
+    record { rule_value = c.requires.rule_value; rule_in_bounds = third_room (right 19 (decimal c.args.clock)) (bytes " ") (left 11 (rule_name c.args.rule)) (bytes " ") c.requires.bytes_in_bounds c.put_right-space.ensures c.put_byte-name.ensures }
+
+pub returns : goal.returns
+returns c =
+    four_pieces (right 19 (decimal c.args.clock)) (bytes " ") (left 11 (rule_name c.args.rule)) (bytes " ") c.requires.bytes_in_bounds c.put_right-space.ensures c.put_byte-name.ensures c.put_rule-end.ensures c.put_byte.ensures

@@ -1,0 +1,27 @@
+-- `pages::page` meets its contract. Assumes nothing.
+use mathlib.Core.Path.{sym, ◌∙◌}
+use Rattle.pages.specs.Entries.{entries_of}
+use Rattle.pages.proofs.Composed.{short_buffer, no_table, no_payouts, page_written}
+use Rattle.pages.proofs.page.Goals as goal
+
+pub returns-then-buffer-lt-BYTES : goal.returns-then-buffer-lt-BYTES
+returns-then-buffer-lt-BYTES c = let s = c in short_buffer s.args.table.now (entries_of s.args.numbers.now s.args.values.now) s.args.number s.args.buffer.now c.if-buffer-lt-BYTES.true
+
+pub write_sheet-requires : goal.write_sheet-requires
+write_sheet-requires c =
+    record { all_payable = record { table = sym c.table_passes.ensures ∙ c.if-table_passes.true; payouts = sym c.all_payouts.ensures ∙ c.if-all_payouts.true }; page_bytes_in_bounds = c.if-buffer-lt-BYTES.false }
+
+pub returns-then-all_payouts : goal.returns-then-all_payouts
+returns-then-all_payouts c =
+    page_written c.args.table.now (entries_of c.args.numbers.now c.args.values.now) c.args.number c.args.buffer.now c.if-buffer-lt-BYTES.false (sym c.table_passes.ensures ∙ c.if-table_passes.true)
+    (sym c.all_payouts.ensures ∙ c.if-all_payouts.true)
+    c.write_sheet.ensures
+
+pub returns-then-table_passes : goal.returns-then-table_passes
+returns-then-table_passes c =
+    no_payouts c.args.table.now (entries_of c.args.numbers.now c.args.values.now) c.args.number c.args.buffer.now c.if-buffer-lt-BYTES.false (sym c.table_passes.ensures ∙ c.if-table_passes.true)
+    (sym c.all_payouts.ensures ∙ c.if-all_payouts.false)
+
+pub returns : goal.returns
+returns c =
+    no_table c.args.table.now (entries_of c.args.numbers.now c.args.values.now) c.args.number c.args.buffer.now c.if-buffer-lt-BYTES.false (sym c.table_passes.ensures ∙ c.if-table_passes.false)

@@ -1,0 +1,19 @@
+-- `results::many::write_lines` meets its contract. Assumes nothing.
+use mathlib.Core.Path.{sym, ◌∙◌}
+use Rattle.results.proofs.Turns.{all_ready, all_written, none_written}
+use Rattle.results.proofs.many.write_lines.Goals as goal
+
+pub put_lines-requires : goal.put_lines-requires
+put_lines-requires c =
+    let a = c.args in
+    all_ready _ _ _ a.to a.buffer.now c.last_of-end.ensures c.requires
+    (sym c.all_ok.ensures ∙ c.if-all_ok.true)
+
+pub returns-then-all_ok : goal.returns-then-all_ok
+returns-then-all_ok c =
+    all_written _ _ _ _ _ c.last_of-end.ensures _
+    (sym c.all_ok.ensures ∙ c.if-all_ok.true)
+    c.put_lines.ensures
+
+pub returns : goal.returns
+returns c = none_written _ _ _ _ _ c.last_of-end.ensures _ (sym c.all_ok.ensures ∙ c.if-all_ok.false)

@@ -1,0 +1,7 @@
+-- `results::reports::put_arrow` meets its contract. Assumes nothing.
+use Rattle.results.proofs.Assembled.{arrow_piece}
+use Rattle.results.proofs.reports.put_arrow.Goals as goal
+
+pub returns : goal.returns
+returns c =
+    arrow_piece c.args.kind c.requires c.put_byte-mark.ensures c.put_mark-end.ensures c.put_byte.ensures

@@ -1,0 +1,7 @@
+-- `results::reports::put_refused` meets its contract. Assumes nothing.
+use Rattle.results.proofs.Assembled.{refused_piece}
+use Rattle.results.proofs.reports.put_refused.Goals as goal
+
+pub returns : goal.returns
+returns c =
+    refused_piece c.ranges.n.fits c.requires c.put_word-space.ensures c.put_byte-first.ensures c.put_number.ensures

@@ -1,0 +1,27 @@
+-- `results::reports::put_value` meets its contract. Assumes nothing.
+use mathlib.Core.Path.{ap, ◌∙◌}
+use native.Mathlib.Omega.{arith}
+use lib.IntN.{nat_abs}
+use mir.Facts.{to_z-of_z}
+use Rattle.numbers.proofs.Whole.{again}
+use Rattle.results.proofs.Assembled.{ready_string, string_value, number_value}
+use Rattle.results.proofs.reports.put_value.Goals as goal
+
+pub overflow_mul-row : goal.overflow_mul-row
+overflow_mul-row c =
+    let row = ready_string c.requires c.if-kind-eq2.true c.magnitude.result (c.magnitude.ensures ∙ ap nat_abs (to_z-of_z c.ranges.value)) in
+    record { fits = omega (arith, row.low) }
+
+pub overflow_add-row : goal.overflow_add-row
+overflow_add-row c =
+    let row = ready_string c.requires c.if-kind-eq2.true c.magnitude.result (c.magnitude.ensures ∙ ap nat_abs (to_z-of_z c.ranges.value)) in
+    record { fits = omega (arith, row.low) }
+
+pub returns-then-kind-eq2 : goal.returns-then-kind-eq2
+returns-then-kind-eq2 c =
+    string_value c.if-kind-eq2.true (c.magnitude.ensures ∙ ap nat_abs (to_z-of_z c.ranges.value)) c.requires c.put_byte-string.ensures c.put_name-quote.ensures
+    c.put_byte.ensures
+
+pub returns : goal.returns
+returns c =
+    number_value c.args.table.now c.args.kind c.if-kind-eq2.false (to_z-of_z c.ranges.value) (again c.ranges.value) c.requires.room c.put_integer.ensures

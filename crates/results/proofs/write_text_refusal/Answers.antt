@@ -1,0 +1,24 @@
+-- `results::write_text_refusal` meets its contract. Assumes nothing.
+use mathlib.Core.Path.{sym, ◌∙◌}
+use Prim.Native.Nat.{◌<◌}
+use native.Mathlib.Omega.{arith}
+use lib.ListN.{length}
+use Rattle.results.proofs.Assembled.{text_line_lem, text_no_space, text_no_kind, text_wrote}
+use Rattle.results.proofs.write_text_refusal.Goals as goal
+
+pub returns-then-buffer-lt-ROOM : goal.returns-then-buffer-lt-ROOM
+returns-then-buffer-lt-ROOM c =
+    let h : length c.args.buffer.now < 128 = omega (arith, c.if-buffer-lt-ROOM.true) in
+    text_no_space _ _ _ h
+
+pub put_refused-space-requires : goal.put_refused-space-requires
+put_refused-space-requires c = omega (arith, c.if-buffer-lt-ROOM.false)
+
+pub returns-then-is_text_refusal : goal.returns-then-is_text_refusal
+returns-then-is_text_refusal c =
+    text_wrote _ _ _ c.if-buffer-lt-ROOM.false (sym c.is_text_refusal.ensures ∙ c.if-is_text_refusal.true)
+    (text_line_lem c.ranges.number.fits c.ranges.place.fits c.if-buffer-lt-ROOM.false c.put_refused-space.ensures c.put_byte-second.ensures c.put_number-end.ensures
+    c.put_byte.ensures)
+
+pub returns : goal.returns
+returns c = text_no_kind _ _ _ c.if-buffer-lt-ROOM.false (sym c.is_text_refusal.ensures ∙ c.if-is_text_refusal.false)
