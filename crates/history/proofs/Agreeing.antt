@@ -52,7 +52,7 @@ module _ (strings n : ℕ) (few : n ≤ max_fields) (s : State) (empty : (i : �
   set_fields_filled (x ∷ xs) (z ∷ zs) h e (filled_so ks ns o) =
       let l : x < n = ltb-true x n (every_head (λ x. ltb x n) x xs h) in
       let same : set s.texts x 0 ≡ s.texts = ap (set s.texts x) (sym (empty x (omega arith))) ∙ set-get_or s.texts x 0 in
-      set_fields_filled xs zs (every_tail (λ x. ltb x n) x xs h) (every_tail within z zs e)
+      set_fields_filled {t = filled s (set ks x 1) (set ns x z)} xs zs (every_tail (λ x. ltb x n) x xs h) (every_tail within z zs e)
       (filled_so (set ks x 1) (set ns x z) (subst (Fields strings n (set ks x 1) (set ns x z)) same (fields_set x 1 z 0 o l few refl (every_head within z zs e))))
 
   set_clause_filled : {t : State} (k : Clause) (p : Part) (v : Verb) → every (λ x. ltb x n) k.fields ≡ true → every within p.values ≡ true → Filled strings n s t
@@ -65,8 +65,8 @@ module _ (strings n : ℕ) (few : n ≤ max_fields) (s : State) (empty : (i : �
   unfolding set_clauses
   set_clauses_filled c l [] ps h e o = o
   set_clauses_filled c l (k ∷ ks) [] h e o = o
-  set_clauses_filled c l (k ∷ ks) (p ∷ ps) h e o =
-      set_clauses_filled c l ks ps (every_tail (clause_in c) k ks h) (every_tail (λ p. every within p.values) p ps e)
+  set_clauses_filled {t = t} c l (k ∷ ks) (p ∷ ps) h e o =
+      set_clauses_filled {t = set_clause t k p k.verb} c l ks ps (every_tail (clause_in c) k ks h) (every_tail (λ p. every within p.values) p ps e)
       (set_clause_filled k p k.verb
       (subst (λ (m : ℕ). every (λ x. ltb x m) k.fields ≡ true) l (fits_clause c k (every_head (clause_in c) k ks h)).fields)
       (every_head (λ p. every within p.values) p ps e) o)

@@ -30,7 +30,7 @@ use Rattle.state.specs.States.{blank, no_function, event_of, live, state_ok, due
 use Rattle.statements.specs.declared.Work.{Work}
 use Rattle.statements.specs.Running.{memory_in, ran}
 use Rattle.outcomes.specs.declared.Rule.TheVariants.{Agree, Call, EventMatch, Tick}
-use Rattle.outcomes.specs.declared.Outcome.TheVariants.{Accepted, Failed, Refused}
+use Rattle.outcomes.specs.declared.Outcome.TheVariants.{Accepted, Failed}
 use Rattle.outcomes.specs.declared.Stepped.{Stepped}
 use Rattle.outcomes.specs.Outcomes.{answered, refused}
 use Rattle.holdings.specs.Holdings.{amounts}

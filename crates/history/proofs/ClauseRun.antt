@@ -49,7 +49,7 @@ pending_clause c s k o h =
 due_clause : (c : Contract) (s : State) (k : ℕ) → state_ok c s ≡ true → due_in c s ≡ due.At k → ClauseOf c (clause_due s (due_in c s))
 due_clause c s k o d = subst (λ (z : Due). ClauseOf c (clause_due s z)) (sym d) (pending_clause c s k o (first_to_fire c s k d).is_pending)
 
-came_clause : {q : Request} {r : Stepped} (c : Contract) (s : State) → state_ok c s ≡ true → ComesOut c s q r → is_refused r.outcome ≡ false → RunsAsAsked c q (clause_run c s q)
+came_clause : {q : Request} (c : Contract) (s : State) {r : Stepped} → state_ok c s ≡ true → ComesOut c s q r → is_refused r.outcome ≡ false → RunsAsAsked c q (clause_run c s q)
 came_clause c s o (refusal n) e = true_false e
 came_clause c s o (agrees ps a) e = refl
 came_clause c s o (calls i n f ps k) e = subst (λ (z : Chosen). ClauseOf c (clause_chosen z)) (sym k.runs) k.known

@@ -1,7 +1,7 @@
 -- Every State that code holds has arrays of full length and 64-bit integers. Assumes nothing.
 use mathlib.Core.Path.{◌≡◌, refl}
 use mathlib.Core.Bool.{true}
-use mathlib.Core.List.{List, [], ◌∷◌, map}
+use mathlib.Core.List.{List, [], ◌∷◌}
 use Prim.Native.Nat.{ℕ, zero, suc, ◌^◌}
 use lib.ListN.{get_or}
 use lib.IntN.{ℤ, pos}
@@ -18,7 +18,7 @@ use Rattle.state.specs.contracts.State as state
 use Rattle.state.proofs.Lengths.{kinds_length, numbers_length, texts_length, assets_length, events_length}
 use Rattle.history.specs.Sessions.{Stored}
 
-integers : (zs : List ℤ) (us : List Val) → shadow (each i64-field.row.Denot i64-field.row.own_val (map (λ z. z) zs) us) → (i : ℕ) → within (get_or zs i (pos 0)) ≡ true
+integers : (zs : List ℤ) (us : List Val) → shadow (each i64-field.row.Denot i64-field.row.own_val zs us) → (i : ℕ) → within (get_or zs i (pos 0)) ≡ true
 integers [] us h i = refl
 integers (z ∷ zs) [] h i = absurd h
 integers (z ∷ zs) (u ∷ us) h zero = lt-ltb (mag z) (2 ^ 63) h.0.1

@@ -225,7 +225,7 @@ module _ (s : State) (l : length s.assets ≡ max_assets) where
 
   pub payouts_left : (w : List ℕ) (a : Step) → payouts_of (returned w s a) (answer_to w s a).outcome ≡ paid_by (answer_to w s a)
   unfolding payouts_in
-  payouts_left w a = go (answer_to w s a).outcome (step_idle w s a).no-labels
+  payouts_left w a = go (answer_to w s a).outcome (step_idle w s a).no_labels
     where
       go : (o : Outcome) → (by_rule o ≡ false → (answer_to w s a).count ≡ 0) → payouts_of (returned w s a) o ≡ paid_by (answer_to w s a)
       go (Accepted r) h = ap payouts_in (labels_left w a)

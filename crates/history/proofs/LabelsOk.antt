@@ -214,5 +214,5 @@ module _ (k : Contract) (c : Scope) (q : Inside k c) (v : List ℤ) (values : (i
       let g = ran_fair b bi r o in
       onward_fair _ g
       (truth_fair (truth_of (memory_in v t (ran v t w b)) u) (truth_stops c (memory_in v t (ran v t w b)) u (both_left (condition_in c u) (block_in c s) us)) g
-      (ran_fair s (both_right (condition_in c u) (block_in c s) us) (ran_right c q.fields_few v values t b bi r) g))
+      (ran_fair {w = ran v t w b} s (both_right (condition_in c u) (block_in c s) us) (ran_right c q.fields_few v values t b bi r) g))
   ran_fair broken_block i r o = true_false (sym i)

@@ -110,5 +110,5 @@ module _ (c : Scope) (few : c.assets ≤ max_assets) (nothing : c.parameters ≡
   ran_same {w = w} v t (conditional b u s) i o =
       onward_same _ (ran_same v t b (both_left (block_in c b) (condition_in c u && block_in c s) i) o)
       (λ g. truth_same (truth_of (memory_in v t (ran v t w b)) u) g
-      (ran_same v t s (both_right (condition_in c u) (block_in c s) (both_right (block_in c b) (condition_in c u && block_in c s) i)) g))
+      (ran_same {w = ran v t w b} v t s (both_right (condition_in c u) (block_in c s) (both_right (block_in c b) (condition_in c u && block_in c s) i)) g))
   ran_same v t broken_block i o = stopped_same 3 o

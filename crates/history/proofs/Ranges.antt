@@ -159,5 +159,5 @@ module _ (c : Scope) (few : c.fields ≤ max_fields) (v : List ℤ) (values : (i
   ran_right {w} (conditional b u s) i o =
       onward_right _ (ran_right b (both_left (block_in c b) (condition_in c u && block_in c s) i) o)
       (λ g. truth_right (truth_of (memory_in v t (ran v t w b)) u) g
-      (ran_right s (both_right (condition_in c u) (block_in c s) (both_right (block_in c b) (condition_in c u && block_in c s) i)) g))
+      (ran_right {w = ran v t w b} s (both_right (condition_in c u) (block_in c s) (both_right (block_in c b) (condition_in c u && block_in c s) i)) g))
   ran_right broken_block i o = stopped_right o 3

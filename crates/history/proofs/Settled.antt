@@ -98,7 +98,7 @@ told_settled w slice s (asks q ∷ xs) rule clock =
     let a : Step = record { request = q; slice = slice } in
     let t = (answer_to w s a).state in
     let rs = (history w t (steps_of slice xs)).answers in
-    lines_settled (returned w s a) (step_idle w s a).no-labels (told_by xs rs) (settled rs) (told_settled w slice t xs) rule clock
+    lines_settled (returned w s a) (step_idle w s a).no_labels (told_by xs rs) (settled rs) (told_settled w slice t xs) rule clock
 
 -- ---- entries as labels
 
@@ -109,7 +109,7 @@ labels_back r clock (l ∷ ls) = ap (λ (k : List Label). l ∷ k) (labels_back 
 
 step_paid : (w : List ℕ) (s : State) (a : Step) → labels_in (settled_by (returned w s a)) ≡ payouts_of (returned w s a) (answer_to w s a).outcome
 unfolding payouts_in
-step_paid w s a = go (answer_to w s a).outcome (step_idle w s a).no-labels
+step_paid w s a = go (answer_to w s a).outcome (step_idle w s a).no_labels
   where
     go : (o : Outcome) → (by_rule o ≡ false → (answer_to w s a).count ≡ 0)
         → labels_in (entries_by o (answer_to w s a).state.clock (payouts_of (returned w s a) o)) ≡ payouts_of (returned w s a) o
@@ -194,7 +194,7 @@ sends_in (Accepted r) = sends r
 sends_in (Failed n) = false
 sends_in (Refused n) = false
 
-came_left : {s : State} {q : Request} {r : Stepped} (c : Contract) → ComesOut c s q r → sends_in r.outcome ≡ true → r.state.clock ≡ s.clock
+came_left : {s : State} {q : Request} (c : Contract) {r : Stepped} → ComesOut c s q r → sends_in r.outcome ≡ true → r.state.clock ≡ s.clock
 unfolding with_pending
 came_left c (refusal n) h = refl
 came_left c (agrees ps a) h = true_false (sym h)

@@ -225,5 +225,5 @@ module _ {f : ℕ → ℕ} {g : Label → ℕ} where
   ran_worth {m = m} {w = w} v t (conditional b c s) r h o =
       onward_worth _ (omega arith) (ran_worth v t b r.0 (omega arith) o)
       (λ k. truth_worth (truth_of (memory_in v t (ran v t w b)) c) (omega arith) k
-      (more_room (m + suc (statements b + statements s)) (omega arith) (ran_worth v t s r.1 (omega arith) k)))
+      (more_room (m + suc (statements b + statements s)) (omega arith) (ran_worth {m = m + statements b} {w = ran v t w b} v t s r.1 (omega arith) k)))
   ran_worth {m = m} v t broken_block r h o = more_room (m + 1) (omega arith) (stopped_worth 3 o)

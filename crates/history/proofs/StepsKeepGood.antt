@@ -184,7 +184,7 @@ module _ (w : List ℕ) (p : passes w ≡ true) where
   pub last_good : {s : State} → Good (contract_of w) s → (xs : List Step) → every (λ a. within64 a.request) xs ≡ true → Good (contract_of w) (history w s xs).state
   unfolding history
   last_good g [] e = g
-  last_good g (a ∷ xs) e = last_good (step_good g a (every_head (λ a. within64 a.request) a xs e)) xs (every_tail (λ a. within64 a.request) a xs e)
+  last_good {s = s} g (a ∷ xs) e = last_good {s = (answer_to w s a).state} (step_good g a (every_head (λ a. within64 a.request) a xs e)) xs (every_tail (λ a. within64 a.request) a xs e)
 
   -- from the fresh state on, no state fails question 4
   pub last_ok : (clock : ℕ) → clock ≤ top → (xs : List Step) → every (λ a. within64 a.request) xs ≡ true → state_ok (contract_of w) (history w (fresh_at clock) xs).state ≡ true

@@ -21,11 +21,10 @@ use contract.Lifetimes.{Lfts, Shares}
 use contract.Monad.{fact_use}
 use types.Kit.{‵, raw, ◌⊛◌, given, later, ◌$◌, ◌∵◌, !, qed, move, use1, split, apply, assume, frame, learn, await, updating, now as at_last, check, fsplit, fjoin, done}
 use denote.RattleType.{owns}
-use denote.Laws.{Is, shows}
 use denote.Shadow.{shadow, shows_shadow}
 use denote.Memory.{part_of}
-use denote.Signed.{sint_vals, sint_Tells, sint_copy}
-use denote.Ref.{Bor}
+use denote.Copied.{sint_Copied}
+use denote.Ref.{Bor, MutBor}
 use denote.Slice.{ShrSlice}
 use denote.Index.{row, looks_slice, shuts_slice}
 use denote.Builtin.{i64}
@@ -148,11 +147,11 @@ module _ {M : Type 1} {𝓤 : Ura M} (𝓛 : Logic 𝓤) where
   lent_within ℓ κ q x vs =
       let b = x.ref_ptr.0 in
       let o = x.ref_ptr.1 in
-      qed 𝓛 (‵ (flft κ q) ∷ ‵ ((ShrSlice ℓ κ i64).own_val x vs) ∷ []) ∵ updating ! $ move ! (1 ∷ []) $ fsplit ! $ move ! (1 ∷ []) $ fsplit ! $ move ! (1 ∷ 3 ∷ []) $
-      looks_slice ! tt i64 (Is i64) (shows 𝓛 i64) (sint_vals w64) (sint_Tells w64) (sint_copy 𝓛 w64) x.now b o (λ q'.
+      qed 𝓛 (‵ (flft κ q) ∷ ‵ ((ShrSlice ℓ κ i64).own_val x vs) ∷ []) ∵ updating ! $ move ! (1 ∷ []) $ fsplit ! $ move ! (1 ∷ 2 ∷ []) $
+      looks_slice ! tt i64 (sint_Copied 𝓛 w64) x.now b o (λ q'.
       use1 𝓛 (given (every within x.now ≡ true) (‵ (row i64 q' x.now b o)))
       (fact_use 𝓤 (shadow (row i64 q' x.now b o)) (shows_shadow 𝓛 (row i64 q' x.now b o)) (λ h. guard_i 𝓤 _ _ (row_within q' x.now b o h))) $
-      learn ! (λ e. shuts_slice ! tt i64 q' x.now b o $ move ! (2 ∷ 1 ∷ []) $ fjoin ! $ move ! (2 ∷ 0 ∷ []) $ fjoin ! $ move ! (1 ∷ 0 ∷ []) $ at_last ! $ check ! e $ done !))
+      learn ! (λ e. shuts_slice ! tt i64 q' x.now b o $ move ! (2 ∷ 1 ∷ []) $ fjoin ! $ move ! (1 ∷ 0 ∷ []) $ at_last ! $ check ! e $ done !))
 
   -- an i64 shows that it is of 64 bits
   pub held_within : (z : ℤ) (vs : List Val) → Shown 𝓛 (sem 𝓛 (i64.own_val z vs)) (within z ≡ true)
@@ -163,7 +162,7 @@ module _ {M : Type 1} {𝓤 : Ura M} (𝓛 : Logic 𝓤) where
 
 -- ---- what a caller hands
 
-module _ {M : Type 1} {𝓤 : Ura M} (𝓛 : Logic 𝓤) (𝓜 : Model 𝓤 𝓛.H) (κs : Lfts 6) (qs : Shares 6) (table : Bor (List ℕ)) (s : State) (labels : Bor (List Label)) where
+module _ {M : Type 1} {𝓤 : Ura M} (𝓛 : Logic 𝓤) (𝓜 : Model 𝓤 𝓛.H) (κs : Lfts 6) (qs : Shares 6) (table : Bor (List ℕ)) (s : State) (labels : MutBor (List Label)) where
   third : {P Q R S T : Fml} → Part 𝓛 S T → Part 𝓛 (fsep P (fsep Q (fsep R S))) T
   third p = deeper 𝓛 (deeper 𝓛 (deeper 𝓛 p))
 
@@ -191,7 +190,7 @@ module _ {M : Type 1} {𝓤 : Ura M} (𝓛 : Logic 𝓤) (𝓜 : Model 𝓤 𝓛
       (pair 𝓛 (third (deeper 𝓛 (first 𝓛))) (third (deeper 𝓛 (deeper 𝓛 (first 𝓛)))))
       (lent_within 𝓛 (named 4) κs.1.1.1.1.0 qs.1.1.1.1.0 values vss.1.1.1.1.1.0)
 
-pub jump_within64 : {M : Type 1} {𝓤 : Ura M} (𝓛 : Logic 𝓤) (𝓜 : Model 𝓤 𝓛.H) (κs : Lfts 2) (qs : Shares 2) (table : Bor (List ℕ)) (s : State) (labels : Bor (List Label)) (to : ℤ) (vss : Vals code-jump.signature κs)
+pub jump_within64 : {M : Type 1} {𝓤 : Ura M} (𝓛 : Logic 𝓤) (𝓜 : Model 𝓤 𝓛.H) (κs : Lfts 2) (qs : Shares 2) (table : Bor (List ℕ)) (s : State) (labels : MutBor (List Label)) (to : ℤ) (vss : Vals code-jump.signature κs)
     → Shown 𝓛 (on_entry 𝓛 code-jump.signature κs qs (table, (s, (to, (labels, tt)))) vss) (within64 (jump to) ≡ true)
 unfolding within64
 jump_within64 𝓛 𝓜 κs qs table s labels to vss =

@@ -34,23 +34,23 @@ use Rattle.history.proofs.Cases.{ComesOut, refusal, agrees, calls, fires, fails,
 
 -- an answer that no rule accepts has no label, and a refusal has the state it was given
 pub record Idle (s : State) (r : Stepped) : Type 0 where
-  pub no_labels_lem : by_rule r.outcome ≡ false → r.count ≡ 0
+  pub no_labels : by_rule r.outcome ≡ false → r.count ≡ 0
   pub state_same : is_refused r.outcome ≡ true → r.state ≡ s
 
 accepted_idle : {s : State} (r : Stepped) → by_rule r.outcome ≡ true → is_refused r.outcome ≡ false → Idle s r
-accepted_idle r a e = record { no_labels_lem = λ f. true_false (sym a ∙ f); state_same = λ f. true_false (sym f ∙ e) }
+accepted_idle r a e = record { no_labels = λ f. true_false (sym a ∙ f); state_same = λ f. true_false (sym f ∙ e) }
 
-came_idle : {s : State} {q : Request} {r : Stepped} (c : Contract) → ComesOut c s q r → Idle s r
-came_idle c (refusal n) = record { no_labels_lem = λ _. refl; state_same = λ _. refl }
+came_idle : {s : State} {q : Request} (c : Contract) {r : Stepped} → ComesOut c s q r → Idle s r
+came_idle c (refusal n) = record { no_labels = λ _. refl; state_same = λ _. refl }
 came_idle c (agrees ps a) = accepted_idle _ refl refl
 came_idle c (calls i n f ps o) = accepted_idle _ refl refl
 came_idle c (fires k a d h) = accepted_idle _ refl refl
-came_idle c (fails k a d h) = record { no_labels_lem = λ _. refl; state_same = λ f. true_false (sym f) }
+came_idle c (fails k a d h) = record { no_labels = λ _. refl; state_same = λ f. true_false (sym f) }
 came_idle c (ticks a d l) = accepted_idle _ refl refl
 came_idle c (jumps T a d l) = accepted_idle _ refl refl
 
 answer_idle : {w : List ℕ} {s : State} {a : Step} {r : Stepped} → Answers w s a r → Idle s r
-answer_idle (first_refusal n) = record { no_labels_lem = λ _. refl; state_same = λ _. refl }
+answer_idle (first_refusal n) = record { no_labels = λ _. refl; state_same = λ _. refl }
 answer_idle {w} (by_rule_lem p o h c) = came_idle (contract_of w) c
 
 pub step_idle : (w : List ℕ) (s : State) (a : Step) → Idle s (answer_to w s a)
@@ -70,7 +70,7 @@ none_copied old from = ap (λ (n : ℕ). take n from ++ drop n old) (none_writte
 labels_same : (w : List ℕ) (s : State) (a : Step) → by_rule (answer_to w s a).outcome ≡ false → (returned w s a).slice ≡ a.slice
 labels_same w s a e =
     let r = answer_to w s a in
-    ap (λ (n : ℕ). copied_of a.slice r.labels n) ((step_idle w s a).no-labels e) ∙ none_copied a.slice r.labels
+    ap (λ (n : ℕ). copied_of a.slice r.labels n) ((step_idle w s a).no_labels e) ∙ none_copied a.slice r.labels
 
 -- ---- a lent table
 

@@ -1,13 +1,13 @@
 -- An agreement is accepted exactly if AGREE applies. Assumes nothing.
 use mathlib.Core.Path.{◌≡◌, refl, sym, ap, subst, ◌∙◌}
-use mathlib.Core.Bool.{Bool, true, false, ◌&&◌, ◌||◌}
+use mathlib.Core.Bool.{Bool, true, false, ◌&&◌}
 use mathlib.Core.Logic.{◌↔◌}
 use mathlib.Core.List.{List, [], ◌∷◌}
 use Prim.Native.Nat.{ℕ, suc, ◌^◌}
 use native.Mathlib.Omega.{arith}
 use lib.ListN.{length, get_or, take}
 use lib.Seq.{get_or-take}
-use lib.Bits.{bit_or, and_comm}
+use lib.Bits.{and_comm}
 use lib.Dec.{eqb, ltb}
 use lib.IntN.{ℤ, pos, negsuc}
 use borrow.Author.Tests.{eqb-true, eq-eqb, le-ltb}
@@ -343,6 +343,7 @@ module _ (c : Contract) (s : State) (ps : List Part) (ok : state_ok c s ≡ true
   derived_comes : {C : Configuration} (x : Bool) (l : List Pending) → s.agreed ≡ x → live s ≡ l → Table2 c (runtime (phase_of x s.state) (memory_at s) nothing l) (agreement ps) C
       → Comes (agreed_on c s ps) (Accepted Agree) [] C
   unfolding agreed_on same_map
+  derived_comes true l a q t = elim t [ ]
   derived_comes false l a q (agree o p n g) =
       let h : agreed_clauses (set_clauses s c.clauses ps) c.clauses ps ≡ true =
       agreed_clauses_lem (set_clauses s c.clauses ps) (subst (λ (m : Memory). Agreed m c.clauses ps) (sym (set_clauses_lem s c.clauses ps)) g) in

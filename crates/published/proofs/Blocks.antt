@@ -91,6 +91,6 @@ module _ (v : List ℤ) (t : ℕ) where
   ran_ends {m} {w} c k (conditional b u s) i h o z =
       let j = both_right (block_in c b) (condition_in c u && block_in c s) i in
       onward_ends _ (ran_ends c k b (both_left (block_in c b) (condition_in c u && block_in c s) i) (omega arith) o z)
-      (λ o' z'. when_ends u s z' o' (omega arith) (more_labels (omega arith) (ran_ends c k s (both_right (condition_in c u) (block_in c s) j) (omega arith) o' z'))
+      (λ o' z'. when_ends u s z' o' (omega arith) (more_labels (omega arith) (ran_ends {m = m + statements b} {w = ran v t w b} c k s (both_right (condition_in c u) (block_in c s) j) (omega arith) o' z'))
       (truth_of (memory_in v t (ran v t w b)) u) (truth_stops c (memory_in v t (ran v t w b)) u (both_left (condition_in c u) (block_in c s) j)) refl)
   ran_ends {m} {w} c k broken_block i h o z = true_false (sym i)

@@ -12,6 +12,7 @@ use Rattle.laws.proofs.Choice.{pick_true, pick_false}
 use Rattle.contract.specs.Limits.{max_assets}
 use Rattle.contract.specs.Tree.{Contract}
 use Rattle.contract.specs.Fits.{scope_of}
+use Rattle.evaluation.specs.Memory.{Memory}
 use Rattle.laws.specs.Lists.{every}
 use Rattle.state.specs.declared.State.{State}
 use Rattle.state.specs.declared.Pending.{Pending}
@@ -29,7 +30,7 @@ use Rattle.history.proofs.Parameters.{Parameters, ran_same}
 use Rattle.history.proofs.ContractBounds.{Bounded, BoundedEvent}
 use Rattle.history.proofs.Cases.{event_at, handler_ran, ComesOut, refusal, fires, fails, firing_came}
 use Rattle.history.proofs.RefusalNumbers.{Stops}
-use Rattle.published.specs.Published.{Configuration, runtime, in_state, nothing, in_order, bound, unbound, without, Statements, no_event_lem, match, failure, Table2, state_change, event_match, event_failed, Whole, whole, phase_of, memory_at, idle, Comes}
+use Rattle.published.specs.Published.{Configuration, runtime, in_state, nothing, left, in_order, bound, unbound, First, Foremost, without, Statements, no_event, change, match, failure, Table2, state_change, event_match, event_failed, Whole, whole, phase_of, memory_at, idle, Comes}
 use Rattle.published.proofs.Meeting.{meets_stuck}
 use Rattle.published.proofs.Actions.{labels_of}
 use Rattle.published.proofs.Blocks.{Sticks, at}
@@ -84,7 +85,7 @@ module _ (c : Contract) (b : Bounded c) (s : State) where
     fired_derives {ls = ls} {C = C} (fires k a d h) o =
         whole_same (sym (idle_standing s a)) o.labels_are (sym (idle_fired k a) ∙ o.leads_to)
         (whole (event_match (first_ready c s k d)) (body_runs s [] [] (event_at c s k).handler (handler_fit k) h)
-        (state_change (handler_spends k) no_event_lem (omega (arith, without_length k (live s)))))
+        (state_change (handler_spends k) no_event (omega (arith, without_length k (live s)))))
 
     pub firing_derives : {ls : List Label} {C : Configuration} → Comes (fired c s) (Accepted EventMatch) ls C → Whole c (idle s) match ls C
     firing_derives o = fired_derives (firing_came c s) o
@@ -108,10 +109,13 @@ module _ (c : Contract) (b : Bounded c) (s : State) where
 
   -- ---- from the rules to the machine
 
-  match_comes : {ls : List Label} {C : Configuration} (x : Bool) → s.agreed ≡ x → Whole c (runtime (phase_of x s.state) (memory_at s) nothing (live s)) match ls C
+  -- an event that is fired, its handler to its end, and the change of state
+  changed_comes : {k : ℕ} {p : Pending} {m : Memory} {ls : List Label} {C : Configuration} → s.agreed ≡ true → First (Foremost c s.state s.clock (live s)) k p (live s)
+      → Statements (bound (memory_at s) [] []) (in_order (event_of c p).handler) ls m []
+      → Table2 c (runtime (in_state s.state) m (left [] 0 [] (event_of c p).last) (without k (live s))) change C
       → Comes (fired c s) (Accepted EventMatch) ls C
   unfolding fired handled
-  match_comes true a (whole {ls = ls} (event_match {k = k} {p = p} f) r (state_change {m = m} h no_event_lem l)) =
+  changed_comes {k} {p} {m} {ls} a f r (state_change h no_event l) =
       let e : pending_at s k ≡ p = first_at blank f in
       let t = run_is s [] [] (event_at c s k).handler (handler_fit k)
       (subst (λ (x : Pending). Statements (bound (memory_at s) [] []) (in_order (event_of c x).handler) ls m []) (sym e) r) in
@@ -122,6 +126,10 @@ module _ (c : Contract) (b : Bounded c) (s : State) where
         labels_are = t.1;
         leads_to = idle_fired k a ∙ (λ i. runtime (in_state (event_of c (e i)).last) (unbound (t.2 i)) nothing (without k (live s) ++ []));
       })
+
+  match_comes : {ls : List Label} {C : Configuration} (x : Bool) → s.agreed ≡ x → Whole c (runtime (phase_of x s.state) (memory_at s) nothing (live s)) match ls C
+      → Comes (fired c s) (Accepted EventMatch) ls C
+  match_comes true a (whole (event_match f) r u) = changed_comes a f r u
   match_comes false a (whole t r u) = absurd (starts t)
 
   pub firing_comes : {ls : List Label} {C : Configuration} → Whole c (idle s) match ls C → Comes (fired c s) (Accepted EventMatch) ls C

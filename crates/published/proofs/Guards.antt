@@ -16,7 +16,7 @@ use Rattle.evaluation.specs.Memory.{Memory}
 use Rattle.evaluation.specs.Meaning.{value_of}
 use Rattle.state.specs.declared.Pending.{Pending}
 use Rattle.machine.specs.Steps.{Scheduled, times, no, scheduled, schedule}
-use Rattle.published.specs.Published.{Times, no_event_lem, pending, dropped}
+use Rattle.published.specs.Published.{Times, no_event, pending, dropped}
 
 module _ (m : Memory) (n : ℕ) where
   -- a time at or after the clock joins, an earlier one is dropped
@@ -40,7 +40,7 @@ module _ (m : Memory) (n : ℕ) where
 
   schedule_given : (j : ℕ) (es : List Event) → Given j es (schedule m m.clock n j es)
   unfolding schedule
-  schedule_given j [] = no_event_lem
+  schedule_given j [] = no_event
   schedule_given j (e ∷ es) = scheduled_given j e es (value_of m e.guard) refl (schedule m m.clock n (suc j) es) (schedule_given (suc j) es)
 
   pub schedule_times : (j : ℕ) (es : List Event) (ps : List Pending) → schedule m m.clock n j es ≡ times ps → Times m n j es ps
@@ -48,7 +48,7 @@ module _ (m : Memory) (n : ℕ) where
 
   pub times_schedule : (j : ℕ) {es : List Event} {ps : List Pending} → Times m n j es ps → schedule m m.clock n j es ≡ times ps
   unfolding schedule
-  times_schedule j no_event_lem = refl
+  times_schedule j no_event = refl
   times_schedule j (pending {t = t} {e = e} {es = es} {ps = ps} q h r) =
       (λ i. scheduled m.clock n j (q i) (times_schedule (suc j) r i)) ∙ ap times (pick_true _ _ _ (le-leb m.clock t h))
   times_schedule j (dropped {e = e} {es = es} {ps = ps} q h r) =

@@ -203,7 +203,7 @@ pub record Called (c : Contract) (q : ℕ) (i : Invocation) (f : Function) : Typ
 
 -- [[W]]: the events with their times, event j of function n first. Events past their time are dropped.
 pub data Times (m : Memory) (n : ℕ) : ℕ → List Event → List Pending → Type 0 where
-  no_event_lem : {j : ℕ} → Times m n j [] []
+  no_event : {j : ℕ} → Times m n j [] []
   pending : {j t : ℕ} {e : Event} {es : List Event} {ps : List Pending}
       → value_of m e.guard ≡ Is (Integer (pos t))
       → m.clock ≤ t
