@@ -1,10 +1,12 @@
 // What the desk's arguments ask for: its options, its FILE, and the first thing that is wrong with them.
+#![tactic(auto)]
+
 ghost use Rattle.std.specs.Prelude.{◌≡◌};
 ghost use Rattle.laws.specs.Bytes.{same_bytes};
 ghost use Rattle.arguments.specs.Asking.{nothing_asked, kind_of, wrong, with_help, with_explain, with_review, with_pages, with_file, with_out, heard, ended};
 
 // What one argument is.
-#[derive(Drop)]
+#[derive(Clone, Copy)]
 pub enum Argument {
     Help,
     Explain,
@@ -18,7 +20,7 @@ pub enum Argument {
 }
 
 // What is asked so far.
-#[derive(Drop)]
+#[derive(Clone, Copy)]
 pub struct Asked {
     pub help: bool,
     pub explain: bool,
@@ -201,7 +203,8 @@ fn take_out(asked: Asked, n: usize, argument: &[u8]) -> Asked
         return blame(asked, n, Asked::LONG);
     }
     let first = tokens::byte_at(argument, 0);
-    if first == b'-' {
+    let dashed = first == b'-';
+    if dashed {
         return blame(asked, asked.option, Asked::WITHOUT);
     }
     let mut next = asked;

@@ -1,10 +1,13 @@
 // What a reader of times runs: `bench read FILE N` reads a contract's text N times, `bench play FILE SESSION N` plays a session N times, both
 // from memory. It prints a checksum alone, of the answers and the table, or of the numbers that the sessions tell.
+#![tactic(auto)]
+
 use contract::Contract;
-use libc::STDOUT_FILENO;
 use reading::Answer;
 use results::Report;
 use state::State;
+use std::io;
+use std::rt::{Env, Files};
 use tokens::Digits;
 
 // The bytes of a session, of a file's name and of the first argument; the result lines that are told at once.
@@ -21,7 +24,7 @@ const PARTS: u64 = 9223372036854775808;
 
 // A checksum with one number more.
 fn mix(sum: u64, number: u64) -> u64 {
-    std::num::wrapping_add_u64((sum << 7) ^ (sum >> 57), number)
+    ((sum << 7) ^ (sum >> 57)).wrapping_add(number)
 }
 
 // A checksum with the first numbers.
@@ -100,44 +103,40 @@ fn play_often(table: &[u64], input: &[u8], times: u64) -> u64 {
 }
 
 // The bytes of the file that argument i names.
-fn load(i: usize, bytes: &mut [u8]) -> usize {
+fn load(rt: &(impl Env + Files), i: usize, bytes: &mut [u8]) -> usize {
     let mut name = [0u8; NAME];
-    let n = os::arg(i, &mut name);
-    let file = os::open_read(tokens::between(&name, 0, n));
-    let size = io::read_full(file, bytes);
-    libc::close(file);
-    size
+    let n = rt.arg(i, &mut name).unwrap_or(0);
+    streams::load(rt, tokens::between(&name, 0, n), bytes).unwrap_or(0)
 }
 
 // The number that argument i is.
-fn number(i: usize) -> u64 {
+fn number(rt: &impl Env, i: usize) -> u64 {
     let mut digits = [0u8; Digits::MOST];
-    let n = os::arg(i, &mut digits);
+    let n = rt.arg(i, &mut digits).unwrap_or(0);
     tokens::value_of(tokens::between(&digits, 0, n), 0)
 }
 
 // Reads the text, so many times; then plays the session, so many times.
-fn work(reads: u64, plays: u64) -> u64 {
+fn work(rt: &(impl Env + Files), reads: u64, plays: u64) -> u64 {
     let mut table = [0u64; Contract::TABLE];
     let mut text = [0u8; Answer::TEXT + 1];
-    let n = load(2, &mut text);
+    let n = load(rt, 2, &mut text);
     let sum = read_often(tokens::between(&text, 0, n), &mut table, reads);
     if plays == 0 {
         return sum;
     }
     let mut session = [0u8; SESSION];
-    let size = load(3, &mut session);
+    let size = load(rt, 3, &mut session);
     play_often(&table, tokens::between(&session, 0, size), plays)
 }
 
-fn main() {
+fn main(rt: HostRuntime) -> io::Result<()> {
     let mut word = [0u8; WORD];
-    os::arg(1, &mut word);
+    let _ = rt.arg(1, &mut word);
     let sum = if word[0] == b'r' {
-        work(number(3), 0)
+        work(&rt, number(&rt, 3), 0)
     } else {
-        work(1, number(4))
+        work(&rt, 1, number(&rt, 4))
     };
-    io::print_decimal(STDOUT_FILENO, sum);
-    io::write_all(STDOUT_FILENO, b"\n");
+    println!(rt; "{sum}")
 }

@@ -1,15 +1,20 @@
 // The sale desk: reads a contract, then a session from standard input, and prints what comes of each line, of the events that are due after
 // it, and at the end what each asset holds. Its arguments name the contract's file and choose what else is printed, and a file for the
 // settlement pages of the session's payouts.
+#![tactic(auto)]
+
 use arguments::Asked;
 use contract::Contract;
 use diagnoses::Diagnosis;
-use libc::{STDERR_FILENO, STDIN_FILENO, STDOUT_FILENO};
 use pages::{Gathered, Paged, Sheet};
 use question_words::Sentence;
 use reading::Answer;
 use results::{Report, Written};
 use state::State;
+use std::io;
+use std::io::{Read, Write};
+use std::rt::{Env, Files};
+use streams::Errors;
 
 // The bytes of a session that are read at once, and the result lines that are told at once.
 const BLOCK: usize = 65536;
@@ -18,93 +23,55 @@ const LINES: usize = 1024;
 
 // ---- files
 
-// How often a read or a write that a signal interrupts is tried again.
-const TRIES: u64 = 9223372036854775808;
+// No number of bytes.
+const FAILED: usize = 18446744073709551615;
 
 // How many bytes were read, 0 at the file's end.
-#[derive(Drop)]
+#[derive(Clone, Copy)]
 enum Got {
     Bytes(usize),
     Failed,
 }
 
-// No number of bytes.
-const FAILED: usize = 18446744073709551615;
-
 // Reads once; an interrupted read is tried again.
-fn get(file: i32, bytes: &mut [u8]) -> Got {
-    let mut left = TRIES;
-    while 0 < left {
-        left -= 1;
-        let got = libc::read(file, bytes);
-        if 0 <= got {
-            return Got::Bytes(io::count(got, bytes));
-        }
-        if os::errno() != libc::EINTR {
-            return Got::Failed;
-        }
+fn get(file: &mut impl Read, bytes: &mut [u8]) -> Got {
+    match streams::get(file, bytes) {
+        Ok(n) => Got::Bytes(n),
+        Err(_) => Got::Failed,
     }
-    Got::Failed
 }
 
-// Reads until the bytes are full or the file ends.
-fn get_all(file: i32, bytes: &mut [u8]) -> Got {
-    let all = bytes.len();
-    let mut size: usize = 0;
-    while size < all {
-        let got = get(file, &mut bytes[size..]);
-        let Got::Bytes(n) = got else {
-            return got;
-        };
-        if n == 0 {
-            return Got::Bytes(size);
-        }
-        size = desk_lines::past(size, n, all);
+// Reads the file with a name until the bytes are full or the file ends.
+fn get_all(rt: &impl Files, name: &[u8], bytes: &mut [u8]) -> Got {
+    match streams::load(rt, name, bytes) {
+        Ok(n) => Got::Bytes(n),
+        Err(_) => Got::Failed,
     }
-    Got::Bytes(size)
 }
 
 // Writes all bytes; an interrupted write is tried again. Answers whether all are written.
-fn put_all(file: i32, bytes: &[u8]) -> bool {
-    let mut at: usize = 0;
-    let mut left = TRIES;
-    while at < bytes.len() {
-        if left == 0 {
-            return false;
-        }
-        left -= 1;
-        let got = libc::write(file, &bytes[at..]);
-        if got == 0 {
-            return false;
-        }
-        if got < 0 {
-            if os::errno() != libc::EINTR {
-                return false;
-            }
-        }
-        at = desk_lines::past(at, io::count(got, &bytes[at..]), bytes.len());
-    }
-    true
+fn put_all(file: &mut impl Write, bytes: &[u8]) -> bool {
+    file.write_all(bytes).is_ok()
 }
 
 // Writes on standard error, where nothing can be said of a failure.
-fn say(bytes: &[u8]) {
-    put_all(STDERR_FILENO, bytes);
+fn say(rt: &impl Errors, bytes: &[u8]) {
+    let _ = rt.write_error(bytes);
 }
 
 // Says of a file what can't be done with it.
-fn say_of(name: &[u8], words: &[u8]) {
-    say(b"desk: ");
-    say(name);
-    say(words);
+fn say_of(rt: &impl Errors, name: &[u8], words: &[u8]) {
+    say(rt, b"desk: ");
+    say(rt, name);
+    say(rt, words);
 }
 
 // Writes on standard output. Answers whether that went well, and says where it did not.
-fn print(bytes: &[u8]) -> bool {
-    if put_all(STDOUT_FILENO, bytes) {
+fn print(rt: &(impl Print + Errors), bytes: &[u8]) -> bool {
+    if rt.write_all(bytes).is_ok() {
         return true;
     }
-    say(b"desk: standard output can't be written\n");
+    say(rt, b"desk: standard output can't be written\n");
     false
 }
 
@@ -113,6 +80,7 @@ fn print(bytes: &[u8]) -> bool {
 // Prints result lines that are given as numbers, from `from` up to, not including, `to`. The buffer has 128 bytes for each line that there are
 // numbers for, and no line is longer.
 fn print_lines(
+    rt: &(impl Print + Errors),
     table: &[u64],
     numbers: &[u64],
     integers: &[i64],
@@ -121,19 +89,19 @@ fn print_lines(
     out: &mut [u8],
 ) -> bool {
     let b = results::write_batch(table, numbers, integers, from, to, out);
-    print(tokens::between(out, 0, b.used))
+    print(rt, tokens::between(out, 0, b.used))
 }
 
 // Prints the words of a question on a line of their own; of 0, nothing.
-fn explain(question: u8) -> bool {
+fn explain(rt: &(impl Print + Errors), question: u8) -> bool {
     if question == 0 {
         return true;
     }
     let mut words = [0u8; Sentence::BYTES];
     let n = question_words::words(question, &mut words);
-    if print(b"  ") {
-        if print(tokens::between(&words, 0, n)) {
-            return print(b"\n");
+    if print(rt, b"  ") {
+        if print(rt, tokens::between(&words, 0, n)) {
+            return print(rt, b"\n");
         }
     }
     false
@@ -141,6 +109,7 @@ fn explain(question: u8) -> bool {
 
 // Prints the first result lines one by one, and after each that has a question its words.
 fn explain_lines(
+    rt: &(impl Print + Errors),
     table: &[u64],
     numbers: &[u64],
     integers: &[i64],
@@ -149,10 +118,10 @@ fn explain_lines(
 ) -> bool {
     let mut i: usize = 0;
     while i < many {
-        if !print_lines(table, numbers, integers, i, i + 1, out) {
+        if !print_lines(rt, table, numbers, integers, i, i + 1, out) {
             return false;
         }
-        if !explain(desk_lines::question_of(numbers, i)) {
+        if !explain(rt, desk_lines::question_of(numbers, i)) {
             return false;
         }
         i += 1;
@@ -162,6 +131,7 @@ fn explain_lines(
 
 // Prints the first result lines, explained or not.
 fn print_block(
+    rt: &(impl Print + Errors),
     table: &[u64],
     explained: bool,
     numbers: &[u64],
@@ -170,20 +140,19 @@ fn print_block(
     out: &mut [u8],
 ) -> bool {
     if explained {
-        return explain_lines(table, numbers, integers, many, out);
+        return explain_lines(rt, table, numbers, integers, many, out);
     }
-    print_lines(table, numbers, integers, 0, many, out)
+    print_lines(rt, table, numbers, integers, 0, many, out)
 }
 
 // ---- settlement pages
 
 // What results go to: standard output, explained or not, and OUT, where it is asked for.
-#[derive(Drop)]
+#[derive(Clone, Copy)]
 struct Output {
     explain: bool,
-    // Which argument OUT is, or 0, and its descriptor.
+    // Which argument OUT is, or 0.
     argument: usize,
-    file: i32,
     // What is gathered for the next page, and whether a page is written.
     gathered: Gathered,
     begun: bool,
@@ -192,56 +161,51 @@ struct Output {
 }
 
 // OUT can't be written.
-fn fail_pages(output: Output) -> Output {
+fn fail_pages(rt: &(impl Env + Errors), output: Output) -> Output {
     let mut name = [0u8; Asked::ARGUMENT_BYTES + 1];
-    let n = get_argument(output.argument, &mut name);
-    say_of(tokens::between(&name, 0, n), b" can't be written\n");
+    let n = get_argument(rt, output.argument, &mut name);
+    say_of(rt, tokens::between(&name, 0, n), b" can't be written\n");
     let mut next = output;
     next.whole = false;
     next
 }
 
 // Takes the numbers of standard streams that are closed, so that OUT gets none of them.
-fn hold_streams() {
-    let mut left: u8 = 4;
-    while 0 < left {
-        left -= 1;
-        let file = os::open_read(b"/");
-        if (file < 0) | (STDERR_FILENO < file) {
-            libc::close(file);
-            return;
-        }
-    }
+fn hold_streams<R: Files>(
+    rt: &R,
+) -> (
+    io::Result<R::File>,
+    io::Result<R::File>,
+    io::Result<R::File>,
+) {
+    (
+        streams::open(rt, b"/"),
+        streams::open(rt, b"/"),
+        streams::open(rt, b"/"),
+    )
 }
 
 // Makes or empties OUT; what is said where it can't be written does not go into it.
-fn open_pages(output: Output) -> Output {
+fn open_pages<R: Env + Files + Errors>(rt: &R, output: Output) -> io::Result<R::File> {
     let mut name = [0u8; Asked::ARGUMENT_BYTES + 1];
-    let n = get_argument(output.argument, &mut name);
-    hold_streams();
-    let file = os::open_overwrite(tokens::between(&name, 0, n));
-    if file <= STDERR_FILENO {
-        libc::close(file);
-        return fail_pages(output);
+    let n = get_argument(rt, output.argument, &mut name);
+    let held = hold_streams(rt);
+    let file = streams::create(rt, tokens::between(&name, 0, n));
+    drop(held);
+    if file.is_err() {
+        fail_pages(rt, output);
     }
-    let mut next = output;
-    next.file = file;
-    next
+    file
 }
 
 fn open_output(asked: Asked) -> Output {
-    let output = Output {
+    Output {
         explain: asked.explain,
         argument: asked.pages,
-        file: 0,
         gathered: Gathered::nothing(),
         begun: false,
         whole: true,
-    };
-    if asked.pages == 0 {
-        return output;
     }
-    open_pages(output)
 }
 
 // The numbers of the first entries, and their values; none where there are not so many.
@@ -262,7 +226,14 @@ fn first_values(values: &[i64], count: usize) -> &[i64] {
 }
 
 // Writes the page of what is gathered; then nothing is.
-fn write_page(table: &[u64], output: Output, entries: &[u64], values: &[i64]) -> Output {
+fn write_page(
+    rt: &(impl Env + Errors),
+    pages: &mut impl Write,
+    table: &[u64],
+    output: Output,
+    entries: &[u64],
+    values: &[i64],
+) -> Output {
     let g = output.gathered;
     let count = g.count;
     let mut page = [0u8; Sheet::BYTES];
@@ -274,10 +245,10 @@ fn write_page(table: &[u64], output: Output, entries: &[u64], values: &[i64]) ->
         &mut page,
     );
     let Paged::Accepted = answer else {
-        return fail_pages(output);
+        return fail_pages(rt, output);
     };
-    if !put_all(output.file, &page) {
-        return fail_pages(output);
+    if !put_all(pages, &page) {
+        return fail_pages(rt, output);
     }
     let emptied = Gathered {
         rule: g.rule,
@@ -292,6 +263,8 @@ fn write_page(table: &[u64], output: Output, entries: &[u64], values: &[i64]) ->
 
 // Result line i; a page that it fills is written.
 fn settle_line(
+    rt: &(impl Env + Errors),
+    pages: &mut impl Write,
     table: &[u64],
     output: Output,
     numbers: &[u64],
@@ -308,11 +281,13 @@ fn settle_line(
     if count < Sheet::LINES {
         return next;
     }
-    write_page(table, next, entries, values)
+    write_page(rt, pages, table, next, entries, values)
 }
 
 // The first result lines, one by one.
 fn settle(
+    rt: &(impl Env + Errors),
+    pages: &mut impl Write,
     table: &[u64],
     output: Output,
     numbers: &[u64],
@@ -324,7 +299,9 @@ fn settle(
     let mut next = output;
     let mut i: usize = 0;
     while i < many {
-        next = settle_line(table, next, numbers, integers, i, entries, values);
+        next = settle_line(
+            rt, pages, table, next, numbers, integers, i, entries, values,
+        );
         if !next.whole {
             return next;
         }
@@ -333,21 +310,28 @@ fn settle(
     next
 }
 
-// The last page, if it has a payout or is the only one; then OUT is closed. Answers whether that went well.
-fn close_output(table: &[u64], output: Output, entries: &[u64], values: &[i64]) -> bool {
+// The last page, if it has a payout or is the only one. Answers whether that went well.
+fn close_output(
+    rt: &(impl Env + Errors),
+    pages: &mut impl Write,
+    table: &[u64],
+    output: Output,
+    entries: &[u64],
+    values: &[i64],
+) -> bool {
     if output.argument == 0 {
         return true;
     }
     let g = output.gathered;
     let mut last = output;
     if (0 < g.count) | !output.begun {
-        last = write_page(table, output, entries, values);
+        last = write_page(rt, pages, table, output, entries, values);
     }
     if !last.whole {
         return false;
     }
-    if libc::close(last.file) < 0 {
-        fail_pages(last);
+    if pages.flush().is_err() {
+        fail_pages(rt, last);
         return false;
     }
     true
@@ -357,7 +341,13 @@ fn close_output(table: &[u64], output: Output, entries: &[u64], values: &[i64]) 
 
 // What is left of the last line comes to the front, and bytes of standard input after it; at its end that line ends. Answers how many
 // bytes there are then, FAILED where they can't be read, or where nothing can be told any more. The buffer's last byte stays free.
-fn read_more(told: bool, bytes: &mut [u8], at: usize, size: usize) -> usize {
+fn read_more(
+    rt: &(impl Input + Errors),
+    told: bool,
+    bytes: &mut [u8],
+    at: usize,
+    size: usize,
+) -> usize {
     let kept = desk_lines::bring(bytes, at, size);
     if bytes.len() <= kept {
         return 0;
@@ -366,9 +356,9 @@ fn read_more(told: bool, bytes: &mut [u8], at: usize, size: usize) -> usize {
         return FAILED;
     }
     let last = bytes.len() - 1;
-    let got = get(STDIN_FILENO, &mut bytes[kept..last]);
+    let got = get(&mut rt.reader(), &mut bytes[kept..last]);
     let Got::Bytes(n) = got else {
-        say(b"desk: the session can't be read\n");
+        say(rt, b"desk: the session can't be read\n");
         return FAILED;
     };
     if n == 0 {
@@ -379,6 +369,8 @@ fn read_more(told: bool, bytes: &mut [u8], at: usize, size: usize) -> usize {
 
 // The first result lines go where they are asked for.
 fn tell(
+    rt: &(impl Env + Print + Errors),
+    pages: &mut impl Write,
     table: &[u64],
     output: Output,
     numbers: &[u64],
@@ -388,11 +380,13 @@ fn tell(
     entries: &mut [u64],
     values: &mut [i64],
 ) -> Output {
-    if print_block(table, output.explain, numbers, integers, many, out) {
+    if print_block(rt, table, output.explain, numbers, integers, many, out) {
         if output.argument == 0 {
             return output;
         }
-        return settle(table, output, numbers, integers, many, entries, values);
+        return settle(
+            rt, pages, table, output, numbers, integers, many, entries, values,
+        );
     }
     let mut next = output;
     next.whole = false;
@@ -401,7 +395,7 @@ fn tell(
 
 // Where a session stands: its state, what its results went to, and the bytes that are read and not yet taken, from `at` up to `size`;
 // `size` is FAILED where not all could be read, printed or written.
-#[derive(Drop)]
+#[derive(Clone, Copy)]
 struct Standing {
     state: State,
     output: Output,
@@ -412,6 +406,8 @@ struct Standing {
 
 // Takes the lines that are read, as many as there is room for, and fires the events that are due; where none is left, reads more.
 fn go_on(
+    rt: &(impl Env + Input + Print + Errors),
+    pages: &mut impl Write,
     table: &[u64],
     session: Standing,
     bytes: &mut [u8],
@@ -426,7 +422,9 @@ fn go_on(
     let size = session.size;
     let input = tokens::between(bytes, session.at, size);
     let p = machine::play(table, before, input, numbers, integers);
-    let output = tell(table, went, numbers, integers, p.many, out, entries, values);
+    let output = tell(
+        rt, pages, table, went, numbers, integers, p.many, out, entries, values,
+    );
     let at = desk_lines::past(session.at, p.used, size);
     let state = p.state;
     if (p.many != 0) & output.whole {
@@ -438,7 +436,7 @@ fn go_on(
             done: false,
         };
     }
-    let more = read_more(output.whole, bytes, at, size);
+    let more = read_more(rt, output.whole, bytes, at, size);
     Standing {
         state,
         output,
@@ -448,8 +446,13 @@ fn go_on(
     }
 }
 
+// The most steps of a session.
+const STEPS: u64 = 9223372036854775808;
+
 // Takes each line of standard input.
 fn take_session(
+    rt: &(impl Env + Input + Print + Errors),
+    pages: &mut impl Write,
     table: &[u64],
     output: Output,
     bytes: &mut [u8],
@@ -466,11 +469,11 @@ fn take_session(
         size: 0,
         done: false,
     };
-    let mut left = TRIES;
+    let mut left = STEPS;
     while 0 < left {
         left -= 1;
         session = go_on(
-            table, session, bytes, numbers, integers, out, entries, values,
+            rt, pages, table, session, bytes, numbers, integers, out, entries, values,
         );
         if session.done {
             return session;
@@ -480,11 +483,12 @@ fn take_session(
 }
 
 // A session on the contract in a table, then its last page, then what each asset holds.
-fn run(table: &[u64], asked: Asked) {
-    let output = open_output(asked);
-    if !output.whole {
-        return;
-    }
+fn play(
+    rt: &(impl Env + Input + Print + Errors),
+    pages: &mut impl Write,
+    table: &[u64],
+    output: Output,
+) {
     let mut bytes = [0u8; BLOCK];
     let mut numbers = [0u64; LINES * Report::WORDS];
     let mut integers = [0i64; LINES];
@@ -492,6 +496,8 @@ fn run(table: &[u64], asked: Asked) {
     let mut entries = [0u64; Sheet::LINES * Sheet::NUMBERS];
     let mut values = [0i64; Sheet::LINES];
     let session = take_session(
+        rt,
+        pages,
         table,
         output,
         &mut bytes,
@@ -503,36 +509,47 @@ fn run(table: &[u64], asked: Asked) {
     );
     if session.size != FAILED {
         let last = session.output;
-        if close_output(table, last, &entries, &values) {
+        if close_output(rt, pages, table, last, &entries, &values) {
             let s = session.state;
             let assets = desk_lines::held(table, s, &mut numbers);
-            print_lines(table, &numbers, &integers, 0, assets, &mut out);
+            print_lines(rt, table, &numbers, &integers, 0, assets, &mut out);
         }
+    }
+}
+
+// A session, with its pages where they are asked for.
+fn run(rt: &(impl Env + Files + Input + Print + Errors), table: &[u64], asked: Asked) {
+    let output = open_output(asked);
+    if asked.pages == 0 {
+        return play(rt, &mut io::sink(), table, output);
+    }
+    if let Ok(mut pages) = open_pages(rt, output) {
+        play(rt, &mut pages, table, output);
     }
 }
 
 // ---- a contract
 
 // A refused text: the question and the place, then where that is.
-fn refuse(name: &[u8], text: &[u8], number: u8, place: usize) {
+fn refuse(rt: &(impl Print + Errors), name: &[u8], text: &[u8], number: u8, place: usize) {
     let mut line = [0u8; Report::ROOM];
     let written = results::write_text_refusal(number, place, &mut line);
     if let Written::Wrote(n) = written {
-        print(tokens::between(&line, 0, n));
+        print(rt, tokens::between(&line, 0, n));
     }
     let mut out = [0u8; Diagnosis::ROOM];
     let n = diagnoses::write(name, text, number, place, &mut out);
-    say(tokens::between(&out, 0, n));
+    say(rt, tokens::between(&out, 0, n));
 }
 
 // A line for field x where a clause sets it and no clause agrees on it.
-fn review_field(table: &[u64], x: usize) -> bool {
+fn review_field(rt: &(impl Print + Errors), table: &[u64], x: usize) -> bool {
     if reviews::never_agreed(table, x) {
         let mut name = [0u8; Contract::NAME];
         let n = reviews::field_name(table, x, &mut name);
-        if print(b"// never agreed: ") {
-            if print(tokens::between(&name, 0, n)) {
-                return print(b"\n");
+        if print(rt, b"// never agreed: ") {
+            if print(rt, tokens::between(&name, 0, n)) {
+                return print(rt, b"\n");
             }
         }
         return false;
@@ -541,10 +558,10 @@ fn review_field(table: &[u64], x: usize) -> bool {
 }
 
 // What the terms say before any session.
-fn review(table: &[u64]) {
+fn review(rt: &(impl Print + Errors), table: &[u64]) {
     let mut x: usize = 0;
     while x < Contract::FIELDS {
-        if !review_field(table, x) {
+        if !review_field(rt, table, x) {
             return;
         }
         x += 1;
@@ -552,77 +569,71 @@ fn review(table: &[u64]) {
 }
 
 // The contract's text, then what is asked.
-fn begin(asked: Asked, name: &[u8], text: &[u8]) {
+fn begin(rt: &(impl Env + Files + Input + Print + Errors), asked: Asked, name: &[u8], text: &[u8]) {
     let mut table = [0u64; Contract::TABLE];
     let answer = reader::read(text, &mut table);
     match answer {
-        Answer::Refused(number, place) => refuse(name, text, number, place),
+        Answer::Refused(number, place) => refuse(rt, name, text, number, place),
         Answer::Accepted => {
             if asked.review {
-                review(&table);
+                review(rt, &table);
             } else {
-                run(&table, asked);
+                run(rt, &table, asked);
             }
         }
     }
 }
 
 // The contract's text from the file with a name. There is room for one byte more than a text may have, so that a longer one is refused.
-fn start(asked: Asked, name: &[u8]) {
+fn start(rt: &(impl Env + Files + Input + Print + Errors), asked: Asked, name: &[u8]) {
     let mut text = [0u8; Answer::TEXT + 1];
-    let file = os::open_read(name);
-    let got = get_all(file, &mut text);
-    libc::close(file);
+    let got = get_all(rt, name, &mut text);
     let Got::Bytes(n) = got else {
-        say_of(name, b" can't be read\n");
+        say_of(rt, name, b" can't be read\n");
         return;
     };
-    begin(asked, name, tokens::between(&text, 0, n));
+    begin(rt, asked, name, tokens::between(&text, 0, n));
 }
 
 // ---- arguments
 
 // Argument i; all of the buffer where it has no room for it.
-fn get_argument(i: usize, buffer: &mut [u8]) -> usize {
-    let n = os::arg(i, buffer);
-    if os::errno() == libc::ENAMETOOLONG {
-        return buffer.len();
-    }
-    n
+fn get_argument(rt: &impl Env, i: usize, buffer: &mut [u8]) -> usize {
+    streams::argument(rt, i, buffer).unwrap_or(0)
 }
 
 // What the arguments ask for. There is room for one byte more than an argument may have, so that a longer one is told.
-fn ask() -> Asked {
-    let count = os::arg_count();
+fn ask(rt: &impl Env) -> Asked {
     let mut argument = [0u8; Asked::ARGUMENT_BYTES + 1];
     let mut asked = Asked::nothing();
-    let mut i: usize = 1;
-    while i < count {
-        let n = get_argument(i, &mut argument);
+    for i in 1..usize::MAX {
+        let Some(n) = streams::argument(rt, i, &mut argument) else {
+            break;
+        };
         asked = arguments::hear(asked, i, tokens::between(&argument, 0, n));
-        i += 1;
     }
     arguments::finish(asked)
 }
 
 // What is wrong with the arguments.
-fn complain(asked: Asked) {
-    say(b"desk: argument ");
-    io::print_decimal(STDERR_FILENO, asked.place as u64);
+fn complain(rt: &(impl Eprint + Errors), asked: Asked) {
+    say(rt, b"desk: argument ");
+    let _ = rt.eprint(asked.place);
     let fault = asked.fault;
     match fault {
-        Asked::LONG => say(b" is over 1024 bytes\n"),
-        Asked::UNKNOWN => say(b" is no option of the desk\n"),
-        Asked::TWICE => say(b" is an option given before\n"),
-        Asked::ALONE => say(b": --review goes with no other option\n"),
-        Asked::WITHOUT => say(b" is an option without its argument\n"),
-        _ => say(b" is one FILE too many\n"),
+        Asked::LONG => say(rt, b" is over 1024 bytes\n"),
+        Asked::UNKNOWN => say(rt, b" is no option of the desk\n"),
+        Asked::TWICE => say(rt, b" is an option given before\n"),
+        Asked::ALONE => say(rt, b": --review goes with no other option\n"),
+        Asked::WITHOUT => say(rt, b" is an option without its argument\n"),
+        _ => say(rt, b" is one FILE too many\n"),
     }
-    say(b"desk: try desk --help\n");
+    say(rt, b"desk: try desk --help\n");
 }
 
-fn help() {
+fn help(rt: &(impl Print + Errors)) {
     print(
+        rt,
         b"\
             desk                    the contract in terms.stipula, a session on standard input\n\
             desk [OPTION].. [FILE]  the contract in FILE\n\
@@ -633,21 +644,21 @@ fn help() {
     );
 }
 
-fn main() {
-    let asked = ask();
+fn main(rt: HostRuntime) {
+    let asked = ask(&rt);
     if asked.fault != 0 {
-        complain(asked);
+        complain(&rt, asked);
         return;
     }
     if asked.help {
-        help();
+        help(&rt);
         return;
     }
     if asked.files == 0 {
-        start(asked, b"terms.stipula");
+        start(&rt, asked, b"terms.stipula");
         return;
     }
     let mut name = [0u8; Asked::ARGUMENT_BYTES + 1];
-    let n = get_argument(asked.file, &mut name);
-    start(asked, tokens::between(&name, 0, n));
+    let n = get_argument(&rt, asked.file, &mut name);
+    start(&rt, asked, tokens::between(&name, 0, n));
 }

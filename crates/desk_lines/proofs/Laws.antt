@@ -15,7 +15,6 @@ use Rattle.tokens.specs.Tokens.{between}
 use Rattle.laws.proofs.Choice.{by_cases, true_false}
 use Rattle.laws.proofs.Truths.{first_true, second_true, either_true}
 use Rattle.results.specs.Coded.{coded, coded_all, report_from}
-use Rattle.results.specs.declared.Report.{Report}
 use Rattle.results.specs.declared.Report.TheVariants.{Held}
 use Rattle.desk_lines.specs.Blocks.{max_kept, kept, question_of, question_at, held_from}
 use Rattle.desk_lines.specs.Private.{kept_of}
@@ -93,11 +92,11 @@ module _ {old new : List ℕ} {from end i : ℕ} (b : Brought old from end i new
         rest = ap (λ (x : ℕ). sets (set new i x) (suc i) (drop (suc i) (kept old from end))) (sym e) ∙ ap (sets new i) (sym (drop-cons (kept old from end) i 0 within)) ∙ b.rest;
       })
 
-  pub bring_end : n ≤ i → (n ≡ length (kept old from end)) × (new ≡ sets old 0 (kept old from end))
+  pub bring_end : n ≤ i → record { value : n ≡ length (kept old from end); bytes_after : new ≡ sets old 0 (kept old from end) }
   bring_end h =
       let l = kept_length old from end n counted in
       let none : length (kept old from end) ≤ i = omega (arith, l) in
-      (l, ap (sets new i) (sym (drop_of_length-le (kept old from end) none)) ∙ b.rest)
+      record { value = l; bytes_after = ap (sets new i) (sym (drop_of_length-le (kept old from end) none)) ∙ b.rest }
 
 -- ---- what assets hold
 
@@ -132,14 +131,15 @@ held_length i (a ∷ l) = ap suc (held_length (suc i) l)
 
 -- all are written: m is the number of assets
 pub holds_all : {old assets new : List ℕ} {n i : ℕ} → Holds old assets n i new → (m : ℕ) → n ≡ m → i ≡ min n (length assets)
-    → (i ≡ length (held_from 0 (take m assets))) × (new ≡ sets old 0 (coded_all (held_from 0 (take m assets))))
+    → record { value : i ≡ length (held_from 0 (take m assets)); numbers_after : new ≡ sets old 0 (coded_all (held_from 0 (take m assets))) }
 unfolding coded_all held_from
 holds_all {old} {assets} {new} {n} {i} b m e h =
     let none : length (take n assets) ≤ i = simp length-take (omega arith) in
-    rw (sym e) (
-      h ∙ sym (held_length 0 (take n assets) ∙ length-take n assets),
-      ap (λ (l : List ℕ). sets new (4 * i) (coded_all (held_from i l))) (sym (drop_of_length-le (take n assets) none)) ∙ b.rest,
-    )
+    rw (sym e)
+    (record {
+      value = h ∙ sym (held_length 0 (take n assets) ∙ length-take n assets);
+      numbers_after = ap (λ (l : List ℕ). sets new (4 * i) (coded_all (held_from i l))) (sym (drop_of_length-le (take n assets) none)) ∙ b.rest;
+    })
 
 -- ---- the question of a report
 

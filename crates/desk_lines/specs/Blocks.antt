@@ -1,8 +1,7 @@
 -- A session's bytes in a buffer: what is kept of a line that has not ended, the last line; the question of a result line, and what each
 -- asset holds at the end.
-use Rattle.std.specs.Prelude.{ℕ, suc, ◌+◌, ◌*◌, List, [], ◌∷◌, length, get_or, take, drop, set, eqb, ltb, pos}
+use Rattle.std.specs.Prelude.{ℕ, suc, ◌+◌, ◌*◌, List, [], ◌∷◌, get_or, take, set, eqb, ltb, pos}
 use Rattle.laws.specs.Choice.{pick}
-use Rattle.tokens.specs.Classes.{run}
 use Rattle.tokens.specs.Tokens.{between}
 use Rattle.contract.specs.Rows.{head_of}
 use Rattle.state.specs.declared.State.{State}

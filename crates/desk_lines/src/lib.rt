@@ -1,5 +1,7 @@
 // What the desk does with bytes and numbers: a session's bytes as they are read in blocks, its last line, the question of a result line,
 // and what each asset holds at the end.
+#![tactic(auto)]
+
 ghost use Rattle.std.specs.Prelude.{◌≡◌, ◌+◌, ◌*◌, ◌<◌, min, length, set};
 ghost use Rattle.std.proofs.lemmas.List.Edits.{sets};
 ghost use Rattle.results.specs.Coded.{coded, coded_all};

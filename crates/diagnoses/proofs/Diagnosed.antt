@@ -97,12 +97,12 @@ column_counts text q {p} e = omega (arith, ap (λ (o : Place). o.column) e)
 
 module _ (file text : List ℕ) (number q : ℕ) where
   pub all_written : {old new : List ℕ} {n : ℕ} → fits (length file) (length old) ≡ true → Put old 0 (diagnosis file text number q) n new
-      → (n ≡ written file text number q (length old)) × (new ≡ buffer_after file text number q old)
-  all_written {old} {new} {n} t p = (
-    line_end_lem p ∙ sym (pick_true _ _ _ t),
-    over p ∙ ap (λ (k : ℕ). diagnosis file text number q ++ drop k old) (line_end_lem p) ∙ sym (pick_true _ _ _ t),
-  )
+      → record { value : n ≡ written file text number q (length old); buffer_after : new ≡ buffer_after file text number q old }
+  all_written {old} {new} {n} t p = record {
+    value = line_end_lem p ∙ sym (pick_true _ _ _ t);
+    buffer_after = over p ∙ ap (λ (k : ℕ). diagnosis file text number q ++ drop k old) (line_end_lem p) ∙ sym (pick_true _ _ _ t);
+  }
 
   pub none_written : (old : List ℕ) → fits (length file) (length old) ≡ false
-      → (0 ≡ written file text number q (length old)) × (old ≡ buffer_after file text number q old)
-  none_written old t = (sym (pick_false _ _ _ t), sym (pick_false _ _ _ t))
+      → record { value : 0 ≡ written file text number q (length old); buffer_after : old ≡ buffer_after file text number q old }
+  none_written old t = record { value = sym (pick_false _ _ _ t); buffer_after = sym (pick_false _ _ _ t) }

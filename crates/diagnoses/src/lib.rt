@@ -1,4 +1,6 @@
 // What is said of a refused contract, written into a lent buffer.
+#![tactic(auto)]
+
 ghost use Rattle.std.specs.Prelude.{◌≡◌, ◌≤◌, length};
 ghost use Rattle.printing.specs.Pieces.{Put};
 ghost use Rattle.diagnoses.specs.Diagnoses.{diagnosis, written, buffer_after};
@@ -9,7 +11,7 @@ mod lines;
 mod pieces;
 
 // What is said of a refused contract.
-#[derive(Drop)]
+#[derive(Clone, Copy)]
 pub struct Diagnosis {}
 
 impl Diagnosis {

@@ -24,7 +24,8 @@ fn show(b: u8) -> u8
     if b < b' ' {
         return b' ';
     }
-    if b'~' < b {
+    let past = b'~' < b;
+    if past {
         return b' ';
     }
     b

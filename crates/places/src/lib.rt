@@ -1,10 +1,12 @@
 // Where a place lies in its text: its line, its column, and where that line starts and ends.
+#![tactic(auto)]
+
 ghost use Rattle.std.specs.Prelude.{◌≡◌, ◌+◌, min, drop};
 ghost use Rattle.tokens.specs.Classes.{run};
 ghost use Rattle.places.specs.Places.{in_line, place_of};
 
 // Line and column count from 1. The line's bytes are those from start up to, not including, end.
-#[derive(Drop)]
+#[derive(Clone, Copy)]
 pub struct Place {
     pub line: usize,
     pub column: usize,

@@ -1,11 +1,13 @@
 // The words of each question, by its number: the lines of four texts.
+#![tactic(auto)]
+
 ghost use Rattle.std.specs.Prelude.{◌≡◌, ◌-◌, ◌≤◌, ◌<◌, length, drop};
 ghost use Rattle.std.proofs.lemmas.List.Edits.{sets};
 ghost use Rattle.question_words.specs.Words.{words_of};
 ghost use Rattle.question_words.specs.Private.{first_line, line_in, Said};
 
 // The words of a question.
-#[derive(Drop)]
+#[derive(Clone, Copy)]
 pub struct Sentence {}
 
 impl Sentence {
@@ -42,7 +44,8 @@ fn put_rest(text: &[u8], from: usize, buffer: &mut [u8; Sentence::BYTES]) -> usi
     let mut i: usize = 0;
     while at < text.len() {
         let b = text[at];
-        if b == b'\n' {
+        let ends = b == b'\n';
+        if ends {
             return i;
         }
         buffer[i] = b;

@@ -18,10 +18,10 @@ use Rattle.reviews.specs.Reviews.{field_name}
 
 -- how many bytes a name has, and a list with it at the start
 abbrev pub Named : List ℕ → List ℕ → ℕ → List ℕ → Type 0
-Named old name n new = (n ≡ length name) × (new ≡ sets old 0 name)
+Named old name n new = record { value : n ≡ length name; buffer_after : new ≡ sets old 0 name }
 
 no_name : (old name : List ℕ) → [] ≡ name → Named old name 0 old
-no_name old name e = (ap length e, ap (sets old 0) e)
+no_name old name e = record { value = ap length e; buffer_after = ap (sets old 0) e }
 
 module _ (w : List ℕ) (e : passes w ≡ true) (x : ℕ) where
   pub field_few : x < word_at w 2 → x < 32
@@ -34,7 +34,7 @@ module _ (w : List ℕ) (e : passes w ≡ true) (x : ℕ) where
       let row : Row w (contract_of w).fields x (835 + x * 33) 32 = field_row w e x (omega (arith, (counts w).fields)) in
       let q = put_of name p (omega (arith, row.short, k)) in
       let same : name ≡ field_name w x = sym (pick_true _ _ _ e ∙ row.name) in
-      (line_end_lem q ∙ ap length same, q.list ∙ ap (sets old 0) same)
+      record { value = line_end_lem q ∙ ap length same; buffer_after = q.list ∙ ap (sets old 0) same }
 
   pub no_field : (old : List ℕ) → word_at w 2 ≤ x → Named old (field_name w x) 0 old
   unfolding field_name

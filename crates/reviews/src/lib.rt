@@ -1,4 +1,6 @@
 // What the terms of a contract say before any session: the fields that a clause sets and no clause agrees on, and the names of fields.
+#![tactic(auto)]
+
 ghost use Rattle.std.specs.Prelude.{◌≡◌, true, ◌<◌, length};
 ghost use Rattle.std.proofs.lemmas.List.Edits.{sets};
 ghost use Rattle.contract.specs.Table.{word_at};

@@ -4,15 +4,18 @@
 // with its words.
 // Expected results: the published vectors' (requests/F-00 and F-01), standard output before standard error; the words of the desk's page.
 // Cases whose names start with `own_` are not among the vectors: the desk's page says what comes of them.
+#![tactic(auto)]
+
 ghost use Rattle.std.specs.Prelude.{◌≤◌, length};
 
 use arguments::Asked;
 use contract::Contract;
 use diagnoses::Diagnosis;
-use libc::STDOUT_FILENO;
 use question_words::Sentence;
 use reading::Answer;
 use results::{Report, Written};
+use std::io;
+use std::rt::Files;
 
 // The bytes of the folders' names, of the path of a file `args`, of what it holds, and of a contract's path.
 const NAMES: usize = 8192;
@@ -23,8 +26,8 @@ const ARGUMENTS: usize = 16384;
 
 const CONTRACT_PATH: usize = 1280;
 
-fn print(bytes: &[u8]) {
-    io::write_all(STDOUT_FILENO, bytes);
+fn print(rt: &impl Print, bytes: &[u8]) {
+    let _ = rt.write_all(bytes);
 }
 
 // The place of the first LF from `at` on, or the end.
@@ -81,145 +84,141 @@ fn argument(lines: &[u8], n: usize) -> &[u8] {
 }
 
 // A refused text, as the desk tells it.
-fn refuse(name: &[u8], text: &[u8], number: u8, place: usize) {
+fn refuse(rt: &impl Print, name: &[u8], text: &[u8], number: u8, place: usize) {
     let mut line = [0u8; Report::ROOM];
     let written = results::write_text_refusal(number, place, &mut line);
     if let Written::Wrote(n) = written {
-        print(tokens::between(&line, 0, n));
+        print(rt, tokens::between(&line, 0, n));
     }
     let mut out = [0u8; Diagnosis::ROOM];
     let n = diagnoses::write(name, text, number, place, &mut out);
-    print(tokens::between(&out, 0, n));
+    print(rt, tokens::between(&out, 0, n));
 }
 
-fn review_field(table: &[u64], x: usize) {
+fn review_field(rt: &impl Print, table: &[u64], x: usize) {
     if reviews::never_agreed(table, x) {
         let mut name = [0u8; Contract::NAME];
         let n = reviews::field_name(table, x, &mut name);
-        print(b"// never agreed: ");
-        print(tokens::between(&name, 0, n));
-        print(b"\n");
+        print(rt, b"// never agreed: ");
+        print(rt, tokens::between(&name, 0, n));
+        print(rt, b"\n");
     }
 }
 
-fn review(table: &[u64]) {
+fn review(rt: &impl Print, table: &[u64]) {
     let mut x: usize = 0;
     while x < Contract::FIELDS {
-        review_field(table, x);
+        review_field(rt, table, x);
         x += 1;
     }
 }
 
 // Where pages go, where they are asked for.
-fn accept(out: &[u8]) {
-    print(b"accepted\n");
+fn accept(rt: &impl Print, out: &[u8]) {
+    print(rt, b"accepted\n");
     if 0 < out.len() {
-        print(b"pages in ");
-        print(out);
-        print(b"\n");
+        print(rt, b"pages in ");
+        print(rt, out);
+        print(rt, b"\n");
     }
 }
 
-fn begin(asked: Asked, out: &[u8], name: &[u8], text: &[u8]) {
+fn begin(rt: &impl Print, asked: Asked, out: &[u8], name: &[u8], text: &[u8]) {
     let mut table = [0u64; Contract::TABLE];
     let answer = reader::read(text, &mut table);
     match answer {
-        Answer::Refused(number, place) => refuse(name, text, number, place),
+        Answer::Refused(number, place) => refuse(rt, name, text, number, place),
         Answer::Accepted => {
             if asked.review {
-                review(&table);
+                review(rt, &table);
             } else {
-                accept(out);
+                accept(rt, out);
             }
         }
     }
 }
 
 // The contract in the file with this name in a folder.
-fn start(asked: Asked, out: &[u8], folder: &[u8], name: &[u8]) {
+fn start(rt: &(impl Files + Print), asked: Asked, out: &[u8], folder: &[u8], name: &[u8]) {
     let mut path = [0u8; CONTRACT_PATH];
     let slash = keep(&mut path, 0, folder);
     let file = keep(&mut path, slash, b"/");
     let end = keep(&mut path, file, name);
-    let fd = os::open_read(tokens::between(&path, 0, end));
-    if fd < 0 {
-        print(b"desk: ");
-        print(name);
-        print(b" can't be read\n");
-        return;
-    }
     let mut text = [0u8; Answer::TEXT + 1];
-    let n = io::read_full(fd, &mut text);
-    libc::close(fd);
-    begin(asked, out, name, tokens::between(&text, 0, n));
+    let Ok(n) = streams::load(rt, tokens::between(&path, 0, end), &mut text) else {
+        print(rt, b"desk: ");
+        print(rt, name);
+        print(rt, b" can't be read\n");
+        return;
+    };
+    begin(rt, asked, out, name, tokens::between(&text, 0, n));
 }
 
 // What is asked by these arguments of the contract in a folder.
-fn answer(folder: &[u8], lines: &[u8]) {
+fn answer(rt: &(impl Files + Print), folder: &[u8], lines: &[u8]) {
     let asked = ask(lines);
     if asked.fault != 0 {
-        print(b"usage\n");
+        print(rt, b"usage\n");
         return;
     }
     if asked.help {
-        print(b"help\n");
+        print(rt, b"help\n");
         return;
     }
     let out = argument(lines, asked.pages);
     if asked.files == 0 {
-        start(asked, out, folder, b"terms.stipula");
+        start(rt, asked, out, folder, b"terms.stipula");
         return;
     }
-    start(asked, out, folder, argument(lines, asked.file));
+    start(rt, asked, out, folder, argument(lines, asked.file));
 }
 
-fn show(name: &[u8]) {
+fn show(rt: &(impl Files + Print), name: &[u8]) {
     let mut path = [0u8; PATH];
     let slash = keep(&mut path, 0, name);
     let end = keep(&mut path, slash, b"/args");
     let mut lines = [0u8; ARGUMENTS];
-    let fd = os::open_read(tokens::between(&path, 0, end));
-    let n = io::read_full(fd, &mut lines);
-    libc::close(fd);
-    print(b"== ");
-    print(name);
-    print(b"\n");
-    answer(name, tokens::between(&lines, 0, n));
+    let n = streams::load(rt, tokens::between(&path, 0, end), &mut lines).unwrap_or(0);
+    print(rt, b"== ");
+    print(rt, name);
+    print(rt, b"\n");
+    answer(rt, name, tokens::between(&lines, 0, n));
 }
 
-fn show_all(names: &[u8]) {
+fn show_all(rt: &(impl Files + Print), names: &[u8]) {
     let mut start = 0;
     while start < names.len() {
         let end = line_end(names, start);
-        show(&names[start..end]);
+        show(rt, &names[start..end]);
         start = end + 1;
     }
 }
 
 // A question that has words.
-fn word(question: u8) {
+fn word(rt: &impl Print, question: u8) {
     let mut words = [0u8; Sentence::BYTES];
     let n = question_words::words(question, &mut words);
     if n == 0 {
         return;
     }
-    io::print_decimal(STDOUT_FILENO, question as u64);
-    print(b" ");
-    print(tokens::between(&words, 0, n));
-    print(b"\n");
+    let _ = rt.print(question);
+    print(rt, b" ");
+    print(rt, tokens::between(&words, 0, n));
+    print(rt, b"\n");
 }
 
-fn words() {
+fn words(rt: &impl Print) {
     let mut question: u8 = 0;
     while question < 255 {
-        word(question);
+        word(rt, question);
         question += 1;
     }
 }
 
-fn main() {
+fn main(rt: HostRuntime) -> io::Result<()> {
     let mut names = [0u8; NAMES];
-    let n = io::read_full(libc::STDIN_FILENO, &mut names);
-    show_all(&names[..n]);
-    words();
+    let n = streams::fill(&mut rt.reader(), &mut names)?;
+    show_all(&rt, &names[..n]);
+    words(&rt);
+    Ok(())
 }

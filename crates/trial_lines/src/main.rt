@@ -3,31 +3,33 @@
 // is where its party's name starts and ends, its verb's number, and each field's start, end and value.
 // Expected results: 137 lines, one for each line of `stdin`. The 31 of jumps and of lines that are nearly one are worked out by hand from
 // document 02, F-3; the others are to be read against document 01 (50 and 51), and who worked them out, and how, is not recorded here.
+#![tactic(auto)]
+
 ghost use Rattle.std.specs.Prelude.{◌≤◌, length};
 
-use libc::STDOUT_FILENO;
 use lines::{Agreement, Line, Request};
+use std::io;
 
-fn print(bytes: &[u8]) {
-    io::write_all(STDOUT_FILENO, bytes);
+fn print(rt: &impl Print, bytes: &[u8]) {
+    let _ = rt.write_all(bytes);
 }
 
-fn print_number(n: u64) {
-    io::print_decimal(STDOUT_FILENO, n);
+fn print_number(rt: &impl Print, n: u64) {
+    let _ = rt.print(n);
 }
 
-fn print_place(at: usize) {
-    print(b" ");
-    print_number(at as u64);
+fn print_place(rt: &impl Print, at: usize) {
+    print(rt, b" ");
+    print_number(rt, at as u64);
 }
 
-fn print_integer(z: i64) {
+fn print_integer(rt: &impl Print, z: i64) {
     if z < 0 {
-        print(b" -");
+        print(rt, b" -");
     } else {
-        print(b" ");
+        print(rt, b" ");
     }
-    print_number(numbers::magnitude(z));
+    print_number(rt, numbers::magnitude(z));
 }
 
 // The integer at i, and 0 past the end.
@@ -41,51 +43,51 @@ fn place_at(s: &[usize], i: usize) -> usize {
 }
 
 // The integers from `from` up to, not including, `to`.
-fn print_integers(s: &[i64], from: usize, to: usize) {
+fn print_integers(rt: &impl Print, s: &[i64], from: usize, to: usize) {
     let mut i = from;
     while i < to {
-        print_integer(integer_at(s, i));
+        print_integer(rt, integer_at(s, i));
         i += 1;
     }
 }
 
-fn print_call(line: Line) {
-    print(b"call");
-    print_place(line.party_start);
-    print_place(line.party_end);
-    print_place(line.function_start);
-    print_place(line.function_end);
+fn print_call(rt: &impl Print, line: Line) {
+    print(rt, b"call");
+    print_place(rt, line.party_start);
+    print_place(rt, line.party_end);
+    print_place(rt, line.function_start);
+    print_place(rt, line.function_end);
     let values = line.values;
     let assets = line.assets;
     let all = line.numbers;
-    print(b" (");
-    print_integers(&all, 0, values);
-    print(b" ) [");
+    print(rt, b" (");
+    print_integers(rt, &all, 0, values);
+    print(rt, b" ) [");
     if values <= Line::NUMBERS {
         if assets <= Line::NUMBERS {
-            print_integers(&all, values, values + assets);
+            print_integers(rt, &all, values, values + assets);
         }
     }
-    print(b" ]\n");
+    print(rt, b" ]\n");
 }
 
 // The fields from `from` up to, not including, `to`, of which there are 86 at most.
-fn print_fields(spans: &[usize], values: &[i64], from: usize, to: usize) {
+fn print_fields(rt: &impl Print, spans: &[usize], values: &[i64], from: usize, to: usize) {
     let mut k = from;
     while k < to {
         if Agreement::FIELDS <= k {
             return;
         }
-        print(b" ,");
-        print_place(place_at(spans, 2 * k));
-        print_place(place_at(spans, 2 * k + 1));
-        print_integer(integer_at(values, k));
+        print(rt, b" ,");
+        print_place(rt, place_at(spans, 2 * k));
+        print_place(rt, place_at(spans, 2 * k + 1));
+        print_integer(rt, integer_at(values, k));
         k += 1;
     }
 }
 
 // The parts, of which there are 64 at most.
-fn print_parts(heads: &[usize], spans: &[usize], values: &[i64], parts: usize) {
+fn print_parts(rt: &impl Print, heads: &[usize], spans: &[usize], values: &[i64], parts: usize) {
     let mut p = 0;
     let mut from = 0;
     while p < parts {
@@ -99,46 +101,46 @@ fn print_parts(heads: &[usize], spans: &[usize], values: &[i64], parts: usize) {
         if Agreement::FIELDS < from {
             return;
         }
-        print(b" ||");
-        print_place(place_at(heads, 4 * p));
-        print_place(place_at(heads, 4 * p + 1));
-        print_place(place_at(heads, 4 * p + 2));
-        print_fields(spans, values, from, from + count);
+        print(rt, b" ||");
+        print_place(rt, place_at(heads, 4 * p));
+        print_place(rt, place_at(heads, 4 * p + 1));
+        print_place(rt, place_at(heads, 4 * p + 2));
+        print_fields(rt, spans, values, from, from + count);
         from += count;
         p += 1;
     }
 }
 
-fn print_agreement(text: &[u8]) {
+fn print_agreement(rt: &impl Print, text: &[u8]) {
     let a = lines::agreement_of(text);
     let heads = a.heads;
     let spans = a.spans;
     let values = a.values;
-    print(b"agreement");
-    print_place(a.parts);
-    print_place(a.fields);
-    print_parts(&heads, &spans, &values, a.parts);
-    print(b"\n");
+    print(rt, b"agreement");
+    print_place(rt, a.parts);
+    print_place(rt, a.fields);
+    print_parts(rt, &heads, &spans, &values, a.parts);
+    print(rt, b"\n");
 }
 
 // What one line asks for.
-fn show(text: &[u8]) {
+fn show(rt: &impl Print, text: &[u8]) {
     let line = lines::read(text);
     let request = line.request;
     match request {
         Request::Refused(question) => {
-            print(b"refused ");
-            print_number(question as u64);
-            print(b"\n");
+            print(rt, b"refused ");
+            print_number(rt, question as u64);
+            print(rt, b"\n");
         }
-        Request::Tick => print(b"tick\n"),
+        Request::Tick => print(rt, b"tick\n"),
         Request::Jump(clock) => {
-            print(b"jump");
-            print_integer(clock);
-            print(b"\n");
+            print(rt, b"jump");
+            print_integer(rt, clock);
+            print(rt, b"\n");
         }
-        Request::Call => print_call(line),
-        Request::Agreement => print_agreement(text),
+        Request::Call => print_call(rt, line),
+        Request::Agreement => print_agreement(rt, text),
     }
 }
 
@@ -157,17 +159,18 @@ fn line_end(text: &[u8], at: usize) -> usize
     i
 }
 
-fn show_all(text: &[u8]) {
+fn show_all(rt: &impl Print, text: &[u8]) {
     let mut start = 0;
     while start < text.len() {
         let end = line_end(text, start);
-        show(&text[start..end]);
+        show(rt, &text[start..end]);
         start = end + 1;
     }
 }
 
-fn main() {
-    let mut buffer = io::large_buffer();
-    let n = io::read_full(libc::STDIN_FILENO, &mut buffer);
-    show_all(&buffer[..n]);
+fn main(rt: HostRuntime) -> io::Result<()> {
+    let mut buffer = [0u8; 65536];
+    let n = streams::fill(&mut rt.reader(), &mut buffer)?;
+    show_all(&rt, &buffer[..n]);
+    Ok(())
 }

@@ -2,19 +2,22 @@
 // nothing else, as a text of the same grammar with the names of the table; then reads that text into a second table, and says whether the two
 // are the same, word for word.
 // Expected listings: the texts, with one statement to a line, no comments, and only those parentheses that the meaning needs.
+#![tactic(auto)]
+
 ghost use Rattle.std.specs.Prelude.{◌≤◌, ◌<◌, length};
 
 use contract::Contract;
-use libc::STDOUT_FILENO;
 use pieces::{MOST, ROOM};
 use reading::Answer;
+use std::io;
+use std::rt::Files;
 
 mod listing;
 mod pieces;
 mod terms;
 
-fn print(bytes: &[u8]) {
-    io::write_all(STDOUT_FILENO, bytes);
+fn print(rt: &impl Print, bytes: &[u8]) {
+    let _ = rt.write_all(bytes);
 }
 
 // ---- a contract
@@ -47,11 +50,11 @@ fn reads_as(text: &[u8], table: &[u64]) -> u8 {
 }
 
 // What came of a listing.
-fn tell(verdict: u8) {
+fn tell(rt: &impl Print, verdict: u8) {
     match verdict {
-        0 => print(b"// reads back\n"),
-        1 => print(b"// reads back as another contract\n"),
-        _ => print(b"// is refused, or over 16384 bytes\n"),
+        0 => print(rt, b"// reads back\n"),
+        1 => print(rt, b"// reads back as another contract\n"),
+        _ => print(rt, b"// is refused, or over 16384 bytes\n"),
     }
 }
 
@@ -70,39 +73,37 @@ fn take(out: &[u64; ROOM], text: &mut [u8; MOST]) -> usize {
 }
 
 // Prints a listing of n bytes, and whether it reads as the table that it was made from.
-fn compare(text: &[u8; MOST], n: usize, table: &[u64]) {
+fn compare(rt: &impl Print, text: &[u8; MOST], n: usize, table: &[u64]) {
     let made = tokens::between(text, 0, n);
-    print(made);
-    tell(reads_as(made, table));
+    print(rt, made);
+    tell(rt, reads_as(made, table));
 }
 
 // Lists the contract in a table.
-fn list(table: &[u64]) {
+fn list(rt: &impl Print, table: &[u64]) {
     let mut out = [0u64; ROOM];
     let mut text = [0u8; MOST];
     listing::put_contract(table, &mut out);
     let n = take(&out, &mut text);
-    compare(&text, n, table);
+    compare(rt, &text, n, table);
 }
 
 // Reads a text into a table, and lists its contract.
-fn read(text: &[u8]) {
+fn read(rt: &impl Print, text: &[u8]) {
     let mut table = [0u64; Contract::TABLE];
     let answer = reader::read(text, &mut table);
     let Answer::Accepted = answer else {
-        return print(b"// refused\n");
+        return print(rt, b"// refused\n");
     };
-    list(&table);
+    list(rt, &table);
 }
 
 // ---- the texts
 
-fn show(name: &[u8]) {
+fn show(rt: &(impl Files + Print), name: &[u8]) {
     let mut text = [0u8; MOST];
-    let file = os::open_read(name);
-    let n = io::read_full(file, &mut text);
-    libc::close(file);
-    read(&text[..n]);
+    let n = streams::load(rt, name, &mut text).unwrap_or(0);
+    read(rt, &text[..n]);
 }
 
 // The place of the first LF from `at` on, or the end.
@@ -120,17 +121,18 @@ fn line_end(names: &[u8], at: usize) -> usize
     i
 }
 
-fn show_all(names: &[u8]) {
+fn show_all(rt: &(impl Files + Print), names: &[u8]) {
     let mut start: usize = 0;
     while start < names.len() {
         let end = line_end(names, start);
-        show(&names[start..end]);
+        show(rt, &names[start..end]);
         start = end + 1;
     }
 }
 
-fn main() {
-    let mut names = io::large_buffer();
-    let n = io::read_full(libc::STDIN_FILENO, &mut names);
-    show_all(&names[..n]);
+fn main(rt: HostRuntime) -> io::Result<()> {
+    let mut names = [0u8; 65536];
+    let n = streams::fill(&mut rt.reader(), &mut names)?;
+    show_all(&rt, &names[..n]);
+    Ok(())
 }

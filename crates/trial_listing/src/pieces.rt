@@ -75,8 +75,8 @@ pub(crate) fn put_line(depth: usize, out: &mut [u64; ROOM]) {
 
 pub(crate) fn put_number(n: u64, out: &mut [u64; ROOM]) {
     let mut digits = [0u8; Digits::MOST];
-    let many = io::decimal(n, &mut digits);
-    put_all(&digits[..many], out);
+    let many = printing::put_number(&mut digits, 0, n);
+    put_all(tokens::between(&digits, 0, many), out);
 }
 
 // ---- names
@@ -139,7 +139,7 @@ pub(crate) fn put_parameter(table: &[u64], f: usize, from: usize, i: usize, out:
     let n = contract::packed_length(table, row) as usize;
     let mut j: usize = 0;
     while j < n {
-        put(contract::packed_byte_lem(table, row, j), out);
+        put(contract::packed_byte(table, row, j), out);
         j += 1;
     }
 }

@@ -39,7 +39,7 @@ fn left_of(table: &[u64], k: usize) -> usize
 
 // Where the first part of the statement or event at node k ends: before its block or its handler, before its source and its target, or before
 // its target.
-fn first_reports(table: &[u64], k: usize) -> usize
+fn first_of(table: &[u64], k: usize) -> usize
     ensures { result ≤ k }
 {
     let node = contract::node_at(table, k);
@@ -204,7 +204,7 @@ pub(crate) fn put_block(
         return;
     }
     let k = end - 1;
-    let part = first_reports(table, k);
+    let part = first_of(table, k);
     put_block(table, f, first, start_of(table, part), depth, out);
     pieces::put_line(depth, out);
     if kind_at(table, k) == Node::CONDITIONAL {
@@ -244,7 +244,7 @@ fn put_guard(table: &[u64], f: usize, end: usize, state: usize, out: &mut [u64; 
 pub(crate) fn put_event(table: &[u64], f: usize, i: usize, out: &mut [u64; ROOM]) {
     let event = contract::event_at(table, i);
     let k = event.node;
-    let handler = first_reports(table, k);
+    let handler = first_of(table, k);
     put_guard(table, f, handler, event.state, out);
     put_block(table, f, handler, k, HANDLER, out);
     put_end(table, handler == k, 2, event.last, out);

@@ -20,19 +20,21 @@
 // Expected results: worked steps on contracts whose texts stand beside their words in `stdin`, to be read against the documents (who worked
 // them out, and how, is not recorded here; those of jumps, and of a right side of && without a value, were worked out from document 02, F-3
 // and F-5, before they were run); and for question 3 whether a table passes, as its name in `stdin` says.
+#![tactic(auto)]
+
 ghost use Rattle.std.specs.Prelude.{◌<◌, ◌≤◌, length};
 
 use contract::Contract;
-use libc::STDOUT_FILENO;
 use numbers::{Answer, Operator, Value};
 use outcomes::{Outcome, Rule, Stepped};
 use state::{Pending, State};
 use statements::Label;
+use std::io;
 
 // One word more than a table has.
 const WORDS: usize = Contract::TABLE + 1;
 
-#[derive(Drop)]
+#[derive(Clone, Copy)]
 struct Number {
     value: u64,
     // The place after it and the space that ends it.
@@ -100,8 +102,8 @@ fn repeat(table: &mut [u64], from: usize, step: usize, times: u64, first: u64, a
     let mut n: u64 = 0;
     while n < times {
         put(table, at, v);
-        at = std::num::wrapping_add_usize(at, step);
-        v = std::num::wrapping_add_u64(v, add);
+        at = at.wrapping_add(step);
+        v = v.wrapping_add(add);
         n += 1;
     }
 }
@@ -153,13 +155,13 @@ fn least(a: usize, b: usize) -> usize
 
 // ---- Integers and names of a line.
 
-#[derive(Drop)]
+#[derive(Clone, Copy)]
 struct Integer {
     value: i64,
     next: usize,
 }
 
-#[derive(Drop)]
+#[derive(Clone, Copy)]
 struct Integers {
     items: [i64; Integers::MOST],
     count: usize,
@@ -170,7 +172,7 @@ impl Integers {
     const MOST: usize = 64;
 }
 
-#[derive(Drop)]
+#[derive(Clone, Copy)]
 struct Numbers {
     items: [usize; Numbers::MOST],
     count: usize,
@@ -181,7 +183,7 @@ impl Numbers {
 }
 
 // An agreement as the machine takes it.
-#[derive(Drop)]
+#[derive(Clone, Copy)]
 struct Parts {
     parts: Numbers,
     spans: Numbers,
@@ -298,7 +300,7 @@ fn integers_at(line: &[u8], at: usize) -> Integers {
 
 // A party's name from `start` up to `end`, then its verb and how many fields it has.
 fn add_party(line: &[u8], p: Parts, start: usize, end: usize) -> Parts {
-    let verb = number_at(line, std::num::wrapping_add_usize(end, 1));
+    let verb = number_at(line, end.wrapping_add(1));
     let fields = number_at(line, verb.next);
     let mut parts = p.parts;
     let spans = p.spans;
@@ -326,7 +328,7 @@ fn add_field(p: Parts, start: usize, end: usize) -> Parts {
         parts,
         spans,
         values,
-        next: std::num::wrapping_add_usize(end, 1),
+        next: end.wrapping_add(1),
     }
 }
 
@@ -498,7 +500,7 @@ fn call(line: &[u8], table: &[u64], s: State) -> Stepped {
 // ---- The state's numbers are set.
 
 // What a line sets: a place, or the first number, and up to three more.
-#[derive(Drop)]
+#[derive(Clone, Copy)]
 struct Four {
     first: u64,
     second: u64,
@@ -590,76 +592,80 @@ fn set(line: &[u8], s: State) -> State {
 
 // ---- Printing.
 
-fn print(word: &[u8]) {
-    io::write_all(STDOUT_FILENO, word);
+fn print(rt: &impl Print, word: &[u8]) {
+    let _ = rt.write_all(word);
 }
 
-fn print_number(n: u64) {
-    print(b" ");
-    io::print_decimal(STDOUT_FILENO, n);
+fn print_decimal(rt: &impl Print, n: u64) {
+    let _ = rt.print(n);
 }
 
-fn print_integer(z: i64) {
-    print(b" ");
+fn print_number(rt: &impl Print, n: u64) {
+    print(rt, b" ");
+    print_decimal(rt, n);
+}
+
+fn print_integer(rt: &impl Print, z: i64) {
+    print(rt, b" ");
     if z < 0 {
-        print(b"-");
+        print(rt, b"-");
     }
-    io::print_decimal(STDOUT_FILENO, numbers::magnitude(z));
+    print_decimal(rt, numbers::magnitude(z));
 }
 
 fn wide(x: u8) -> u64 {
     x as u64
 }
 
-fn print_rule(rule: Rule) {
+fn print_rule(rt: &impl Print, rule: Rule) {
     match rule {
-        Rule::Agree => print(b"agree"),
-        Rule::Call => print(b"call"),
-        Rule::EventMatch => print(b"event match"),
-        Rule::Tick => print(b"tick"),
+        Rule::Agree => print(rt, b"agree"),
+        Rule::Call => print(rt, b"call"),
+        Rule::EventMatch => print(rt, b"event match"),
+        Rule::Tick => print(rt, b"tick"),
     }
 }
 
-fn print_outcome(outcome: Outcome) {
+fn print_outcome(rt: &impl Print, outcome: Outcome) {
     match outcome {
-        Outcome::Accepted(rule) => print_rule(rule),
+        Outcome::Accepted(rule) => print_rule(rt, rule),
         Outcome::Failed(n) => {
-            print(b"failed");
-            print_number(wide(n));
+            print(rt, b"failed");
+            print_number(rt, wide(n));
         }
         Outcome::Refused(n) => {
-            print(b"refused");
-            print_number(wide(n));
+            print(rt, b"refused");
+            print_number(rt, wide(n));
         }
     }
 }
 
-fn print_assets(assets: [u64; Contract::ASSETS], count: usize) {
-    print(b" |");
+fn print_assets(rt: &impl Print, assets: [u64; Contract::ASSETS], count: usize) {
+    print(rt, b" |");
     let mut i: usize = 0;
     while i < Contract::ASSETS {
         if count <= i {
             return;
         }
-        print_number(assets[i]);
+        print_number(rt, assets[i]);
         i += 1;
     }
 }
 
-fn print_field(kind: u8, number: i64, text: u8) {
+fn print_field(rt: &impl Print, kind: u8, number: i64, text: u8) {
     match kind {
-        0 => print(b" _"),
-        1 => print_integer(number),
+        0 => print(rt, b" _"),
+        1 => print_integer(rt, number),
         2 => {
-            print(b" \"");
-            io::print_decimal(STDOUT_FILENO, wide(text));
+            print(rt, b" \"");
+            print_decimal(rt, wide(text));
         }
-        _ => print(b" ?"),
+        _ => print(rt, b" ?"),
     }
 }
 
-fn print_fields(s: State, count: usize) {
-    print(b" |");
+fn print_fields(rt: &impl Print, s: State, count: usize) {
+    print(rt, b" |");
     let kinds = s.kinds;
     let numbers = s.numbers;
     let texts = s.texts;
@@ -668,75 +674,75 @@ fn print_fields(s: State, count: usize) {
         if count <= i {
             return;
         }
-        print_field(kinds[i], numbers[i], texts[i]);
+        print_field(rt, kinds[i], numbers[i], texts[i]);
         i += 1;
     }
 }
 
-fn print_label(label: Label) {
-    print(b" ");
-    print_number(label.kind);
-    print_number(label.party as u64);
-    print_integer(label.value);
-    print(b"\n");
+fn print_label(rt: &impl Print, label: Label) {
+    print(rt, b" ");
+    print_number(rt, label.kind);
+    print_number(rt, label.party as u64);
+    print_integer(rt, label.value);
+    print(rt, b"\n");
 }
 
-fn print_labels(labels: [Label; Label::MOST], count: usize) {
+fn print_labels(rt: &impl Print, labels: [Label; Label::MOST], count: usize) {
     let mut i: usize = 0;
     while i < Label::MOST {
         if count <= i {
             return;
         }
-        print_label(labels[i]);
+        print_label(rt, labels[i]);
         i += 1;
     }
 }
 
-fn print_state(table: &[u64], s: State) {
+fn print_state(rt: &impl Print, table: &[u64], s: State) {
     if s.agreed {
-        print_number(s.state as u64);
+        print_number(rt, s.state as u64);
     } else {
-        print(b" -");
+        print(rt, b" -");
     }
-    print_number(s.clock);
-    print_number(s.pending as u64);
+    print_number(rt, s.clock);
+    print_number(rt, s.pending as u64);
     let c = contract::head(table);
     let assets = s.assets;
-    print_assets(assets, c.assets);
-    print_fields(s, c.fields);
-    print(b"\n");
+    print_assets(rt, assets, c.assets);
+    print_fields(rt, s, c.fields);
+    print(rt, b"\n");
 }
 
 // Prints a step, and hands back the state after it.
-fn print_step(line: &[u8], table: &[u64], r: Stepped) -> State {
+fn print_step(rt: &impl Print, line: &[u8], table: &[u64], r: Stepped) -> State {
     let outcome = r.outcome;
     let s = r.state;
     let labels = r.labels;
-    print(line);
-    print(b": ");
-    print_outcome(outcome);
-    print_state(table, s);
-    print_labels(labels, r.count);
+    print(rt, line);
+    print(rt, b": ");
+    print_outcome(rt, outcome);
+    print_state(rt, table, s);
+    print_labels(rt, labels, r.count);
     s
 }
 
 // ---- Lines.
 
-fn heading(line: &[u8]) {
-    print(line);
-    print(b"\n");
+fn heading(rt: &impl Print, line: &[u8]) {
+    print(rt, line);
+    print(rt, b"\n");
 }
 
 // Whether the table passes, after the line's name.
-fn ask(line: &[u8], table: &[u64]) {
+fn ask(rt: &impl Print, line: &[u8], table: &[u64]) {
     if line.len() < 2 {
         return;
     }
-    print(&line[2..]);
+    print(rt, &line[2..]);
     if tables::table_passes(table) {
-        print(b": passes\n");
+        print(rt, b": passes\n");
     } else {
-        print(b": refused\n");
+        print(rt, b": refused\n");
     }
 }
 
@@ -767,16 +773,16 @@ fn step(line: &[u8], table: &[u64], s: State, kind: u8) -> Stepped {
 }
 
 // The state after a line that asks for no step.
-fn state_line(line: &[u8], table: &[u64], s: State, kind: u8) -> State {
+fn state_line(rt: &impl Print, line: &[u8], table: &[u64], s: State, kind: u8) -> State {
     match kind {
         b'f' => State::fresh(number_at(line, 2).value),
         b's' => set(line, s),
         b'#' => {
-            heading(line);
+            heading(rt, line);
             s
         }
         b'p' => {
-            ask(line, table);
+            ask(rt, line, table);
             s
         }
         _ => s,
@@ -784,15 +790,15 @@ fn state_line(line: &[u8], table: &[u64], s: State, kind: u8) -> State {
 }
 
 // The state after what a line says of it.
-fn step_line(line: &[u8], table: &[u64], s: State) -> State {
+fn step_line(rt: &impl Print, line: &[u8], table: &[u64], s: State) -> State {
     if line.len() < 1 {
         return s;
     }
     let kind = line[0];
     if asks_step(kind) {
-        return print_step(line, table, step(line, table, s, kind));
+        return print_step(rt, line, table, step(line, table, s, kind));
     }
-    state_line(line, table, s, kind)
+    state_line(rt, line, table, s, kind)
 }
 
 // How many words the table has after what a line says of it.
@@ -822,29 +828,30 @@ fn table_line(line: &[u8], table: &mut [u64], kept: &mut [u64], words: usize) ->
     }
 }
 
-fn step_on(line: &[u8], table: &[u64], words: usize, s: State) -> State {
+fn step_on(rt: &impl Print, line: &[u8], table: &[u64], words: usize, s: State) -> State {
     if words <= table.len() {
-        return step_line(line, &table[..words], s);
+        return step_line(rt, line, &table[..words], s);
     }
     s
 }
 
-fn run(text: &[u8], table: &mut [u64], kept: &mut [u64]) {
+fn run(rt: &impl Print, text: &[u8], table: &mut [u64], kept: &mut [u64]) {
     let mut words = Contract::TABLE;
     let mut s = State::fresh(0);
     let mut start: usize = 0;
     while start < text.len() {
         let end = end_of(text, start, b'\n');
         words = table_line(&text[start..end], table, kept, words);
-        s = step_on(&text[start..end], table, words, s);
+        s = step_on(rt, &text[start..end], table, words, s);
         start = end + 1;
     }
 }
 
-fn main() {
-    let mut text = io::large_buffer();
-    let n = io::read_full(0, &mut text);
+fn main(rt: HostRuntime) -> io::Result<()> {
+    let mut text = [0u8; 65536];
+    let n = streams::fill(&mut rt.reader(), &mut text)?;
     let mut table = [0u64; WORDS];
     let mut kept = [0u64; WORDS];
-    run(&text[..n], &mut table, &mut kept);
+    run(&rt, &text[..n], &mut table, &mut kept);
+    Ok(())
 }

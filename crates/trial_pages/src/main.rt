@@ -13,17 +13,20 @@
 // Each line is printed. A gathered one is followed by how many payouts there are; a page by `accepted` and its bytes, or `refused` and the
 // number, then by whether the other bytes of the buffer, or all of them, are still dots.
 // Expected results: worked out from document 02 by scripts/expected-pages, which shares no code with it.
+#![tactic(auto)]
+
 ghost use Rattle.std.specs.Prelude.{◌≤◌, ◌<◌, length};
 
 use contract::Contract;
-use libc::STDOUT_FILENO;
 use numbers::Value;
 use pages::{Gathered, Paged, Sheet};
 use reading::Answer;
+use std::io;
+use std::rt::Files;
 
 const ENTRIES: usize = 130;
 
-#[derive(Drop)]
+#[derive(Clone, Copy)]
 struct Number {
     value: u64,
     // The place after it and the space that ends it.
@@ -34,8 +37,12 @@ impl Number {
     const GREATEST: u64 = 18446744073709551615;
 }
 
-fn print(bytes: &[u8]) {
-    io::write_all(STDOUT_FILENO, bytes);
+fn print(rt: &impl Print, bytes: &[u8]) {
+    let _ = rt.write_all(bytes);
+}
+
+fn print_decimal(rt: &impl Print, n: u64) {
+    let _ = rt.print(n);
 }
 
 fn digit(b: u8) -> bool {
@@ -158,7 +165,7 @@ fn change_number(entry: u64, k: u64, v: u64, numbers: &mut [u64]) {
 
 // ---- what is given
 
-#[derive(Drop)]
+#[derive(Clone, Copy)]
 struct Given {
     size: usize,
     numbers: usize,
@@ -182,15 +189,21 @@ fn first_values(list: &[i64], n: usize) -> &[i64] {
     if n <= list.len() { &list[..n] } else { list }
 }
 
-fn gather(line: &[u8], given: Given, numbers: &mut [u64], values: &mut [i64]) -> Given {
+fn gather(
+    rt: &impl Print,
+    line: &[u8],
+    given: Given,
+    numbers: &mut [u64],
+    values: &mut [i64],
+) -> Given {
     let mut report = [0u64; 5];
     read_numbers(line, 2, &mut report);
     let integers = [integer(report[4])];
     let before = given.gathered;
     let g = pages::gather(before, &report, &integers, 0, numbers, values);
     let count = g.count;
-    io::print_decimal(STDOUT_FILENO, count as u64);
-    print(b"\n");
+    print_decimal(rt, count as u64);
+    print(rt, b"\n");
     let mut next = given;
     next.gathered = g;
     if count < ENTRIES {
@@ -213,31 +226,32 @@ fn dots(buffer: &[u8], from: usize) -> bool {
     true
 }
 
-fn show_rest(buffer: &[u8], from: usize) {
+fn show_rest(rt: &impl Print, buffer: &[u8], from: usize) {
     if dots(buffer, from) {
-        print(b"kept\n");
+        print(rt, b"kept\n");
     } else {
-        print(b"changed\n");
+        print(rt, b"changed\n");
     }
 }
 
-fn show(answer: Paged, buffer: &[u8]) {
+fn show(rt: &impl Print, answer: Paged, buffer: &[u8]) {
     match answer {
         Paged::Accepted => {
-            print(b"accepted\n");
-            print(tokens::between(buffer, 0, Sheet::BYTES));
-            show_rest(buffer, Sheet::BYTES);
+            print(rt, b"accepted\n");
+            print(rt, tokens::between(buffer, 0, Sheet::BYTES));
+            show_rest(rt, buffer, Sheet::BYTES);
         }
         Paged::Refused(q) => {
-            print(b"refused ");
-            io::print_decimal(STDOUT_FILENO, q as u64);
-            print(b"\n");
-            show_rest(buffer, 0);
+            print(rt, b"refused ");
+            print_decimal(rt, q as u64);
+            print(rt, b"\n");
+            show_rest(rt, buffer, 0);
         }
     }
 }
 
 fn ask_within(
+    rt: &impl Print,
     table: &[u64],
     numbers: &[u64],
     values: &[i64],
@@ -247,13 +261,14 @@ fn ask_within(
 ) {
     if size <= buffer.len() {
         let answer = pages::page(table, numbers, values, page, &mut buffer[..size]);
-        show(answer, buffer);
+        show(rt, answer, buffer);
     }
 }
 
-fn ask(table: &[u64], numbers: &[u64], values: &[i64], given: Given, page: usize) {
+fn ask(rt: &impl Print, table: &[u64], numbers: &[u64], values: &[i64], given: Given, page: usize) {
     let mut buffer = [b'.'; 5200];
     ask_within(
+        rt,
         table,
         first_numbers(numbers, given.numbers),
         first_values(values, given.values),
@@ -265,16 +280,15 @@ fn ask(table: &[u64], numbers: &[u64], values: &[i64], given: Given, page: usize
 
 // ---- lines
 
-fn read_terms(table: &mut [u64]) {
+fn read_terms(rt: &impl Files, table: &mut [u64]) {
     let mut text = [0u8; Answer::TEXT + 1];
-    let file = os::open_read(b"terms.stipula");
-    let n = io::read_full(file, &mut text);
-    libc::close(file);
+    let n = streams::load(rt, b"terms.stipula", &mut text).unwrap_or(0);
     reader::read(&text[..n], table);
 }
 
 // A line with up to three numbers.
 fn run_numbers(
+    rt: &impl Print,
     line: &[u8],
     table: &[u64],
     numbers: &mut [u64],
@@ -302,27 +316,28 @@ fn run_numbers(
         b'v' => put_value(values, a as usize, integer(b)),
         b'm' => put_value(values, a as usize, below_zero(b)),
         b'n' => next = give(given, a as usize, b as usize),
-        b'p' => ask(table, numbers, values, given, a as usize),
+        b'p' => ask(rt, table, numbers, values, given, a as usize),
         _ => {}
     }
     next
 }
 
 fn run_line(
+    rt: &(impl Files + Print),
     line: &[u8],
     table: &mut [u64],
     numbers: &mut [u64],
     values: &mut [i64],
     given: Given,
 ) -> Given {
-    print(line);
-    print(b"\n");
+    print(rt, line);
+    print(rt, b"\n");
     if line.len() < 1 {
         return given;
     }
     match line[0] {
         b't' => {
-            read_terms(table);
+            read_terms(rt, table);
             given
         }
         b's' => {
@@ -331,8 +346,8 @@ fn run_line(
             next.gathered = none;
             next
         }
-        b'g' => gather(line, given, numbers, values),
-        _ => run_numbers(line, table, numbers, values, given),
+        b'g' => gather(rt, line, given, numbers, values),
+        _ => run_numbers(rt, line, table, numbers, values, given),
     }
 }
 
@@ -350,7 +365,13 @@ fn line_end(text: &[u8], start: usize) -> usize
     i
 }
 
-fn run(text: &[u8], table: &mut [u64], numbers: &mut [u64], values: &mut [i64]) {
+fn run(
+    rt: &(impl Files + Print),
+    text: &[u8],
+    table: &mut [u64],
+    numbers: &mut [u64],
+    values: &mut [i64],
+) {
     let mut given = Given {
         size: 5200,
         numbers: 0,
@@ -360,16 +381,17 @@ fn run(text: &[u8], table: &mut [u64], numbers: &mut [u64], values: &mut [i64]) 
     let mut start: usize = 0;
     while start < text.len() {
         let end = line_end(text, start);
-        given = run_line(&text[start..end], table, numbers, values, given);
+        given = run_line(rt, &text[start..end], table, numbers, values, given);
         start = end + 1;
     }
 }
 
-fn main() {
-    let mut text = io::large_buffer();
-    let n = io::read_full(0, &mut text);
+fn main(rt: HostRuntime) -> io::Result<()> {
+    let mut text = [0u8; 65536];
+    let n = streams::fill(&mut rt.reader(), &mut text)?;
     let mut table = [0u64; Contract::TABLE];
     let mut numbers = [0u64; ENTRIES * Sheet::NUMBERS];
     let mut values = [0i64; ENTRIES];
-    run(&text[..n], &mut table, &mut numbers, &mut values);
+    run(&rt, &text[..n], &mut table, &mut numbers, &mut values);
+    Ok(())
 }

@@ -14,19 +14,21 @@
 // that refused, and whether all are. Reports at once also print how many were written.
 // Expected results: the lines that document 01 lists and others of each kind, with the answers of questions 52, 3 and 53; who worked them out, and how, is not recorded here.
 // Those of the refusals 60 to 63 were worked out from document 02, F-3, before they were run.
+#![tactic(auto)]
+
 ghost use Rattle.std.specs.Prelude.{◌≤◌, ◌<◌, length};
 
 use contract::Contract;
-use libc::STDOUT_FILENO;
 use numbers::Value;
 use results::{Batch, Report, Written};
+use std::io;
 
 // The most bytes of the buffer for one report, and the reports at once that there are numbers and a buffer for.
 const ROOM: usize = 200;
 
 const MANY: usize = 5;
 
-#[derive(Drop)]
+#[derive(Clone, Copy)]
 struct Number {
     value: u64,
     // The place after it and the space that ends it.
@@ -121,90 +123,105 @@ fn dots(buffer: &[u8], from: usize) -> bool {
     true
 }
 
-fn show_rest(buffer: &[u8], from: usize) {
+fn print(rt: &impl Print, bytes: &[u8]) {
+    let _ = rt.write_all(bytes);
+}
+
+fn print_decimal(rt: &impl Print, n: u64) {
+    let _ = rt.print(n);
+}
+
+fn show_rest(rt: &impl Print, buffer: &[u8], from: usize) {
     if dots(buffer, from) {
-        io::write_all(STDOUT_FILENO, b"kept\n");
+        print(rt, b"kept\n");
     } else {
-        io::write_all(STDOUT_FILENO, b"changed\n");
+        print(rt, b"changed\n");
     }
 }
 
-fn show(answer: Written, buffer: &[u8]) {
+fn show(rt: &impl Print, answer: Written, buffer: &[u8]) {
     match answer {
         Written::Wrote(n) => {
-            io::print_decimal(STDOUT_FILENO, n as u64);
-            io::write_all(STDOUT_FILENO, b" bytes: ");
+            print_decimal(rt, n as u64);
+            print(rt, b" bytes: ");
             if n <= buffer.len() {
-                io::write_all(STDOUT_FILENO, &buffer[..n]);
+                print(rt, &buffer[..n]);
             }
-            show_rest(buffer, n);
+            show_rest(rt, buffer, n);
         }
         Written::Refused(n) => {
-            io::write_all(STDOUT_FILENO, b"no: ");
-            io::print_decimal(STDOUT_FILENO, n as u64);
-            io::write_all(STDOUT_FILENO, b"\n");
-            show_rest(buffer, 0);
+            print(rt, b"no: ");
+            print_decimal(rt, n as u64);
+            print(rt, b"\n");
+            show_rest(rt, buffer, 0);
         }
     }
 }
 
-fn write_within(table: &[u64], report: Report, buffer: &mut [u8], size: usize) {
+fn write_within(rt: &impl Print, table: &[u64], report: Report, buffer: &mut [u8], size: usize) {
     if size <= buffer.len() {
         let answer = results::write(table, report, &mut buffer[..size]);
-        show(answer, buffer);
+        show(rt, answer, buffer);
     }
 }
 
-fn write_text_within(number: u8, place: usize, buffer: &mut [u8], size: usize) {
+fn write_text_within(rt: &impl Print, number: u8, place: usize, buffer: &mut [u8], size: usize) {
     if size <= buffer.len() {
         let answer = results::write_text_refusal(number, place, &mut buffer[..size]);
-        show(answer, buffer);
+        show(rt, answer, buffer);
     }
 }
 
-fn ask(table: &[u64], report: Report, size: usize) {
+fn ask(rt: &impl Print, table: &[u64], report: Report, size: usize) {
     let mut buffer = [b'.'; ROOM];
-    write_within(table, report, &mut buffer, size);
+    write_within(rt, table, report, &mut buffer, size);
 }
 
-fn ask_text(number: u8, place: usize, size: usize) {
+fn ask_text(rt: &impl Print, number: u8, place: usize, size: usize) {
     let mut buffer = [b'.'; ROOM];
-    write_text_within(number, place, &mut buffer, size);
+    write_text_within(rt, number, place, &mut buffer, size);
 }
 
-fn show_batch(answer: Batch, buffer: &[u8]) {
+fn show_batch(rt: &impl Print, answer: Batch, buffer: &[u8]) {
     if answer.question != 0 {
-        show(Written::Refused(answer.question), buffer);
+        show(rt, Written::Refused(answer.question), buffer);
         return;
     }
-    io::print_decimal(STDOUT_FILENO, answer.many as u64);
-    io::write_all(STDOUT_FILENO, b" of them, ");
-    show(Written::Wrote(answer.used), buffer);
+    print_decimal(rt, answer.many as u64);
+    print(rt, b" of them, ");
+    show(rt, Written::Wrote(answer.used), buffer);
 }
 
-fn write_batch_within(table: &[u64], numbers: &[u64], many: usize, buffer: &mut [u8], size: usize) {
+fn write_batch_within(
+    rt: &impl Print,
+    table: &[u64],
+    numbers: &[u64],
+    many: usize,
+    buffer: &mut [u8],
+    size: usize,
+) {
     if size <= buffer.len() {
         let integers = [3i64, -1250, 0, 7];
         let answer = results::write_batch(table, numbers, &integers, 0, many, &mut buffer[..size]);
-        show_batch(answer, buffer);
+        show_batch(rt, answer, buffer);
     }
 }
 
-fn ask_batch(line: &[u8], table: &[u64], size: usize) {
+fn ask_batch(rt: &impl Print, line: &[u8], table: &[u64], size: usize) {
     let first = number_at(line, 2);
     let mut numbers = [0u64; MANY * Report::WORDS];
     write_words(line, first.next, &mut numbers, 0);
     let mut buffer = [b'.'; MANY * Report::ROOM];
-    write_batch_within(table, &numbers, first.value as usize, &mut buffer, size);
+    write_batch_within(rt, table, &numbers, first.value as usize, &mut buffer, size);
 }
 
-fn print_line(line: &[u8]) {
-    io::write_all(STDOUT_FILENO, line);
-    io::write_all(STDOUT_FILENO, b"\n");
+fn print_line(rt: &impl Print, line: &[u8]) {
+    print(rt, line);
+    print(rt, b"\n");
 }
 
 // A report of three numbers.
-fn report_line(line: &[u8], table: &[u64], size: usize) {
+fn report_line(rt: &impl Print, line: &[u8], table: &[u64], size: usize) {
     let first = number_at(line, 2);
     let second = number_at(line, first.next);
     let third = number_at(line, second.next);
@@ -215,24 +232,30 @@ fn report_line(line: &[u8], table: &[u64], size: usize) {
         return;
     }
     match line[0] {
-        b'r' => ask(table, Report::Ruled(byte(a), b as usize, c), size),
-        b's' => ask(table, Report::Sent(byte(a), b as usize, integer(c)), size),
+        b'r' => ask(rt, table, Report::Ruled(byte(a), b as usize, c), size),
+        b's' => ask(
+            rt,
+            table,
+            Report::Sent(byte(a), b as usize, integer(c)),
+            size,
+        ),
         b'm' => ask(
+            rt,
             table,
             Report::Sent(byte(a), b as usize, below_zero(c)),
             size,
         ),
-        b'h' => ask(table, Report::Held(a as usize, b), size),
-        b'q' => ask(table, Report::Refused(byte(a)), size),
-        b'f' => ask(table, Report::Failed(byte(a)), size),
-        b't' => ask_text(byte(a), b as usize, size),
-        b'l' => ask_batch(line, table, size),
+        b'h' => ask(rt, table, Report::Held(a as usize, b), size),
+        b'q' => ask(rt, table, Report::Refused(byte(a)), size),
+        b'f' => ask(rt, table, Report::Failed(byte(a)), size),
+        b't' => ask_text(rt, byte(a), b as usize, size),
+        b'l' => ask_batch(rt, line, table, size),
         _ => {}
     }
 }
 
 // Does what a line says, and hands back how many bytes the buffer has.
-fn run_line(line: &[u8], table: &mut [u64], size: usize) -> usize {
+fn run_line(rt: &impl Print, line: &[u8], table: &mut [u64], size: usize) -> usize {
     if line.len() < 1 {
         return size;
     }
@@ -243,12 +266,12 @@ fn run_line(line: &[u8], table: &mut [u64], size: usize) -> usize {
             size
         }
         b'b' => {
-            print_line(line);
+            print_line(rt, line);
             number_at(line, 2).value as usize
         }
         _ => {
-            print_line(line);
-            report_line(line, table, size);
+            print_line(rt, line);
+            report_line(rt, line, table, size);
             size
         }
     }
@@ -268,19 +291,20 @@ fn line_end(text: &[u8], start: usize) -> usize
     i
 }
 
-fn run(text: &[u8], table: &mut [u64]) {
+fn run(rt: &impl Print, text: &[u8], table: &mut [u64]) {
     let mut size: usize = Report::ROOM;
     let mut start: usize = 0;
     while start < text.len() {
         let end = line_end(text, start);
-        size = run_line(&text[start..end], table, size);
+        size = run_line(rt, &text[start..end], table, size);
         start = end + 1;
     }
 }
 
-fn main() {
-    let mut text = io::large_buffer();
-    let n = io::read_full(0, &mut text);
+fn main(rt: HostRuntime) -> io::Result<()> {
+    let mut text = [0u8; 65536];
+    let n = streams::fill(&mut rt.reader(), &mut text)?;
     let mut table = [0u64; Contract::TABLE];
-    run(&text[..n], &mut table);
+    run(&rt, &text[..n], &mut table);
+    Ok(())
 }

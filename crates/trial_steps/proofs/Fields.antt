@@ -1,5 +1,5 @@
--- A field that is an array of structs is owned over the structs' tuples (`T.the_field`), and a parameter that is one over their records (`T.the_row`): from the other to the one. Assumes nothing.
-use Rattle.std.proofs.Common.{◌≡◌, ℕ, List, [], ◌∷◌, map, ◌∙◌}
+-- An array of structs over the structs' records (`T.the_row`) is one over their tuples (`T.the_field`). Assumes nothing.
+use Rattle.std.proofs.Common.{ℕ, List, [], ◌∷◌, map, ◌∙◌}
 use lib.ListN.{length-map}
 use mir.Val.{Val}
 use denote.Shadow.{shadow}

@@ -1,4 +1,4 @@
--- What the walks of `fire_on` and `jump_on` have in common: the array of entries, of which the first n are lent, and the result. Assumes nothing.
+-- An array of entries of which the first n are lent, as in `fire_on` and `jump_on`, and the result that it goes into. Assumes nothing.
 use Rattle.std.proofs.Common.{◌≡◌, ℕ, zero, ◌≤◌, T as Holds, List, [], ◌∷◌, length, take, drop as after, sym, refl, subst, lit<, length-take-le}
 use seplogic.Ra.Ura.{Ura}
 use mir.Syntax.{Ty, erased, mut, ty_ref, ty_array}
@@ -21,7 +21,6 @@ use Rattle.statements.proofs.Label.TheLaws as T'
 use Rattle.steps.specs.declared.Left.{Left}
 use Rattle.steps.specs.contracts.Left as B
 use Rattle.trial_steps.specs.declared.Shown.{Shown}
-use Rattle.trial_steps.proofs.Fields.{field_is}
 use Rattle.trial_steps.specs.contracts.Shown as S
 
 abbrev pub R : RattleType
@@ -66,4 +65,4 @@ abbrev pub mach : Val → List Label → Val
 mach w zs = vstruct (vcons w (vcons (mach_a zs) vnil))
 
 pub is_out : (r : Left) (w : Val) (zs : List Label) → Is B.the_row r (w ∷ []) → Is Arr zs (mach_a zs ∷ []) → Is S.the_row (out r zs) (mach w zs ∷ [])
-is_out r w zs p is = ((w ∷ [], (mach_a zs ∷ [], tt)), (refl, (p, (field_is 100 zs _ is, tt))))
+is_out r w zs p is = ((w ∷ [], (mach_a zs ∷ [], tt)), (refl, (p, (is, tt))))

@@ -12,19 +12,21 @@
 // that it did not keep: its place, kind, party, value. Without that last 1 the next line has the state from before it. Lines with a semicolon are contracts' texts.
 // Expected results: to be read against document 01 (question 20, the labels' order; entries past them are kept); who worked them out, and how, is not recorded here.
 // Those of jumps and of due events in the order of the text were worked out from document 02, F-3 and F-4, before they were run.
+#![tactic(auto)]
+
 ghost use Rattle.std.specs.Prelude.{◌≡◌, ◌<◌, ◌≤◌, ◌++◌, length, take, drop};
 ghost use Rattle.machine.specs.Steps.{step, fired, jumped};
 ghost use Rattle.steps.specs.Left.{left_of, slots_of};
 
 use contract::Contract;
-use libc::STDOUT_FILENO;
 use numbers::{Answer, Operator, Value};
 use outcomes::{Outcome, Rule};
 use state::{Pending, State};
 use statements::Label;
+use std::io;
 use steps::Left;
 
-#[derive(Drop)]
+#[derive(Clone, Copy)]
 struct Number {
     value: u64,
     // The place after it and the space that ends it.
@@ -133,7 +135,7 @@ fn signed(minus: bool, v: u64) -> i64 {
 }
 
 // What a line sets: a place, or the first number, and up to three more.
-#[derive(Drop)]
+#[derive(Clone, Copy)]
 struct Four {
     first: u64,
     second: u64,
@@ -225,107 +227,111 @@ fn set(line: &[u8], s: State) -> State {
 
 // ---- Printing.
 
-fn print(word: &[u8]) {
-    io::write_all(STDOUT_FILENO, word);
+fn print(rt: &impl Print, word: &[u8]) {
+    let _ = rt.write_all(word);
 }
 
-fn print_number(n: u64) {
-    print(b" ");
-    io::print_decimal(STDOUT_FILENO, n);
+fn print_decimal(rt: &impl Print, n: u64) {
+    let _ = rt.print(n);
 }
 
-fn print_integer(z: i64) {
-    print(b" ");
+fn print_number(rt: &impl Print, n: u64) {
+    print(rt, b" ");
+    print_decimal(rt, n);
+}
+
+fn print_integer(rt: &impl Print, z: i64) {
+    print(rt, b" ");
     if z < 0 {
-        print(b"-");
+        print(rt, b"-");
     }
-    io::print_decimal(STDOUT_FILENO, numbers::magnitude(z));
+    print_decimal(rt, numbers::magnitude(z));
 }
 
 fn wide(x: u8) -> u64 {
     x as u64
 }
 
-fn print_rule(rule: Rule) {
+fn print_rule(rt: &impl Print, rule: Rule) {
     match rule {
-        Rule::Agree => print(b"agree"),
-        Rule::Call => print(b"call"),
-        Rule::EventMatch => print(b"event match"),
-        Rule::Tick => print(b"tick"),
+        Rule::Agree => print(rt, b"agree"),
+        Rule::Call => print(rt, b"call"),
+        Rule::EventMatch => print(rt, b"event match"),
+        Rule::Tick => print(rt, b"tick"),
     }
 }
 
-fn print_outcome(outcome: Outcome) {
+fn print_outcome(rt: &impl Print, outcome: Outcome) {
     match outcome {
-        Outcome::Accepted(rule) => print_rule(rule),
+        Outcome::Accepted(rule) => print_rule(rt, rule),
         Outcome::Failed(n) => {
-            print(b"failed");
-            print_number(wide(n));
+            print(rt, b"failed");
+            print_number(rt, wide(n));
         }
         Outcome::Refused(n) => {
-            print(b"refused");
-            print_number(wide(n));
+            print(rt, b"refused");
+            print_number(rt, wide(n));
         }
     }
 }
 
-fn print_kept(kept: usize) {
-    print(b", kept");
-    print_number(kept as u64);
-    print(b"\n");
+fn print_kept(rt: &impl Print, kept: usize) {
+    print(rt, b", kept");
+    print_number(rt, kept as u64);
+    print(rt, b"\n");
 }
 
-fn print_left(left: Left) {
+fn print_left(rt: &impl Print, left: Left) {
     let outcome = left.outcome;
-    print(b": ");
-    print_outcome(outcome);
-    print(b", labels");
-    print_number(left.count as u64);
+    print(rt, b": ");
+    print_outcome(rt, outcome);
+    print(rt, b", labels");
+    print_number(rt, left.count as u64);
 }
 
 fn same(label: Label, i: usize) -> bool {
     (label.kind == 9) & (label.party == i) & (label.value == 1000)
 }
 
-fn print_entry(label: Label, i: usize) {
+fn print_entry(rt: &impl Print, label: Label, i: usize) {
     if same(label, i) {
         return;
     }
-    print(b" ");
-    print_number(i as u64);
-    print(b":");
-    print_number(label.kind);
-    print_number(label.party as u64);
-    print_integer(label.value);
-    print(b"\n");
+    print(rt, b" ");
+    print_number(rt, i as u64);
+    print(rt, b":");
+    print_number(rt, label.kind);
+    print_number(rt, label.party as u64);
+    print_integer(rt, label.value);
+    print(rt, b"\n");
 }
 
-fn print_times(events: [Pending; State::PENDING], pending: usize) {
+fn print_times(rt: &impl Print, events: [Pending; State::PENDING], pending: usize) {
     let mut i: usize = 0;
     while i < State::PENDING {
         if pending <= i {
             return;
         }
-        print_number(events[i].time);
+        print_number(rt, events[i].time);
         i += 1;
     }
 }
 
-fn print_state(s: State) {
+fn print_state(rt: &impl Print, s: State) {
     let events = s.events;
-    print(b"  clock");
-    print_number(s.clock);
-    print(b", state");
-    print_number(s.state as u64);
-    print(b", times");
-    print_times(events, s.pending);
-    print(b"\n");
+    print(rt, b"  clock");
+    print_number(rt, s.clock);
+    print(rt, b", state");
+    print_number(rt, s.state as u64);
+    print(rt, b", times");
+    print_times(rt, events, s.pending);
+    print(rt, b"\n");
 }
 
 // One more if an entry is as it was.
 fn kept_with(kept: usize, label: Label, i: usize) -> usize {
     if same(label, i) {
-        return std::num::wrapping_add_usize(kept, 1);
+        return kept.wrapping_add(1);
     }
     kept
 }
@@ -333,7 +339,7 @@ fn kept_with(kept: usize, label: Label, i: usize) -> usize {
 // ---- Firing and jump.
 
 // What a step left, and the entries of which the first were lent to it.
-#[derive(Drop)]
+#[derive(Clone, Copy)]
 struct Shown {
     left: Left,
     labels: [Label; Shown::ENTRIES],
@@ -395,54 +401,54 @@ fn kept(labels: [Label; Shown::ENTRIES], n: usize) -> usize
     count
 }
 
-fn print_entries(labels: [Label; Shown::ENTRIES], n: usize)
+fn print_entries(rt: &impl Print, labels: [Label; Shown::ENTRIES], n: usize)
     requires { n ≤ 100 }
 {
     let mut i: usize = 0;
     while i < n {
-        print_entry(labels[i], i);
+        print_entry(rt, labels[i], i);
         i += 1;
     }
 }
 
 // Prints what a step left, and hands back its state.
-fn show(shown: Shown, n: usize) -> State
+fn show(rt: &impl Print, shown: Shown, n: usize) -> State
     requires { n ≤ 100 }
 {
     let left = shown.left;
     let labels = shown.labels;
-    print_left(left);
-    print_kept(kept(labels, n));
-    print_entries(labels, n);
+    print_left(rt, left);
+    print_kept(rt, kept(labels, n));
+    print_entries(rt, labels, n);
     left.state
 }
 
 // ---- Lines.
 
-fn heading(line: &[u8]) {
-    print(line);
-    print(b"\n");
+fn heading(rt: &impl Print, line: &[u8]) {
+    print(rt, line);
+    print(rt, b"\n");
 }
 
 // The state that the next line has: the step's where the number at `at` is not 0.
-fn handed_on(line: &[u8], at: usize, before: State, after: State) -> State {
+fn handed_on(rt: &impl Print, line: &[u8], at: usize, before: State, after: State) -> State {
     if number_at(line, at).value == 0 {
         return before;
     }
-    print_state(after);
+    print_state(rt, after);
     after
 }
 
-fn fire(line: &[u8], table: &[u64], s: State) -> State {
-    print(line);
+fn fire(rt: &impl Print, line: &[u8], table: &[u64], s: State) -> State {
+    print(rt, line);
     let slots = number_at(line, 2);
     let n = slots.value as usize;
     if Shown::ENTRIES < n {
-        print(b": ?\n");
+        print(rt, b": ?\n");
         return s;
     }
-    let after = show(fire_on(table, s, marks(), n), n);
-    handed_on(line, slots.next, s, after)
+    let after = show(rt, fire_on(table, s, marks(), n), n);
+    handed_on(rt, line, slots.next, s, after)
 }
 
 // Where the digits of a number that may be negative start.
@@ -455,24 +461,24 @@ fn digits_at(line: &[u8], at: usize) -> usize {
     at
 }
 
-fn jump(line: &[u8], table: &[u64], s: State) -> State {
-    print(line);
+fn jump(rt: &impl Print, line: &[u8], table: &[u64], s: State) -> State {
+    print(rt, line);
     let slots = number_at(line, 2);
     let start = slots.next;
     let digits = digits_at(line, start);
     let magnitude = number_at(line, digits);
     let n = slots.value as usize;
     if Shown::ENTRIES < n {
-        print(b": ?\n");
+        print(rt, b": ?\n");
         return s;
     }
     let to = signed(digits != start, magnitude.value);
-    let after = show(jump_on(table, s, to, marks(), n), n);
-    handed_on(line, magnitude.next, s, after)
+    let after = show(rt, jump_on(table, s, to, marks(), n), n);
+    handed_on(rt, line, magnitude.next, s, after)
 }
 
 // The state after what a line says of it.
-fn step_line(line: &[u8], table: &mut [u64], s: State) -> State {
+fn step_line(rt: &impl Print, line: &[u8], table: &mut [u64], s: State) -> State {
     if line.len() < 1 {
         return s;
     }
@@ -483,29 +489,30 @@ fn step_line(line: &[u8], table: &mut [u64], s: State) -> State {
         }
         b'f' => State::fresh(number_at(line, 2).value),
         b's' => set(line, s),
-        b'e' => fire(line, table, s),
-        b'j' => jump(line, table, s),
+        b'e' => fire(rt, line, table, s),
+        b'j' => jump(rt, line, table, s),
         b'#' => {
-            heading(line);
+            heading(rt, line);
             s
         }
         _ => s,
     }
 }
 
-fn run(text: &[u8], table: &mut [u64]) {
+fn run(rt: &impl Print, text: &[u8], table: &mut [u64]) {
     let mut s = State::fresh(0);
     let mut start: usize = 0;
     while start < text.len() {
         let end = end_of(text, start, b'\n');
-        s = step_line(&text[start..end], table, s);
+        s = step_line(rt, &text[start..end], table, s);
         start = end + 1;
     }
 }
 
-fn main() {
-    let mut text = io::large_buffer();
-    let n = io::read_full(0, &mut text);
+fn main(rt: HostRuntime) -> io::Result<()> {
+    let mut text = [0u8; 65536];
+    let n = streams::fill(&mut rt.reader(), &mut text)?;
     let mut table = [0u64; Contract::TABLE];
-    run(&text[..n], &mut table);
+    run(&rt, &text[..n], &mut table);
+    Ok(())
 }

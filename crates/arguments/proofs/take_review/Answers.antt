@@ -1,0 +1,17 @@
+-- `arguments::take_review` meets its contract. Assumes nothing.
+use mathlib.Core.Path.{sym, ◌∙◌}
+use Rattle.laws.proofs.Choice.{pick_true, pick_false}
+use Rattle.arguments.specs.Asking.{with_review}
+use Rattle.arguments.proofs.take_review.Goals as goal
+
+pub returns-then-asked : goal.returns-then-asked
+unfolding with_review
+returns-then-asked c = c.blame.ensures ∙ sym (pick_true _ _ _ c.if-asked.true)
+
+pub returns-then-asked-2 : goal.returns-then-asked-2
+unfolding with_review
+returns-then-asked-2 c = c.blame-then-asked-2.ensures ∙ sym (pick_false _ _ _ c.if-asked.false ∙ pick_true _ _ _ c.if-asked-2.true)
+
+pub returns : goal.returns
+unfolding with_review
+returns c = sym (pick_false _ _ _ c.if-asked.false ∙ pick_false _ _ _ c.if-asked-2.false)

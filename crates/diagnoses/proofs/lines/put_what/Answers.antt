@@ -1,0 +1,9 @@
+-- `diagnoses::lines::put_what` meets its contract. Assumes nothing.
+use native.Mathlib.Omega.{arith}
+use Rattle.diagnoses.proofs.Diagnosed.{what_made}
+use Rattle.diagnoses.proofs.lines.put_what.Goals as goal
+
+pub returns : goal.returns
+returns c =
+    what_made c.args.number (omega (arith, c.ranges.number.fits)) c.requires c.put_words-a.ensures c.put_bytes-b.ensures c.put_number-d.ensures
+    c.put_bytes.ensures

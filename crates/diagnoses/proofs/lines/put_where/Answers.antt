@@ -1,0 +1,9 @@
+-- `diagnoses::lines::put_where` meets its contract. Assumes nothing.
+use native.Mathlib.Omega.{arith}
+use Rattle.diagnoses.proofs.Diagnosed.{where_made}
+use Rattle.diagnoses.proofs.lines.put_where.Goals as goal
+
+pub returns : goal.returns
+returns c =
+    where_made c.args.file.now c.args.line c.args.column c.requires.file_len_bound c.ranges.line.fits c.ranges.column.fits (omega (arith, c.requires.in_bounds)) c.put_bytes-a.ensures
+    c.put_byte-b.ensures c.put_number-d.ensures c.put_byte-e.ensures c.put_number-f.ensures c.put_bytes.ensures

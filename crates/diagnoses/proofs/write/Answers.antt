@@ -1,0 +1,30 @@
+-- `diagnoses::write` meets its contract. Assumes nothing.
+use lib.ListN.{length}
+use lib.Dec.{leb}
+use borrow.Author.Tests.{leb-true}
+use Rattle.laws.proofs.Truths.{both_of}
+use Rattle.printing.proofs.Puts.{kept}
+use Rattle.diagnoses.specs.Diagnoses.{fits}
+use Rattle.diagnoses.proofs.Diagnosed.{all_written, none_written}
+use Rattle.diagnoses.proofs.write.Goals as goal
+
+pub put_diagnosis-requires : goal.put_diagnosis-requires
+put_diagnosis-requires c =
+    let a = c.args in
+    let t = both_of (leb (length a.file.now) 1024) (leb 2048 (length a.buffer.now)) c.if-file-buffer.true in
+    record { file_len_bound = leb-true _ _ t.0; in_bounds = leb-true _ _ t.1 }
+
+pub shape_of-buffer-then-file-buffer : goal.shape_of-buffer-then-file-buffer
+shape_of-buffer-then-file-buffer c = kept c.put_diagnosis.ensures
+
+pub returns-then-file-buffer : goal.returns-then-file-buffer
+unfolding fits
+returns-then-file-buffer c =
+    let a = c.args in
+    all_written a.file.now a.text.now a.number a.place c.if-file-buffer.true c.put_diagnosis.ensures
+
+pub returns : goal.returns
+unfolding fits
+returns c =
+    let a = c.args in
+    none_written a.file.now a.text.now a.number a.place a.buffer.now c.if-file-buffer.false

@@ -1,0 +1,105 @@
+//! Bytes in and out of a program: reading into a buffer that the caller has, from a stream, from a file, from the
+//! program's arguments, and writing on standard error. Nothing here requires anything of its caller.
+#![tactic(auto)]
+
+ghost use Rattle.std.specs.Prelude.{◌≡◌, ◌↔◌, ◌<◌, ◌≤◌, length, take, IfOk, IfSome, IsOk, OnErr, IsUtf8};
+ghost use Rattle.std.specs.Io.{ReadsAtMost};
+ghost use Rattle.std.specs.Io.KnownBytes.{Consumes, IsAtEnd, Keeps};
+
+use std::env::FillError;
+use std::io::{ErrorKind, Read, Write};
+use std::rt::{Env, Files};
+use std::{fs, io};
+
+/// Standard error, for bytes that need not be text.
+pub trait Errors {
+    fn write_error(&self, bytes: &[u8]) -> io::Result<()>;
+}
+
+impl Errors for HostRuntime {
+    fn write_error(&self, bytes: &[u8]) -> io::Result<()> {
+        self.stderr().write_all(bytes)
+    }
+}
+
+fn is_interrupted(error: &io::Error) -> bool {
+    error.kind() == ErrorKind::Interrupted
+}
+
+/// Reads once. A read that a signal interrupts is tried again.
+pub fn get<R: Read>(from: &mut R, bytes: &mut [u8]) -> io::Result<usize>
+    ensures within { ReadsAtMost result bytes.new }
+    ensures ok { IfOk result (λ n. Consumes (R.remaining from.old) (R.remaining from.new) (take n bytes.new)) }
+    ensures end { IfOk result (λ n. n ≡ 0 → 0 < length bytes.old → IsAtEnd (R.remaining from.new)) }
+    ensures err { OnErr result (Keeps (R.remaining from.old) (R.remaining from.new)) }
+{
+    for _ in 0..u64::MAX {
+        match from.read(bytes) {
+            Ok(n) => return Ok(n),
+            Err(error) => {
+                if !is_interrupted(&error) {
+                    return Err(error);
+                }
+            }
+        }
+    }
+    Err(io::Error::from(ErrorKind::TimedOut))
+}
+
+/// Reads until the buffer is full or the stream ends, and answers how many bytes it put at the buffer's start.
+/// After an error some of the stream may be read.
+pub fn fill<R: Read>(from: &mut R, bytes: &mut [u8]) -> io::Result<usize>
+    ensures within { ReadsAtMost result bytes.new }
+    ensures ok { IfOk result (λ n. Consumes (R.remaining from.old) (R.remaining from.new) (take n bytes.new)) }
+    ensures end { IfOk result (λ n. n < length bytes.old → IsAtEnd (R.remaining from.new)) }
+{
+    let mut size = 0;
+    while size < bytes.len() {
+        let n = get(from, &mut bytes[size..])?;
+        if n == 0 {
+            return Ok(size);
+        }
+        size += n;
+    }
+    Ok(size)
+}
+
+/// The bytes of a path as text, which std wants.
+pub fn path_text(path: &[u8]) -> io::Result<&str>
+    ensures ok { IfOk result (λ text. text.now ≡ path.now) }
+    ensures utf8 { IsOk result ↔ IsUtf8 path.now }
+{
+    match str::from_utf8(path) {
+        Ok(text) => Ok(text),
+        Err(_) => Err(io::Error::from(ErrorKind::InvalidInput)),
+    }
+}
+
+/// Opens a file for reading.
+pub fn open<R: Files>(rt: &R, path: &[u8]) -> io::Result<R::File> {
+    fs::open(rt, path_text(path)?)
+}
+
+/// Makes a file, or empties it, for writing.
+pub fn create<R: Files>(rt: &R, path: &[u8]) -> io::Result<R::File> {
+    fs::create(rt, path_text(path)?)
+}
+
+/// Reads a file from its start until the buffer is full or the file ends.
+pub fn load<R: Files>(rt: &R, path: &[u8], bytes: &mut [u8]) -> io::Result<usize>
+    ensures { ReadsAtMost result bytes.new }
+{
+    let mut file = open(rt, path)?;
+    fill(&mut file, bytes)
+}
+
+/// Puts argument `i` at the buffer's start and answers its length: all of the buffer where it has no room for it, `None` past the last.
+pub fn argument<R: Env>(rt: &R, i: usize, bytes: &mut [u8]) -> Option<usize>
+    ensures { IfSome result (λ n. n ≤ length bytes.new) }
+{
+    match rt.arg(i, bytes) {
+        Ok(n) => Some(n),
+        Err(FillError::TooLong) => Some(bytes.len()),
+        Err(FillError::NotPresent) => None,
+    }
+}
