@@ -14,6 +14,9 @@ use tokens::Token;
 pub struct Contract {}
 
 impl Contract {
+    // The longest text, in bytes.
+    pub const TEXT: usize = 16384;
+
     pub const PARTIES: usize = 8;
 
     pub const ASSETS: usize = 16;
@@ -129,6 +132,7 @@ pub struct Node {
     pub size: usize,
 }
 
+// Kept: kinds are numbers, since they stand in a lent table, of which question 3 judges whether each is one of these.
 impl Node {
     // Expressions.
     pub const CONSTANT: u64 = 1;
@@ -226,7 +230,14 @@ pub const PARAMETERS: usize = NODES + Contract::NODES * Node::WORDS;
 pub fn word(table: &[u64], i: usize) -> u64
     ensures { result ≡ word_at table.now i }
 {
-    if i < table.len() { table[i] } else { 0 }
+    table.get(i).copied().unwrap_or(0)
+}
+
+// Word i of a table as a count or a place.
+fn number(table: &[u64], i: usize) -> usize
+    ensures { result ≡ word_at table.now i }
+{
+    word(table, i) as usize
 }
 
 // Where row i of a section stands, or the table's end where the row is past it.
@@ -244,16 +255,16 @@ pub fn head(table: &[u64]) -> TableHead
     ensures { result ≡ head_of table.now }
 {
     TableHead {
-        parties: word(table, 0) as usize,
-        assets: word(table, 1) as usize,
-        fields: word(table, 2) as usize,
-        states: word(table, 3) as usize,
-        strings: word(table, 4) as usize,
-        clauses: word(table, 5) as usize,
-        functions: word(table, 6) as usize,
-        events: word(table, 7) as usize,
-        nodes: word(table, 8) as usize,
-        initial: word(table, 9) as usize,
+        parties: number(table, 0),
+        assets: number(table, 1),
+        fields: number(table, 2),
+        states: number(table, 3),
+        strings: number(table, 4),
+        clauses: number(table, 5),
+        functions: number(table, 6),
+        events: number(table, 7),
+        nodes: number(table, 8),
+        initial: number(table, 9),
     }
 }
 
@@ -262,16 +273,16 @@ pub fn function_at(table: &[u64], i: usize) -> Function
 {
     let at = row(table, FUNCTIONS, Function::WORDS, i);
     Function {
-        state: word(table, at) as usize,
-        party: word(table, at + 1) as usize,
-        last: word(table, at + 2) as usize,
-        values: word(table, at + 3) as usize,
-        parameters: word(table, at + 4) as usize,
-        first: word(table, at + 5) as usize,
-        precondition: word(table, at + 6) as usize,
-        body: word(table, at + 7) as usize,
-        event: word(table, at + 8) as usize,
-        events: word(table, at + 9) as usize,
+        state: number(table, at),
+        party: number(table, at + 1),
+        last: number(table, at + 2),
+        values: number(table, at + 3),
+        parameters: number(table, at + 4),
+        first: number(table, at + 5),
+        precondition: number(table, at + 6),
+        body: number(table, at + 7),
+        event: number(table, at + 8),
+        events: number(table, at + 9),
     }
 }
 
@@ -280,9 +291,9 @@ pub fn event_at(table: &[u64], i: usize) -> Event
 {
     let at = row(table, EVENTS, Event::WORDS, i);
     Event {
-        state: word(table, at) as usize,
-        last: word(table, at + 1) as usize,
-        node: word(table, at + 2) as usize,
+        state: number(table, at),
+        last: number(table, at + 1),
+        node: number(table, at + 2),
     }
 }
 
@@ -291,9 +302,9 @@ pub fn clause_at(table: &[u64], i: usize) -> Clause
 {
     let at = row(table, CLAUSES, Clause::WORDS, i);
     Clause {
-        party: word(table, at) as usize,
-        verb: word(table, at + 1) as usize,
-        fields: word(table, at + 2) as usize,
+        party: number(table, at),
+        verb: number(table, at + 1),
+        fields: number(table, at + 2),
     }
 }
 
@@ -304,10 +315,8 @@ pub fn clause_field(table: &[u64], i: usize, j: usize) -> usize
     if table.len() <= j {
         return 0;
     }
-    word(
-        table,
-        row(table, CLAUSES, Clause::WORDS, i) + (Clause::FIELDS + j),
-    ) as usize
+    let at = row(table, CLAUSES, Clause::WORDS, i);
+    number(table, at + (Clause::FIELDS + j))
 }
 
 // How many bytes row i of the parameters says that it has.
@@ -332,6 +341,6 @@ pub fn node_at(table: &[u64], k: usize) -> Node
     Node {
         kind: word(table, at),
         argument: word(table, at + 1),
-        size: word(table, at + 2) as usize,
+        size: number(table, at + 2),
     }
 }

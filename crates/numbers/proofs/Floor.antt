@@ -8,12 +8,11 @@ use lib.IntN.{ℤ, pos, negsuc, neg_ℤ, ◌+ℤ◌, ◌*ℤ◌}
 use lib.Signed.{le_z}
 use lib.Dec.{eqb}
 use borrow.Author.Tests.{ltb-true, ltb-false, eqb-true, eqb-false}
+use Rattle.std.specs.Prelude.{Ok, Err}
 use Rattle.laws.proofs.Choice.{pick_false, by_cases, true_false}
 use Rattle.numbers.specs.declared.Value.TheVariants.{Integer, Text}
-use Rattle.numbers.specs.declared.Answer.{Answer}
-use Rattle.numbers.specs.declared.Answer.TheVariants as answer
 use Rattle.numbers.specs.declared.Operator.TheVariants.{Over}
-use Rattle.numbers.specs.Numbers.{within, in_range, eq_z, rounded_down, quotient, divided, applied}
+use Rattle.numbers.specs.Numbers.{Answer, within, in_range, eq_z, rounded_down, quotient, divided, applied}
 use Rattle.numbers.specs.Floor.{not_above, Floor}
 use Rattle.numbers.proofs.Whole.{up, down, least, le_true, le_false, le_of, gt_of, up_neg, down_neg, sum, same_of}
 
@@ -103,15 +102,15 @@ unfolding divided
 over_floor a b q f = pick_false (eq_z b (pos 0)) _ _ (divisor a b q f) ∙ ap in_range (sym (one_floor a b q f))
 
 abbrev Gives : ℤ → ℤ → Answer → Type 0
-Gives a b (answer.Is (Integer q)) = Floor a b q
-Gives a b (answer.Is (Text n)) = ⊥
-Gives a b (answer.Refused n) = Unit {0}
+Gives a b (Ok (Integer q)) = Floor a b q
+Gives a b (Ok (Text n)) = ⊥
+Gives a b (Err q) = Unit {0}
 
 gives : (a b : ℤ) → Gives a b (divided a b)
 unfolding divided in_range
 gives a b = by_cases (Gives a b) _ _ _ (λ _. tt) (λ h. by_cases (Gives a b) _ _ _ (λ _. floor a b h) (λ _. tt))
 
-pub over_gives : (a b q : ℤ) → applied Over (Integer a) (Integer b) ≡ answer.Is (Integer q) → Floor a b q
+pub over_gives : (a b q : ℤ) → applied Over (Integer a) (Integer b) ≡ Ok (Integer q) → Floor a b q
 over_gives a b q e = subst (Gives a b) e (gives a b)
 
 -- of two integers within 64 bits only the least by -1 is 32

@@ -1,21 +1,19 @@
--- The words of the questions: how long they are, and which line of a text has them. Assumes nothing.
+-- The words of the questions: how long they are, and which numbers have none. Assumes nothing.
 use mathlib.Core.Path.{◌≡◌, refl, sym, ap, ◌∙◌}
-use mathlib.Core.Bool.{Bool, true, false, ◌||◌}
+use mathlib.Core.Bool.{Bool, true, ◌||◌}
 use mathlib.Core.List.{List, [], ◌∷◌}
 use Prim.Native.Nat.{ℕ, zero, suc, ◌+◌, ◌<◌, ◌≤◌}
 use Prim.Native.String.{String}
 use native.Mathlib.Omega.{arith}
 use native.Mathlib.Nat.{add-zero}
-use lib.ListN.{length, get_or, get_or-eq_default}
+use lib.ListN.{length, get_or}
 use lib.Dec.{eqb, ltb, leb}
-use borrow.Author.Tests.{ne_eqb, ltb-true, leb-true, ltb-false}
+use borrow.Author.Tests.{ne_eqb, ltb-true, leb-true}
 use Rattle.laws.specs.Bytes.{bytes}
 use Rattle.laws.specs.Lists.{every}
 use Rattle.laws.proofs.Choice.{pick_false, by_cases}
 use Rattle.laws.proofs.Truths.{both_left, both_right, either_true}
 use Rattle.question_words.specs.Words.{Row, table, words_in, words_of}
-use Rattle.question_words.specs.Private.{line_in}
-use Rattle.question_words.proofs.LineLaws.{joined, plain, line_joined}
 
 -- ---- length
 
@@ -57,7 +55,7 @@ no_words : (a b n : ℕ) → a ≤ n → n < b → every (outside a b) table ≡
 unfolding words_of
 no_words a b n h k e = ap bytes (none_in table a b n h k e)
 
--- ---- words as lines
+-- ---- words by number
 
 -- the words of m numbers from a on
 abbrev pub words_from : ℕ → ℕ → List (List ℕ)
@@ -75,15 +73,11 @@ from_at a (suc m) (suc k) h =
     let e : suc a + k ≡ a + suc k = omega arith in
     from_at (suc a) m k (omega arith) ∙ ap words_of e
 
--- line k of the words of m numbers from a on has the words of a + k, where no number from a + m up to b has words
-pub words_line : (a m b k n : ℕ) → n ≡ a + k → n < b → every plain (words_from a m) ≡ true → every (outside (a + m) b) table ≡ true
-    → line_in k (joined (words_from a m)) ≡ words_of n
-words_line a m b k n p h e f = line_joined (words_from a m) k e ∙ go (ltb k m) refl
-  where
-    go : (t : Bool) → ltb k m ≡ t → get_or (words_from a m) k [] ≡ words_of n
-    go true q = from_at a m k (ltb-true k m q) ∙ ap words_of (sym p)
-    go false q =
-        let l = ltb-false k m q in
-        let w : length (words_from a m) ≤ k = omega (arith, from_long a m) in
-        let s : a + m ≤ n = omega arith in
-        get_or-eq_default (words_from a m) [] w ∙ sym (no_words (a + m) b n s h f)
+-- the words of a number below m
+pub words_at : (m n : ℕ) → n < m → get_or (words_from 0 m) n [] ≡ words_of n
+words_at m n h = from_at 0 m n h ∙ ap words_of (omega arith)
+
+-- no number past the last has words
+pub words_past : (n : ℕ) → 63 ≤ n → n < 256 → words_of n ≡ []
+unfolding every
+words_past n h k = no_words 63 256 n h k refl

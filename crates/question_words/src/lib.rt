@@ -1,10 +1,9 @@
-// The words of each question, by its number: the lines of four texts.
+// The words of each question, by its number.
 #![tactic(auto)]
 
-ghost use Rattle.std.specs.Prelude.{◌≡◌, ◌-◌, ◌≤◌, ◌<◌, length, drop};
+ghost use Rattle.std.specs.Prelude.{◌≡◌, length};
 ghost use Rattle.std.proofs.lemmas.List.Edits.{sets};
 ghost use Rattle.question_words.specs.Words.{words_of};
-ghost use Rattle.question_words.specs.Private.{first_line, line_in, Said};
 
 // The words of a question.
 #[derive(Clone, Copy)]
@@ -15,148 +14,84 @@ impl Sentence {
     pub const BYTES: usize = 64;
 }
 
-// Where the line with a number starts, the first with 0; the text's end where it has no such line.
-fn line_start(text: &[u8], number: u8) -> usize
-    ensures { first_line (drop result text.now) ≡ line_in number text.now }
+// The words by the question's number, none where no question has it: reading, a table and a state from 1, steps and working out from 20,
+// lines from 50, those of document 02 from 60.
+static SENTENCES: [&[u8]; 63] = [
+    b"",
+    b"the text is over 16384 bytes",
+    b"the table has another length than docs/TABLE.md states",
+    b"the table does not pass its check",
+    b"the state is not within its ranges",
+    b"not a printable ASCII byte, tab, LF or CR",
+    b"no token starts here",
+    b"a name over 32 bytes or a string over 64",
+    b"a number over 9223372036854775807",
+    b"this does not fit the grammar",
+    b"more than 16 levels",
+    b"one more than the limit",
+    b"this name is declared already",
+    b"not a name of the kind wanted here",
+    b"the agreement breaks its rules",
+    b"this party has a function of this name in this state already",
+    b"",
+    b"",
+    b"",
+    b"",
+    b"the label slice is too short",
+    b"agreed already",
+    b"not agreed yet",
+    b"not the parties, verbs and fields of the agreement",
+    b"set and agreed values are not the same",
+    b"an event is due",
+    b"no such function for this party in this state",
+    b"a wrong number of arguments",
+    b"an asset below 0",
+    b"the precondition is false",
+    b"a field without a value",
+    b"an operand of the wrong kind",
+    b"a result over 64 bits",
+    b"a divisor of 0",
+    b"an amount below 0",
+    b"more than the source holds",
+    b"more than the other asset can hold",
+    b"an asset parameter is not empty at the end",
+    b"",
+    b"more than 64 events pending",
+    b"the clock is at its last value",
+    b"nothing is due",
+    b"",
+    b"",
+    b"",
+    b"",
+    b"",
+    b"",
+    b"",
+    b"",
+    b"a line over 512 bytes",
+    b"not a line of a session",
+    b"the result buffer is under 128 bytes",
+    b"a number that names nothing of its kind",
+    b"",
+    b"",
+    b"",
+    b"",
+    b"",
+    b"",
+    b"the page buffer is under 5185 bytes",
+    b"not an asset payout to a known party",
+    b"that time is past",
+];
+
+// The words of a question, none past the last.
+fn spelled(number: u8) -> &'static [u8]
+    ensures { result.now ≡ words_of number }
 {
-    let mut left = number;
-    let mut i: usize = 0;
-    while 0 < left {
-        if text.len() <= i {
-            return i;
-        }
-        if text[i] == b'\n' {
-            left -= 1;
-            i += 1;
-            continue;
-        }
-        i += 1;
+    let i = number as usize;
+    if i < SENTENCES.len() {
+        SENTENCES[i]
+    } else {
+        &[]
     }
-    i
-}
-
-// Puts what a line has from a place on at the front of the buffer; answers how many bytes that is.
-fn put_rest(text: &[u8], from: usize, buffer: &mut [u8; Sentence::BYTES]) -> usize
-    requires { length (first_line (drop from text.now)) ≤ 64 }
-    ensures { Said buffer.old (first_line (drop from text.now)) result buffer.new }
-{
-    let mut at = from;
-    let mut i: usize = 0;
-    while at < text.len() {
-        let b = text[at];
-        let ends = b == b'\n';
-        if ends {
-            return i;
-        }
-        buffer[i] = b;
-        at += 1;
-        i += 1;
-    }
-    i
-}
-
-// The line of a text with a number.
-fn put(text: &[u8], number: u8, buffer: &mut [u8; Sentence::BYTES]) -> usize
-    requires { length (line_in number text.now) ≤ 64 }
-    ensures { Said buffer.old (line_in number text.now) result buffer.new }
-{
-    let from = line_start(text, number);
-    put_rest(text, from, buffer)
-}
-
-// Reading, a table and a state: 1 to 15.
-fn of_reading(number: u8, buffer: &mut [u8; Sentence::BYTES]) -> usize
-    requires { number < 20 }
-    ensures { Said buffer.old (words_of number) result buffer.new }
-{
-    put(
-        b"\
-            \n\
-            the text is over 16384 bytes\n\
-            the table has another length than docs/TABLE.md states\n\
-            the table does not pass its check\n\
-            the state is not within its ranges\n\
-            not a printable ASCII byte, tab, LF or CR\n\
-            no token starts here\n\
-            a name over 32 bytes or a string over 64\n\
-            a number over 9223372036854775807\n\
-            this does not fit the grammar\n\
-            more than 16 levels\n\
-            one more than the limit\n\
-            this name is declared already\n\
-            not a name of the kind wanted here\n\
-            the agreement breaks its rules\n\
-            this party has a function of this name in this state already\n",
-        number,
-        buffer,
-    )
-}
-
-// Steps and working out: 20 to 41, without 38.
-fn of_steps(number: u8, buffer: &mut [u8; Sentence::BYTES]) -> usize
-    requires le_number { 20 ≤ number }
-    requires number_bound { number < 50 }
-    ensures { Said buffer.old (words_of number) result buffer.new }
-{
-    put(
-        b"\
-            the label slice is too short\n\
-            agreed already\n\
-            not agreed yet\n\
-            not the parties, verbs and fields of the agreement\n\
-            set and agreed values are not the same\n\
-            an event is due\n\
-            no such function for this party in this state\n\
-            a wrong number of arguments\n\
-            an asset below 0\n\
-            the precondition is false\n\
-            a field without a value\n\
-            an operand of the wrong kind\n\
-            a result over 64 bits\n\
-            a divisor of 0\n\
-            an amount below 0\n\
-            more than the source holds\n\
-            more than the other asset can hold\n\
-            an asset parameter is not empty at the end\n\
-            \n\
-            more than 64 events pending\n\
-            the clock is at its last value\n\
-            nothing is due\n",
-        number - 20,
-        buffer,
-    )
-}
-
-// Lines: 50 to 53.
-fn of_lines(number: u8, buffer: &mut [u8; Sentence::BYTES]) -> usize
-    requires le_number { 50 ≤ number }
-    requires number_bound { number < 60 }
-    ensures { Said buffer.old (words_of number) result buffer.new }
-{
-    put(
-        b"\
-            a line over 512 bytes\n\
-            not a line of a session\n\
-            the result buffer is under 128 bytes\n\
-            a number that names nothing of its kind\n",
-        number - 50,
-        buffer,
-    )
-}
-
-// Those of document 02: 60 to 62.
-fn of_requests(number: u8, buffer: &mut [u8; Sentence::BYTES]) -> usize
-    requires { 60 ≤ number }
-    ensures { Said buffer.old (words_of number) result buffer.new }
-{
-    put(
-        b"\
-            the page buffer is under 5185 bytes\n\
-            not an asset payout to a known party\n\
-            that time is past\n",
-        number - 60,
-        buffer,
-    )
 }
 
 // The words of a question come to the front of the buffer; answers how many bytes they have. A number without words has none.
@@ -164,14 +99,8 @@ pub fn words(number: u8, buffer: &mut [u8; Sentence::BYTES]) -> usize
     ensures value { result ≡ length (words_of number) }
     ensures buffer_after { buffer.new ≡ sets buffer.old 0 (words_of number) }
 {
-    if number < 20 {
-        return of_reading(number, buffer);
-    }
-    if number < 50 {
-        return of_steps(number, buffer);
-    }
-    if number < 60 {
-        return of_lines(number, buffer);
-    }
-    of_requests(number, buffer)
+    let words = spelled(number);
+    let n = words.len();
+    buffer[..n].copy_from_slice(words);
+    n
 }

@@ -5,12 +5,6 @@ ghost use Rattle.std.specs.Prelude.{◌≡◌};
 ghost use Rattle.laws.specs.Bytes.{same_bytes};
 ghost use Rattle.contract.specs.Decode.{word_of};
 
-fn wide(x: u8) -> u64
-    ensures { result ≡ x }
-{
-    x as u64
-}
-
 // Whether a word of the table has the bytes of a name.
 fn same_bytes(name: &[u8], word: &[u64]) -> bool
     ensures { result ≡ same_bytes name.now word.now }
@@ -18,11 +12,8 @@ fn same_bytes(name: &[u8], word: &[u64]) -> bool
     if name.len() != word.len() {
         return false;
     }
-    let mut i: usize = 0;
-    while i < name.len() {
-        if wide(name[i]) == word[i] {
-            i += 1;
-        } else {
+    for i in 0..name.len() {
+        if u64::from(name[i]) != word[i] {
             return false;
         }
     }

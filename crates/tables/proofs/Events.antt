@@ -6,7 +6,7 @@ use Prim.Native.Nat.{ℕ, zero, suc, ◌+◌, ◌*◌, ◌-◌, ◌<◌, ◌≤�
 use native.Mathlib.Omega.{arith}
 use native.Mathlib.Numerals.{add-one}
 use lib.Dec.{eqb, ltb, leb}
-use borrow.Author.Tests.{ltb-true, leb-true, eqb-true, lt-ltb, le-ltb, le-leb, lt-leb, eq-eqb, ne_eqb}
+use borrow.Author.Tests.{ltb-true, leb-true, eqb-true, lt-ltb, eq-eqb, ne_eqb}
 use Rattle.contract.specs.Table.{word_at, kind_at, argument_at, size_at, function_word, event_word}
 use Rattle.contract.specs.Rows.{node_of, function_row_of, event_row_of}
 use Rattle.contract.specs.Fits.{Scope}
@@ -15,7 +15,7 @@ use Rattle.laws.specs.Lists.{all_below}
 use Rattle.contract.specs.declared.Node.{Node}
 use Rattle.contract.specs.declared.Function.{Function}
 use Rattle.contract.specs.declared.Event.{Event}
-use Rattle.contract.specs.Check.{is_sort, expression, condition, nodes_ok, scope_at, precondition_ok, body_ok, event_nodes_ok, event_ok, event_first, first_node, first_event, function_nodes_ok, function_ok, name_ok}
+use Rattle.contract.specs.Check.{is_sort, expression, nodes_ok, scope_at, precondition_ok, body_ok, event_nodes_ok, event_ok, event_first, first_node, first_event, function_nodes_ok, function_ok, name_ok}
 use Rattle.tables.specs.Private.{event_passes, guarded_ok, sizes_ok, row_ok}
 use Rattle.contract.proofs.Tests.{all_last}
 
@@ -33,18 +33,7 @@ and_five true b c d e x = and_four b c d e x
     and_four false c d e x = refl
 and_five false b c d e x = refl
 
--- ---- a precondition whose last node is m
-module _ (w : List ℕ) (c : Scope) (first n : ℕ) where
-  pub precondition_none : n ≡ 0 → true ≡ precondition_ok w c first n
-  unfolding precondition_ok
-  precondition_none h = simp (eq-eqb n 0 h)
-
-  pub precondition_as : (n ≡ 0 → ⊥) → (m : Node) → m ≡ node_of w (first + n - 1)
-      → (is_sort condition m.kind && (eqb m.size n && nodes_ok w c first n)) ≡ precondition_ok w c first n
-  unfolding precondition_ok
-  precondition_as h m e = simp (ne_eqb n 0 h) (λ i. is_sort condition (e i).kind && (eqb (e i).size n && nodes_ok w c first n))
-
--- ---- an event: its own node n, and m, the last of its guard
+-- ---- an event, whose own node is n
 module _ (w : List ℕ) (c : Scope) (first k : ℕ) (n : Node) (e : n ≡ node_of w k) (nodes : ℕ) (f : nodes ≡ word_at w 8) where
   event_with :
       (ltb k nodes
@@ -62,48 +51,8 @@ module _ (w : List ℕ) (c : Scope) (first k : ℕ) (n : Node) (e : n ≡ node_o
       && (ltb first (k - (e i).argument)
       && guarded_ok w c first (k - (e i).argument) (e i).argument))))
 
-  pub event_past : nodes ≤ k → false ≡ event_nodes_ok w c first k
-  event_past h = simp (le-ltb k nodes h) at event_with
-
-  module _ (h : k < nodes) where
-    pub event_kind : (n.kind ≡ 28 → ⊥) → false ≡ event_nodes_ok w c first k
-    event_kind g = simp (lt-ltb k nodes h, ne_eqb n.kind 28 g) at event_with
-
-    module _ (g : n.kind ≡ 28) where
-      pub event_size_lem : (n.size + first ≡ k + 1 → ⊥) → false ≡ event_nodes_ok w c first k
-      event_size_lem s = simp (lt-ltb k nodes h, eq-eqb n.kind 28 g, ne_eqb (n.size + first) (k + 1) s) at event_with
-
-      module _ (s : n.size + first ≡ k + 1) where
-        pub event_handler : k < n.argument → false ≡ event_nodes_ok w c first k
-        event_handler a =
-            simp (lt-ltb k nodes h, eq-eqb n.kind 28 g, eq-eqb (n.size + first) (k + 1) s, lt-leb n.argument k a) at event_with
-
-        module _ (a : n.argument ≤ k) where
-          event_so : (ltb first (k - n.argument) && guarded_ok w c first (k - n.argument) n.argument) ≡ event_nodes_ok w c first k
-          event_so = simp (lt-ltb k nodes h, eq-eqb n.kind 28 g, eq-eqb (n.size + first) (k + 1) s, le-leb n.argument k a) at event_with
-
-          pub event_guard : k - n.argument ≤ first → false ≡ event_nodes_ok w c first k
-          event_guard b = simp (le-ltb first (k - n.argument) b) at event_so
-
-          pub event_as : first < k - n.argument → guarded_ok w c first (k - n.argument) n.argument ≡ event_nodes_ok w c first k
-          event_as b = simp (lt-ltb first (k - n.argument) b) at event_so
-
--- a guard whose last node is m
-pub guard_as : (w : List ℕ) (c : Scope) (first start h : ℕ) (m : Node) → m ≡ node_of w (start - 1)
-    → (is_sort expression m.kind
-    && (eqb (m.size + first) start
-    && (nodes_ok w c first (start - first)
-    && body_ok w (scope_at w 0 0) start h))) ≡ guarded_ok w c first start h
-unfolding guarded_ok
-guard_as w c first start h m e = λ i. is_sort expression (e i).kind
-    && (eqb ((e i).size + first) start
-    && (nodes_ok w c first (start - first)
-    && body_ok w (scope_at w 0 0) start h))
-
-pub event_row_as : (w : List ℕ) (c : Scope) (first i states : ℕ) (e : Event) → e ≡ event_row_of w i → states ≡ word_at w 3
-    → (ltb e.state states && (ltb e.last states && event_nodes_ok w c first e.node)) ≡ event_ok w c first i
-unfolding event_ok
-event_row_as w c first i states e f g = λ t. ltb (f t).state (g t) && (ltb (f t).last (g t) && event_nodes_ok w c first (f t).node)
+  pub event_size_lem : k < nodes → n.kind ≡ 28 → (n.size + first ≡ k + 1 → ⊥) → false ≡ event_nodes_ok w c first k
+  event_size_lem h g s = simp (lt-ltb k nodes h, eq-eqb n.kind 28 g, ne_eqb (n.size + first) (k + 1) s) at event_with
 
 -- its node is one of the nodes
 pub event_node : (w : List ℕ) (c : Scope) (first i : ℕ) → event_ok w c first i ≡ true → event_word w i 2 < word_at w 8

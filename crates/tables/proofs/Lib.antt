@@ -3,3 +3,4 @@ pub mod Parts
 pub mod Checked
 pub mod Packed
 pub mod Events
+pub mod Ranges

@@ -61,6 +61,10 @@ pub packed_as : (w : List ℕ) (o : ℕ)
 unfolding packed_ok packed_word
 packed_as w o = name_as (packed_byte w o) (word_at w o)
 
+pub packed_is : (w : List ℕ) (o : ℕ)
+    → packed_ok w o ≡ (ranges 1 (word_at w o) 32 && (is_letter (packed_byte w o 0) && all_below (word_at w o - 1) (λ j. is_name_byte (packed_byte w o (1 + j)))))
+packed_is w o = sym (packed_as w o)
+
 -- the rows of function i
 pub parameters_as : (w : List ℕ) (i : ℕ) {v p : ℕ} → v ≡ function_word w i 3 → p ≡ function_word w i 4
     → (all_below v (λ j. packed_ok w (parameters_start + (i * 12 + j) * 5)) && all_below p (λ j. packed_ok w (parameters_start + (i * 12 + 8 + j) * 5))) ≡ parameters_ok w i

@@ -6,8 +6,7 @@ use Prim.Native.Nat.{ℕ, ◌+◌, ◌-◌, ◌<◌, ◌≤◌}
 use native.Mathlib.Omega.{arith}
 use native.Mathlib.Nat.{le_refl}
 use lib.Dec.{eqb, ltb, leb}
-use borrow.Author.Tests.{lt-ltb, le-ltb, le-leb, lt-leb, eq-eqb, ne_eqb, eqb-true, eqb-false}
-use Rattle.laws.specs.Choice.{pick}
+use borrow.Author.Tests.{eq-eqb, ne_eqb, eqb-true, eqb-false}
 use Rattle.laws.proofs.Choice.{by_cases}
 use Rattle.contract.specs.Table.{kind_at, argument_at, size_at}
 use Rattle.contract.specs.Rows.{node_of}
@@ -15,29 +14,6 @@ use Rattle.contract.specs.declared.Node.{Node}
 use Rattle.contract.specs.Check.{Sort, condition, statement, is_sort, Start, at, nowhere, on_start, part_start, parts_start, whole_from, statement_from, block_ok, conditional_start}
 use Rattle.tables.specs.Private.{StartsBy, statements_before}
 use Rattle.contract.proofs.Tests.{eqb_both}
-
--- ---- one part, whose last node is n
-module _ (w : List ℕ) (from : ℕ) (s : Sort) (end : ℕ) where
-  pub part_none : end ≤ from → nowhere ≡ part_start w from s end
-  unfolding part_start pick
-  part_none h = simp (le-ltb from end h)
-
-  module _ (n : Node) (e : n ≡ node_of w (end - 1)) (h : from < end) where
-    part_as : pick (ltb from end && (is_sort s n.kind && leb n.size (end - from))) (at (end - n.size)) nowhere ≡ part_start w from s end
-    unfolding part_start
-    part_as = λ i. pick (ltb from end && (is_sort s (e i).kind && leb (e i).size (end - from))) (at (end - (e i).size)) nowhere
-
-    pub part_sort : is_sort s n.kind ≡ false → nowhere ≡ part_start w from s end
-    unfolding pick
-    part_sort f = simp (lt-ltb from end h, f) at part_as
-
-    pub part_size : is_sort s n.kind ≡ true → end - from < n.size → nowhere ≡ part_start w from s end
-    unfolding pick
-    part_size f g = simp (lt-ltb from end h, f, lt-leb n.size (end - from) g) at part_as
-
-    pub part_is : is_sort s n.kind ≡ true → n.size ≤ end - from → at (end - n.size) ≡ part_start w from s end
-    unfolding pick
-    part_is f g = simp (lt-ltb from end h, f, le-leb n.size (end - from) g) at part_as
 
 -- ---- several parts
 module _ (w : List ℕ) (from : ℕ) where
@@ -124,38 +100,3 @@ module _ (w : List ℕ) (k : ℕ) (n : Node) (e : n ≡ node_of w k) (p : ℕ) (
           (λ i. not_first i || (ltb from p && (is_sort statement (kind_at w (p - 1))
           && eqb_both (n.size - (k + 1 - p)) (size_at w (p - 1)) (n.size + p) (k + 1 + size_at w (p - 1)) (λ q. omega arith) (λ q. omega arith) i)))
           ∙ statement_as (node_of w (p - 1)) refl
-
-pub before_none : (w : List ℕ) (from p n : ℕ) → p ≤ from → false ≡ statements_before w from p n
-before_none w from p n h = simp (le-ltb from p h)
-
-pub before_is : (w : List ℕ) (from p n : ℕ) → from < p → (m : Node) → m ≡ node_of w (p - 1) → {r : Bool} → r ≡ is_sort statement m.kind
-    → (r && eqb n m.size) ≡ statements_before w from p n
-before_is w from p n h m e s = simp (lt-ltb from p h) (λ i. (s ∙ ap (λ (x : Node). is_sort statement x.kind) e) i && eqb n (e i).size)
-
--- ---- blocks
-module _ (w : List ℕ) (end n : ℕ) where
-  pub block_none : n ≡ 0 → true ≡ block_ok w end n
-  unfolding block_ok
-  block_none h = simp (eq-eqb n 0 h)
-
-  pub block_is : (n ≡ 0 → ⊥) → (m : Node) → m ≡ node_of w (end - 1) → {r : Bool} → r ≡ is_sort statement m.kind → (r && eqb m.size n) ≡ block_ok w end n
-  unfolding block_ok
-  block_is h m e s = simp (ne_eqb n 0 h) (λ i. (s ∙ ap (λ (x : Node). is_sort statement x.kind) e) i && eqb (e i).size n)
-
-module _ (w : List ℕ) (from k : ℕ) (n : Node) (e : n ≡ node_of w k) where
-  conditional_as : pick (leb n.argument (k - from) && block_ok w k n.argument) (part_start w from condition (k - n.argument)) nowhere ≡ conditional_start w from k
-  unfolding conditional_start
-  conditional_as = λ i. pick (leb (e i).argument (k - from) && block_ok w k (e i).argument) (part_start w from condition (k - (e i).argument)) nowhere
-
-  pub conditional_past : k - from < n.argument → nowhere ≡ conditional_start w from k
-  unfolding pick
-  conditional_past h = simp (lt-leb n.argument (k - from) h) at conditional_as
-
-  module _ (h : n.argument ≤ k - from) {r : Bool} (b : r ≡ block_ok w k n.argument) where
-    pub conditional_block : r ≡ false → nowhere ≡ conditional_start w from k
-    unfolding pick
-    conditional_block f = simp (le-leb n.argument (k - from) h, sym b ∙ f) at conditional_as
-
-    pub conditional_is : r ≡ true → {x : Start} → x ≡ part_start w from condition (k - n.argument) → x ≡ conditional_start w from k
-    unfolding pick
-    conditional_is f g = g ∙ simp (le-leb n.argument (k - from) h, sym b ∙ f) at conditional_as

@@ -1,5 +1,5 @@
 -- What the code works with: what a part may be and where it starts, an event of a function.
-use Rattle.std.specs.Prelude.{ℕ, ◌+◌, ◌-◌, ◌≤◌, Bool, false, ◌&&◌, List, [], ◌∷◌, eqb, leb, ltb}
+use Rattle.std.specs.Prelude.{Option, Some, None, ℕ, ◌+◌, ◌-◌, ◌≤◌, Bool, false, ◌&&◌, List, [], ◌∷◌, eqb, leb, ltb}
 use Rattle.laws.specs.Choice.{pick}
 use Rattle.contract.specs.Limits.{max_nodes, max_events, max_values, max_parameters}
 use Rattle.contract.specs.Table.{word_at, kind_at, size_at, function_word, value_move_kind, asset_move_kind, whole_move_kind, conditional_kind}
@@ -8,8 +8,6 @@ use Rattle.contract.specs.declared.Function.{Function}
 use Rattle.contract.specs.Check as check
 use Rattle.tables.specs.declared.nodes.Sort.{Sort}
 use Rattle.tables.specs.declared.nodes.Sort.TheVariants.{Expression, Condition, Statement, Holder, AssetTarget, ValueTarget}
-use Rattle.tables.specs.declared.nodes.Start.{Start}
-use Rattle.tables.specs.declared.nodes.Start.TheVariants.{At, Nowhere}
 
 abbrev pub sort_of : Sort → check.Sort
 sort_of Expression = check.expression
@@ -19,9 +17,9 @@ sort_of Holder = check.holder
 sort_of AssetTarget = check.asset_target
 sort_of ValueTarget = check.value_target
 
-abbrev pub start_of : Start → check.Start
-start_of (At p) = check.at p
-start_of Nowhere = check.nowhere
+abbrev pub start_of : Option ℕ → check.Start
+start_of (Some p) = check.at p
+start_of None = check.nowhere
 
 -- it starts at k or before
 abbrev pub StartsBy : check.Start → ℕ → Type 0

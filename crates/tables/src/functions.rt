@@ -11,6 +11,7 @@ use crate::nodes::{Sort, block_ok, is_sort, nodes_ok};
 use contract::{Contract, Function, Node, event_at, function_at, node_at, word};
 
 // A precondition in the n nodes from `first` on: none, or a condition that counts them all.
+#[tactic(auto, unfolding(contract::specs::Check::precondition_ok))]
 fn precondition_ok(table: &[u64], values: usize, parameters: usize, first: usize, n: usize) -> bool
     requires table_len { length table.now ≡ 24659 }
     requires n_bound { first + n ≤ 4096 }
@@ -20,28 +21,23 @@ fn precondition_ok(table: &[u64], values: usize, parameters: usize, first: usize
         return true;
     }
     let last = node_at(table, first + n - 1);
-    if is_sort(Sort::Condition, last.kind) {
-        if last.size == n {
-            return nodes_ok(table, values, parameters, first, n);
-        }
-    }
-    false
+    is_sort(Sort::Condition, last.kind)
+        && last.size == n
+        && nodes_ok(table, values, parameters, first, n)
 }
 
 // The statements in the n nodes from `first` on.
+#[tactic(auto, unfolding(contract::specs::Check::body_ok))]
 fn body_ok(table: &[u64], values: usize, parameters: usize, first: usize, n: usize) -> bool
     requires table_len { length table.now ≡ 24659 }
     requires n_bound { first + n ≤ 4096 }
     ensures { result ≡ body_ok table.now (scope_at table.now values parameters) first n }
 {
-    if block_ok(table, first + n, n) {
-        nodes_ok(table, values, parameters, first, n)
-    } else {
-        false
-    }
+    block_ok(table, first + n, n) && nodes_ok(table, values, parameters, first, n)
 }
 
 // A guard in the nodes from `first` up to `start`, and a handler in the nodes after it.
+#[tactic(auto, unfolding(crate::specs::Private::guarded_ok))]
 fn guarded_ok(
     table: &[u64],
     values: usize,
@@ -55,45 +51,31 @@ fn guarded_ok(
     ensures { result ≡ guarded_ok table.now (scope_at table.now values parameters) first start handler }
 {
     let guard = node_at(table, start - 1);
-    if is_sort(Sort::Expression, guard.kind) {
-        if guard.size == start - first {
-            if nodes_ok(table, values, parameters, first, start - first) {
-                return body_ok(table, 0, 0, start, handler);
-            }
-        }
-    }
-    false
+    is_sort(Sort::Expression, guard.kind)
+        && guard.size == start - first
+        && nodes_ok(table, values, parameters, first, start - first)
+        && body_ok(table, 0, 0, start, handler)
 }
 
 // An event whose guard starts at node `first`; its own node k stands after its guard and its handler.
+#[tactic(auto, unfolding(contract::specs::Check::event_nodes_ok, crate::specs::Private::guarded_ok))]
 fn event_nodes_ok(table: &[u64], values: usize, parameters: usize, first: usize, k: usize) -> bool
     requires table_len { length table.now ≡ 24659 }
     requires table_bound { word_at table.now 8 ≤ 4096 }
     ensures { result ≡ event_nodes_ok table.now (scope_at table.now values parameters) first k }
 {
-    if word(table, 8) as usize <= k {
-        return false;
-    }
     let event = node_at(table, k);
-    if event.kind != Node::EVENT {
-        return false;
-    }
-    if k + 1 < first {
-        return false;
-    }
-    if event.size != k + 1 - first {
-        return false;
-    }
     let handler = event.argument as usize;
-    if k < handler {
-        return false;
-    }
-    if k - handler <= first {
-        return false;
-    }
-    guarded_ok(table, values, parameters, first, k - handler, handler)
+    k < word(table, 8) as usize
+        && event.kind == Node::EVENT
+        && first <= k + 1
+        && event.size == k + 1 - first
+        && handler <= k
+        && first < k - handler
+        && guarded_ok(table, values, parameters, first, k - handler, handler)
 }
 
+#[tactic(auto, unfolding(contract::specs::Check::event_ok))]
 fn event_ok(table: &[u64], values: usize, parameters: usize, first: usize, i: usize) -> bool
     requires table_len { length table.now ≡ 24659 }
     requires table_bound { word_at table.now 8 ≤ 4096 }
@@ -101,12 +83,9 @@ fn event_ok(table: &[u64], values: usize, parameters: usize, first: usize, i: us
 {
     let event = event_at(table, i);
     let states = word(table, 3) as usize;
-    if event.state < states {
-        if event.last < states {
-            return event_nodes_ok(table, values, parameters, first, event.node);
-        }
-    }
-    false
+    event.state < states
+        && event.last < states
+        && event_nodes_ok(table, values, parameters, first, event.node)
 }
 
 // The events of function i, one after the other.
@@ -116,16 +95,12 @@ fn events_ok(table: &[u64], i: usize, f: Function) -> bool
     requires table_bound { (word_at table.now 8 ≤ 4096) × (f.first + f.precondition + f.body ≤ 4096) × (f.event ≤ 4096) × (f.events ≤ 64) }
     ensures { result ≡ all_below f.events (event_passes table.now i) }
 {
-    let events = f.events;
     let mut first = f.first + f.precondition + f.body;
-    let mut j: usize = 0;
-    while j < events {
-        if event_ok(table, f.values, f.parameters, first, f.event + j) {
-            first = event_at(table, f.event + j).node + 1;
-            j += 1;
-        } else {
+    for j in 0..f.events {
+        if !event_ok(table, f.values, f.parameters, first, f.event + j) {
             return false;
         }
+        first = event_at(table, f.event + j).node + 1;
     }
     true
 }
@@ -134,27 +109,24 @@ fn events_ok(table: &[u64], i: usize, f: Function) -> bool
 fn sizes_ok(f: Function) -> bool
     ensures { result ≡ sizes_ok f }
 {
-    (f.precondition <= Contract::NODES)
-        & ((f.body <= Contract::NODES) & (f.events <= Contract::EVENTS))
+    f.precondition <= Contract::NODES && f.body <= Contract::NODES && f.events <= Contract::EVENTS
 }
 
+#[tactic(auto, unfolding(contract::specs::Check::function_nodes_ok))]
 fn function_nodes_ok(table: &[u64], i: usize, f: Function) -> bool
     requires table_len { length table.now ≡ 24659 }
     requires f_value { f ≡ function_row_of table.now i }
     requires table_bound { (word_at table.now 8 ≤ 4096) × (f.first ≤ 4096) × (f.event ≤ 4096) }
     ensures { result ≡ function_nodes_ok table.now (scope_at table.now (function_word table.now i 3) (function_word table.now i 4)) i }
 {
-    if sizes_ok(f) {
-        let body = f.first + f.precondition;
-        if body + f.body <= word(table, 8) as usize {
-            if precondition_ok(table, f.values, f.parameters, f.first, f.precondition) {
-                if body_ok(table, f.values, f.parameters, body, f.body) {
-                    return events_ok(table, i, f);
-                }
-            }
-        }
+    if !sizes_ok(f) {
+        return false;
     }
-    false
+    let body = f.first + f.precondition;
+    body + f.body <= word(table, 8) as usize
+        && precondition_ok(table, f.values, f.parameters, f.first, f.precondition)
+        && body_ok(table, f.values, f.parameters, body, f.body)
+        && events_ok(table, i, f)
 }
 
 // A function's states, party and counts of parameters.
@@ -162,13 +134,15 @@ fn row_ok(table: &[u64], f: Function) -> bool
     ensures { result ≡ row_ok table.now f }
 {
     let states = word(table, 3) as usize;
-    (f.state < states)
-        & ((f.party < word(table, 0) as usize)
-            & ((f.last < states)
-                & ((f.values <= Function::VALUES) & (f.parameters <= Function::PARAMETERS))))
+    f.state < states
+        && f.party < word(table, 0) as usize
+        && f.last < states
+        && f.values <= Function::VALUES
+        && f.parameters <= Function::PARAMETERS
 }
 
 // Function i, whose nodes start at `node` and whose events at `event`.
+#[tactic(auto, unfolding(contract::specs::Check::function_ok))]
 fn function_ok(table: &[u64], i: usize, f: Function, node: usize, event: usize) -> bool
     requires table_len { length table.now ≡ 24659 }
     requires f_value { f ≡ function_row_of table.now i }
@@ -176,19 +150,14 @@ fn function_ok(table: &[u64], i: usize, f: Function, node: usize, event: usize) 
     requires node_value { (node ≡ first_node table.now i) × (event ≡ first_event table.now i) }
     ensures { result ≡ function_ok table.now i }
 {
-    if row_ok(table, f) {
-        if name_ok(
+    row_ok(table, f)
+        && name_ok(
             table,
             contract::FUNCTIONS + i * Function::WORDS + Function::NAME,
-        ) {
-            if f.first == node {
-                if f.event == event {
-                    return function_nodes_ok(table, i, f);
-                }
-            }
-        }
-    }
-    false
+        )
+        && f.first == node
+        && f.event == event
+        && function_nodes_ok(table, i, f)
 }
 
 // The node after those of a function.
@@ -212,18 +181,15 @@ pub(crate) fn functions_ok(table: &[u64]) -> bool
     let count = word(table, 6) as usize;
     let mut node: usize = 0;
     let mut event: usize = 0;
-    let mut i: usize = 0;
-    while i < count {
+    for i in 0..count {
         let f = function_at(table, i);
-        if function_ok(table, i, f, node, event) {
-            node = function_end(table, i, f);
-            event = f.event + f.events;
-            i += 1;
-        } else {
+        if !function_ok(table, i, f, node, event) {
             return false;
         }
+        node = function_end(table, i, f);
+        event = f.event + f.events;
     }
-    (node == word(table, 8) as usize) & (event == word(table, 7) as usize)
+    node == word(table, 8) as usize && event == word(table, 7) as usize
 }
 
 // The names in the n rows of the parameters from row `first` on.
@@ -231,15 +197,7 @@ fn packed_rows_ok(table: &[u64], first: usize, n: usize) -> bool
     requires { (first ≤ 4096) × (n ≤ 64) }
     ensures { result ≡ all_below n (λ j. packed_ok table.now (parameters_start + (first + j) * 5)) }
 {
-    let mut j: usize = 0;
-    while j < n {
-        if packed_ok(table, first + j) {
-            j += 1;
-        } else {
-            return false;
-        }
-    }
-    true
+    (0..n).all(|j| packed_ok(table, first + j))
 }
 
 // The names of function i's value parameters and asset parameters.
@@ -249,11 +207,8 @@ fn parameters_ok(table: &[u64], i: usize) -> bool
 {
     let f = function_at(table, i);
     let first = i * Function::NAMES;
-    if packed_rows_ok(table, first, f.values) {
-        packed_rows_ok(table, first + Function::VALUES, f.parameters)
-    } else {
-        false
-    }
+    packed_rows_ok(table, first, f.values)
+        && packed_rows_ok(table, first + Function::VALUES, f.parameters)
 }
 
 // The names of all functions' parameters.
@@ -262,11 +217,8 @@ pub(crate) fn all_parameters_ok(table: &[u64]) -> bool
     ensures { result ≡ all_below (word_at table.now 6) (parameters_ok table.now) }
 {
     let count = word(table, 6) as usize;
-    let mut i: usize = 0;
-    while i < count {
-        if parameters_ok(table, i) {
-            i += 1;
-        } else {
+    for i in 0..count {
+        if !parameters_ok(table, i) {
             return false;
         }
     }

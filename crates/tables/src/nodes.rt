@@ -39,13 +39,7 @@ pub(crate) enum Sort {
     ValueTarget,
 }
 
-// Where something starts, if it is as it should be.
-#[derive(Clone, Copy)]
-pub(crate) enum Start {
-    At(usize),
-    Nowhere,
-}
-
+#[tactic(auto, unfolding(contract::specs::Check::is_sort))]
 pub(crate) fn is_sort(sort: Sort, kind: u64) -> bool
     ensures { result ≡ is_sort (sort_of sort) kind }
 {
@@ -53,62 +47,56 @@ pub(crate) fn is_sort(sort: Sort, kind: u64) -> bool
         Sort::Expression => ranges(Node::CONSTANT, kind, Node::OVER),
         Sort::Condition => ranges(Node::TRUE, kind, Node::OR),
         Sort::Statement => ranges(Node::VALUE_MOVE, kind, Node::CONDITIONAL),
-        Sort::Holder => (kind == Node::ASSET) | (kind == Node::PARAMETER),
+        Sort::Holder => kind == Node::ASSET || kind == Node::PARAMETER,
         Sort::AssetTarget => {
-            (kind == Node::PARTY) | ((kind == Node::ASSET) | (kind == Node::PARAMETER))
+            kind == Node::PARTY || kind == Node::ASSET || kind == Node::PARAMETER
         }
-        Sort::ValueTarget => (kind == Node::PARTY) | (kind == Node::FIELD),
+        Sort::ValueTarget => kind == Node::PARTY || kind == Node::FIELD,
     }
 }
 
-// Where the part starts that ends before node `end`: of this sort, and in the nodes from `from` on.
-fn part_start(table: &[u64], from: usize, sort: Sort, end: usize) -> Start
+// Where the part starts that ends before node `end`, if it is of this sort and in the nodes from `from` on.
+#[tactic(auto, unfolding(contract::specs::Check::part_start, laws::specs::Choice::pick))]
+fn part_start(table: &[u64], from: usize, sort: Sort, end: usize) -> Option<usize>
     requires { length table.now ≡ 24659 }
     ensures { start_of result ≡ part_start table.now from (sort_of sort) end }
 {
     if end <= from {
-        return Start::Nowhere;
+        return None;
     }
     let last = node_in(table, end - 1);
-    if is_sort(sort, last.kind) {
-        if last.size <= end - from {
-            return Start::At(end - last.size);
-        }
+    if is_sort(sort, last.kind) && last.size <= end - from {
+        Some(end - last.size)
+    } else {
+        None
     }
-    Start::Nowhere
 }
 
 // The same of two parts.
-fn pair_start(table: &[u64], from: usize, last: Sort, first: Sort, end: usize) -> Start
+fn pair_start(table: &[u64], from: usize, last: Sort, first: Sort, end: usize) -> Option<usize>
     requires { length table.now ≡ 24659 }
     ensures { start_of result ≡ parts_start table.now from (sort_of last ∷ sort_of first ∷ []) end }
 {
-    let start = part_start(table, from, last, end);
-    let Start::At(p) = start else {
-        return start;
-    };
+    let p = part_start(table, from, last, end)?;
     part_start(table, from, first, p)
 }
 
 // The parts of E -o h, t.
-fn move_start(table: &[u64], from: usize, end: usize) -> Start
+fn move_start(table: &[u64], from: usize, end: usize) -> Option<usize>
     requires { length table.now ≡ 24659 }
     ensures { start_of result ≡ parts_start table.now from (asset_target ∷ holder ∷ expression ∷ []) end }
 {
-    let start = part_start(table, from, Sort::AssetTarget, end);
-    let Start::At(p) = start else {
-        return start;
-    };
+    let p = part_start(table, from, Sort::AssetTarget, end)?;
     pair_start(table, from, Sort::Holder, Sort::Expression, p)
 }
 
 // Whether an expression or a condition counts its parts, which start there, and itself.
-fn whole_from(table: &[u64], k: usize, start: Start) -> bool
+fn whole_from(table: &[u64], k: usize, start: Option<usize>) -> bool
     requires table_len { length table.now ≡ 24659 }
     requires k_bound { (k < 4096) × StartsBy (start_of start) k }
     ensures { result ≡ whole_from table.now k (start_of start) }
 {
-    let Start::At(p) = start else {
+    let Some(p) = start else {
         return false;
     };
     node_in(table, k).size == k + 1 - p
@@ -123,16 +111,16 @@ fn statements_before(table: &[u64], from: usize, p: usize, n: usize) -> bool
         return false;
     }
     let before = node_in(table, p - 1);
-    is_sort(Sort::Statement, before.kind) & (n == before.size)
+    is_sort(Sort::Statement, before.kind) && n == before.size
 }
 
 // Whether a statement counts its own parts, which start there, itself, and the statements before it in its block.
-fn statement_from(table: &[u64], from: usize, k: usize, start: Start) -> bool
+fn statement_from(table: &[u64], from: usize, k: usize, start: Option<usize>) -> bool
     requires table_len { length table.now ≡ 24659 }
     requires k_bound { (k < 4096) × StartsBy (start_of start) k }
     ensures { result ≡ statement_from table.now from k (start_of start) }
 {
-    let Start::At(p) = start else {
+    let Some(p) = start else {
         return false;
     };
     let size = node_in(table, k).size;
@@ -144,6 +132,7 @@ fn statement_from(table: &[u64], from: usize, k: usize, start: Start) -> bool
 }
 
 // Whether there is a block in the n nodes before `end`: none, or its last statement counts them all.
+#[tactic(auto, unfolding(contract::specs::Check::block_ok))]
 pub(crate) fn block_ok(table: &[u64], end: usize, n: usize) -> bool
     requires table_len { length table.now ≡ 24659 }
     requires n_le_end { n ≤ end }
@@ -153,25 +142,26 @@ pub(crate) fn block_ok(table: &[u64], end: usize, n: usize) -> bool
         return true;
     }
     let last = node_in(table, end - 1);
-    is_sort(Sort::Statement, last.kind) & (last.size == n)
+    is_sort(Sort::Statement, last.kind) && last.size == n
 }
 
 // Where the condition of conditional k starts, which stands before its block.
-fn conditional_start(table: &[u64], from: usize, k: usize) -> Start
+#[tactic(auto, unfolding(contract::specs::Check::conditional_start, laws::specs::Choice::pick))]
+fn conditional_start(table: &[u64], from: usize, k: usize) -> Option<usize>
     requires table_len { length table.now ≡ 24659 }
     requires from_le_k { from ≤ k }
     ensures { start_of result ≡ conditional_start table.now from k }
 {
     let n = node_in(table, k).argument as usize;
-    if n <= k - from {
-        if block_ok(table, k, n) {
-            return part_start(table, from, Sort::Condition, k - n);
-        }
+    if n <= k - from && block_ok(table, k, n) {
+        part_start(table, from, Sort::Condition, k - n)
+    } else {
+        None
     }
-    Start::Nowhere
 }
 
 // Whether a node without parts names something, with so many value and asset parameters in scope.
+#[tactic(auto, unfolding(contract::specs::Check::leaf_ok, contract::specs::Check::scope_at, laws::specs::Choice::pick))]
 fn leaf_ok(table: &[u64], values: usize, parameters: usize, kind: u64, n: u64) -> bool
     ensures { result ≡ leaf_ok (scope_at table.now values parameters) kind n }
 {
@@ -183,7 +173,7 @@ fn leaf_ok(table: &[u64], values: usize, parameters: usize, kind: u64, n: u64) -
         Node::VALUE => n < values as u64,
         Node::PARAMETER => n < parameters as u64,
         Node::PARTY => n < word(table, 0),
-        _ => (kind == Node::NOW) | ((kind == Node::TRUE) | (kind == Node::FALSE)),
+        _ => kind == Node::NOW || kind == Node::TRUE || kind == Node::FALSE,
     }
 }
 
@@ -191,7 +181,7 @@ fn leaf_ok(table: &[u64], values: usize, parameters: usize, kind: u64, n: u64) -
 fn takes_expressions(kind: u64) -> bool
     ensures { result ≡ (ranges 8 kind 11 || ranges 14 kind 19) }
 {
-    ranges(Node::PLUS, kind, Node::OVER) | ranges(Node::EQUAL, kind, Node::AT_LEAST)
+    ranges(Node::PLUS, kind, Node::OVER) || ranges(Node::EQUAL, kind, Node::AT_LEAST)
 }
 
 // Whether a statement has its parts in the nodes from `from` on.
@@ -238,13 +228,17 @@ fn whole_ok(table: &[u64], from: usize, k: usize, kind: u64) -> bool
 }
 
 // Whether nodes of a kind have no parts.
+#[tactic(auto, unfolding(contract::specs::Check::is_leaf))]
 fn is_leaf(kind: u64) -> bool
     ensures { result ≡ is_leaf kind }
 {
     ranges(Node::CONSTANT, kind, Node::PARAMETER)
-        | ((kind == Node::TRUE) | ((kind == Node::FALSE) | (kind == Node::PARTY)))
+        || kind == Node::TRUE
+        || kind == Node::FALSE
+        || kind == Node::PARTY
 }
 
+#[tactic(auto, unfolding(contract::specs::Check::node_ok, laws::specs::Choice::pick))]
 fn node_ok(table: &[u64], values: usize, parameters: usize, from: usize, k: usize) -> bool
     requires table_len { length table.now ≡ 24659 }
     requires from_le_k { (from ≤ k) × (k < 4096) }
@@ -252,7 +246,7 @@ fn node_ok(table: &[u64], values: usize, parameters: usize, from: usize, k: usiz
 {
     let node = node_in(table, k);
     if is_leaf(node.kind) {
-        leaf_ok(table, values, parameters, node.kind, node.argument) & (node.size == 1)
+        leaf_ok(table, values, parameters, node.kind, node.argument) && node.size == 1
     } else {
         whole_ok(table, from, k, node.kind)
     }
@@ -284,14 +278,11 @@ pub(crate) fn nodes_ok(
     ensures { result ≡ nodes_ok table.now (scope_at table.now values parameters) from n }
 {
     let mut count: usize = 0;
-    let mut j: usize = 0;
-    while j < n {
-        if node_ok(table, values, parameters, from, from + j) {
-            count = counted(table, from + j, count);
-            j += 1;
-        } else {
+    for j in 0..n {
+        if !node_ok(table, values, parameters, from, from + j) {
             return false;
         }
+        count = counted(table, from + j, count);
     }
     count <= Function::STATEMENTS
 }

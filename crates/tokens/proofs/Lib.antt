@@ -3,3 +3,5 @@ pub mod Laws
 pub mod Marks
 pub mod Reserved
 pub mod Facts
+pub mod Runs
+pub mod Parts

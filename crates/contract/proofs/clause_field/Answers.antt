@@ -11,4 +11,4 @@ returns-then-table-j c =
     sym (past_end s.args.table.now (5027 + s.args.i * 35 + (3 + s.args.j)) (omega arith))
 
 pub returns : goal.returns
-returns c = c.word.ensures ∙ c.row.ensures.same (3 + c.args.j)
+returns c = c.number.ensures ∙ c.row-at.ensures.same (3 + c.args.j)

@@ -8,7 +8,7 @@ returns c =
     let s = c in
     let a = c.row-at.ensures in
     λ t. record {
-      state = (c.word.ensures ∙ row_first s.args.table.now 8339 3 s.args.i _ a) t;
-      last = (c.word-2.ensures ∙ a.same 1) t;
-      node = (c.word-3.ensures ∙ a.same 2) t;
+      state = (c.number.ensures ∙ row_first s.args.table.now 8339 3 s.args.i _ a) t;
+      last = (c.number-2.ensures ∙ a.same 1) t;
+      node = (c.number-3.ensures ∙ a.same 2) t;
     }

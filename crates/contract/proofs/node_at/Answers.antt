@@ -12,5 +12,5 @@ returns c =
     λ t. record {
       kind = (c.word.ensures ∙ row_first s.args.table.now 8531 3 s.args.k _ a ∙ ap (word_at s.args.table.now) (add-zero _)) t;
       argument = (c.word-2.ensures ∙ a.same 1) t;
-      size = (c.word-3.ensures ∙ a.same 2) t;
+      size = (c.number.ensures ∙ a.same 2) t;
     }

@@ -5,13 +5,13 @@ use lib.IntN.{ℤ}
 use lib.Signed.{mag}
 use mir.Syntax.{w64}
 use mir.Val.{to_z, of_z}
-use Rattle.numbers.specs.Numbers.{arithmetic, applied}
-use Rattle.numbers.specs.declared.Answer.{Answer}
+use Rattle.numbers.specs.Numbers.{Answer, arithmetic, applied}
 use Rattle.numbers.specs.declared.Value.{Value}
 use Rattle.numbers.specs.declared.Value.TheVariants.{Integer}
 use Rattle.numbers.specs.declared.Operator.{Operator}
 use Rattle.numbers.specs.declared.Operator.TheVariants.{Plus, Minus, Times, Over}
 use Rattle.numbers.proofs.Whole.{back}
+use Rattle.numbers.proofs.Range.{answered}
 use Rattle.numbers.proofs.apply.Goals as goal
 
 -- the operator and two integers that were found, read back from their bits
@@ -23,19 +23,19 @@ pub returns-in-Plus : goal.returns-in-Plus
 returns-in-Plus c =
     let k = c in
     known Plus c.in-Plus.is k.in-Integer.is k.in-Integer-b.is
-    k.in-Integer.known_told-1-own.given.0.1 k.in-Integer-b.known_told-in-Integer-b-1-own.given.0.1 c.add.ensures
+    k.in-Integer.known_told-1-own.given.0.1 k.in-Integer-b.known_told-in-Integer-b-1-own.given.0.1 (c.answer.ensures ∙ answered _ _ c.checked_add.ensures)
 
 pub returns-in-Minus : goal.returns-in-Minus
 returns-in-Minus c =
     let k = c in
     known Minus c.in-Minus.is k.in-Integer.is k.in-Integer-b.is
-    k.in-Integer.known_told-1-own.given.0.1 k.in-Integer-b.known_told-in-Integer-b-1-own.given.0.1 c.sub.ensures
+    k.in-Integer.known_told-1-own.given.0.1 k.in-Integer-b.known_told-in-Integer-b-1-own.given.0.1 (c.answer-in-Minus.ensures ∙ answered _ _ c.checked_sub.ensures)
 
 pub returns-in-Times : goal.returns-in-Times
 returns-in-Times c =
     let k = c in
     known Times c.in-Times.is k.in-Integer.is k.in-Integer-b.is
-    k.in-Integer.known_told-1-own.given.0.1 k.in-Integer-b.known_told-in-Integer-b-1-own.given.0.1 c.mul.ensures
+    k.in-Integer.known_told-1-own.given.0.1 k.in-Integer-b.known_told-in-Integer-b-1-own.given.0.1 (c.answer-in-Times.ensures ∙ answered _ _ c.checked_mul.ensures)
 
 pub returns-in-Over : goal.returns-in-Over
 returns-in-Over c =

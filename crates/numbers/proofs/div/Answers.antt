@@ -5,17 +5,16 @@ use mathlib.Core.Bool.{true, false}
 use Prim.Native.Nat.{ℕ, zero, suc, ◌+◌, ◌-◌, ◌/◌, ◌%◌, ◌^◌, ◌<◌, ◌≤◌}
 use native.Mathlib.Nat.{zero-div, zero-mod, mod-one, div-zero, div-one, div-le_self, div-lt_self, pos_of_ne-zero, mul-suc, suc-mul, div-add-mod', div-mul-le_self, lt-div-mul-add, le-div_iff_mul-le, div-lt_iff_lt-mul}
 use native.Mathlib.Omega.{arith}
-use lib.IntN.{ℤ, pos, negsuc, neg_ℤ, nat_abs, ◌-ℤ◌, +ℤ_idl}
+use lib.IntN.{ℤ, pos, negsuc, neg_ℤ, nat_abs, ◌-ℤ◌}
 use lib.Signed.{quot_z, rem_z, mag_rem}
 use mir.Syntax.{w64}
 use mir.Val.{SFits, to_z, of_z}
 use mir.Facts.{to_z-of_z}
 use Rattle.laws.specs.Choice.{pick}
 use Rattle.laws.proofs.Choice.{pick_false, true_false}
-use Rattle.numbers.specs.Numbers.{in_range, eq_z, rounded_down, quotient, divided}
-use Rattle.numbers.specs.declared.Answer.{Answer}
+use Rattle.numbers.specs.Numbers.{Answer, in_range, eq_z, rounded_down, quotient, divided}
 use Rattle.numbers.proofs.Whole.{up, down, alike, both_above, above_below, below_above, up_neg, down_neg, diff, fits_of, same_of, back}
-use Rattle.numbers.proofs.Range.{is_in, neg_fits}
+use Rattle.numbers.proofs.Range.{is_in, answered, neg_fits}
 use Rattle.numbers.proofs.div.Goals.{Else-alike, Else-minus_one}
 use Rattle.numbers.proofs.div.Goals as goal
 
@@ -50,8 +49,8 @@ by_one : (z : ℤ) → rounded_down z 1 ≡ z
 by_one (pos n) = ap pos (div-one n)
 by_one (negsuc n) = ap negsuc (div-one n)
 
-by_minus_one : (a : ℤ) → quotient a (negsuc 0) ≡ pos 0 -ℤ a
-by_minus_one a = by_one (neg_ℤ a) ∙ sym (+ℤ_idl (neg_ℤ a))
+by_minus_one : (a : ℤ) → quotient a (negsuc 0) ≡ neg_ℤ a
+by_minus_one a = by_one (neg_ℤ a)
 
 -- -(n + 1) by d: with nothing left over, and with something
 below_exact : (n d : ℕ) → 0 < d → suc n % d ≡ 0 → neg_ℤ (pos (suc n / d)) ≡ negsuc (n / d)
@@ -158,8 +157,9 @@ pub returns-then-minus_one : goal.returns-then-minus_one
 returns-then-minus_one c =
     let s = c in
     kept _ _ s.ranges.a s.ranges.b c.if-b-eq0.false _
-    (c.sub.ensures
-    ∙ ap (λ (z : ℤ). in_range (pos 0 -ℤ z)) (to_z-of_z s.ranges.a)
+    (c.answer.ensures
+    ∙ answered _ _ c.checked_neg.ensures
+    ∙ ap (λ (z : ℤ). in_range (neg_ℤ z)) (to_z-of_z s.ranges.a)
     ∙ ap in_range (sym (by_minus_one s.args.a) ∙ ap (quotient s.args.a) (sym (minus_of _ s.ranges.b c.if-minus_one.true))))
 
 pub nonzero_div-q : goal.nonzero_div-q

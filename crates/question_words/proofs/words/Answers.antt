@@ -1,27 +1,16 @@
--- `question_words::words` meets its contract. Assumes nothing.
-
+-- `question_words::words` meets its contract: no words are longer than the buffer. Assumes nothing.
+use Rattle.std.proofs.Common.{ℕ, ◌∙◌, ◌++◌, ap, sym, arith, length, drop, zero-add}
+use Rattle.std.proofs.lemmas.List.Edits.{sets-eq}
+use Rattle.question_words.specs.Words.{words_of}
+use Rattle.question_words.proofs.WordLaws.{words_short}
 use Rattle.question_words.proofs.words.Goals as goal
 
-pub of_reading-requires : goal.of_reading-requires
-of_reading-requires c = c.if-number-lt20.true
+pub slice_bounds-copy_from_slice-end : goal.slice_bounds-copy_from_slice-end
+slice_bounds-copy_from_slice-end c = omega (arith, ap length c.spelled-words.ensures, words_short c.args.number)
 
-pub returns-then-number-lt20 : goal.returns-then-number-lt20
-returns-then-number-lt20 c = record { value = c.of_reading.ensures.size; buffer_after = c.of_reading.ensures.list }
-
-pub of_steps-requires : goal.of_steps-requires
-of_steps-requires c = record { le_number = c.if-number-lt20.false; number_bound = c.if-number-lt50.true }
-
-pub returns-then-number-lt50 : goal.returns-then-number-lt50
-returns-then-number-lt50 c = record { value = c.of_steps.ensures.size; buffer_after = c.of_steps.ensures.list }
-
-pub of_lines-requires : goal.of_lines-requires
-of_lines-requires c = record { le_number = c.if-number-lt50.false; number_bound = c.if-number-lt60.true }
-
-pub returns-then-number-lt60 : goal.returns-then-number-lt60
-returns-then-number-lt60 c = record { value = c.of_lines.ensures.size; buffer_after = c.of_lines.ensures.list }
-
-pub of_requests-requires : goal.of_requests-requires
-of_requests-requires c = c.if-number-lt60.false
-
-pub returns : goal.returns
-returns c = record { value = c.of_requests.ensures.size; buffer_after = c.of_requests.ensures.list }
+pub returns-clause-buffer_after : goal.returns-clause-buffer_after
+returns-clause-buffer_after c =
+    let w = words_of c.args.number in
+    let l = c.args.buffer.now in
+    rw (c.copy_from_slice.ensures.after, c.spelled-words.ensures)
+    (sym (sets-eq w l 0 (omega (arith, words_short c.args.number)) ∙ ap (λ (k : ℕ). w ++ drop k l) (zero-add (length w))))

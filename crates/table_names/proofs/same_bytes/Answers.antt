@@ -18,13 +18,13 @@ pub loop-i-preserved : goal.loop-i-preserved
 loop-i-preserved c =
     let s = c in
     let l = c.loop-i in
-    (l.invariant.0, l.invariant.1 ∙ same_more s.args.name.now s.args.word.now _ (omega arith) (omega (arith, l.invariant.0)) (sym c.wide.ensures ∙ c.if-wide-word.true))
+    (l.invariant.0, l.invariant.1 ∙ same_more s.args.name.now s.args.word.now _ (omega arith) (omega (arith, l.invariant.0)) (sym c.from.ensures ∙ c.if-from-word.false))
 
-pub returns-else-wide-word : goal.returns-else-wide-word
-returns-else-wide-word c =
+pub returns-then-from-word : goal.returns-then-from-word
+returns-then-from-word c =
     let s = c in
     let l = c.loop-i in
-    sym (l.invariant.1 ∙ same_other s.args.name.now s.args.word.now _ (omega arith) (omega (arith, l.invariant.0)) (λ e. c.if-wide-word.false (c.wide.ensures ∙ e)))
+    sym (l.invariant.1 ∙ same_other s.args.name.now s.args.word.now _ (omega arith) (omega (arith, l.invariant.0)) (λ e. c.if-from-word.true (c.from.ensures ∙ e)))
 
 pub returns : goal.returns
 returns c =

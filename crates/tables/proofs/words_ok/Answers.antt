@@ -1,7 +1,8 @@
 -- src/lib.rt:84:9
-use mathlib.Core.Path.{sym, ◌∙◌}
 use native.Mathlib.Omega.{arith}
+use Rattle.std.proofs.Common.{rules}
 use Rattle.tables.proofs.Checked.{limits, names_as}
+use Rattle.tables.proofs.words_ok.Goals.{then-name_ok, else-name_ok, then-names_ok, else-names_ok, then-names_ok-2, else-names_ok-2, then-names_ok-3, else-names_ok-3}
 use Rattle.tables.proofs.words_ok.Goals as goal
 
 pub names_ok-requires : goal.names_ok-requires
@@ -31,55 +32,20 @@ strings_ok-requires c =
 
 pub returns-then-names_ok-4 : goal.returns-then-names_ok-4
 returns-then-names_ok-4 c =
-    c.strings_ok.ensures
-    ∙ simp (
-      sym c.name_ok.ensures ∙ c.if-name_ok.true,
-      sym c.names_ok.ensures ∙ c.if-names_ok.true,
-      sym c.names_ok-then-names_ok.ensures ∙ c.if-names_ok-2.true,
-      sym c.names_ok-then-names_ok-2.ensures ∙ c.if-names_ok-3.true,
-      sym c.names_ok-then-names_ok-3.ensures ∙ c.if-names_ok-4.true,
-    )
-    at (names_as c.args.table.now c.head-h.result c.head-h.ensures)
-
-pub returns-else-names_ok-4 : goal.returns-else-names_ok-4
-returns-else-names_ok-4 c =
-    simp (
-      sym c.name_ok.ensures ∙ c.if-name_ok.true,
-      sym c.names_ok.ensures ∙ c.if-names_ok.true,
-      sym c.names_ok-then-names_ok.ensures ∙ c.if-names_ok-2.true,
-      sym c.names_ok-then-names_ok-2.ensures ∙ c.if-names_ok-3.true,
-      sym c.names_ok-then-names_ok-3.ensures ∙ c.if-names_ok-4.false,
-    )
-    at (names_as c.args.table.now c.head-h.result c.head-h.ensures)
-
-pub returns-else-names_ok-3 : goal.returns-else-names_ok-3
-returns-else-names_ok-3 c =
-    simp (
-      sym c.name_ok.ensures ∙ c.if-name_ok.true,
-      sym c.names_ok.ensures ∙ c.if-names_ok.true,
-      sym c.names_ok-then-names_ok.ensures ∙ c.if-names_ok-2.true,
-      sym c.names_ok-then-names_ok-2.ensures ∙ c.if-names_ok-3.false,
-    )
-    at (names_as c.args.table.now c.head-h.result c.head-h.ensures)
-
-pub returns-else-names_ok-2 : goal.returns-else-names_ok-2
-returns-else-names_ok-2 c =
-    simp (
-      sym c.name_ok.ensures ∙ c.if-name_ok.true,
-      sym c.names_ok.ensures ∙ c.if-names_ok.true,
-      sym c.names_ok-then-names_ok.ensures ∙ c.if-names_ok-2.false,
-    )
-    at (names_as c.args.table.now c.head-h.result c.head-h.ensures)
-
-pub returns-else-names_ok : goal.returns-else-names_ok
-returns-else-names_ok c =
-    simp (
-      sym c.name_ok.ensures ∙ c.if-name_ok.true,
-      sym c.names_ok.ensures ∙ c.if-names_ok.false,
-    )
-    at (names_as c.args.table.now c.head-h.result c.head-h.ensures)
-
-pub returns-else-name_ok : goal.returns-else-name_ok
-returns-else-name_ok c =
-    simp (sym c.name_ok.ensures ∙ c.if-name_ok.false)
-    at (names_as c.args.table.now c.head-h.result c.head-h.ensures)
+    let n = names_as c.args.table.now c.head-h.result c.head-h.ensures in
+    elim c.if-names_ok-3.branch [
+      | then-names_ok-3 w3 ↦
+          elim c.if-names_ok-2.branch [
+            | then-names_ok-2 w2 ↦
+                elim c.if-names_ok.branch [
+                  | then-names_ok w1 ↦
+                      elim c.if-name_ok.branch [
+                        | then-name_ok w0 ↦ search (rules, n)
+                        | else-name_ok w0 ↦ search rules
+                      ]
+                  | else-names_ok w1 ↦ search rules
+                ]
+            | else-names_ok-2 w2 ↦ search rules
+          ]
+      | else-names_ok-3 w3 ↦ search rules
+    ]

@@ -1,15 +1,5 @@
--- `tokens::comment_end` meets its contract. The invariant: the place and the gap from there on make the same sum all along. Assumes nothing.
-use mathlib.Core.Path.{◌≡◌}
-use mathlib.Core.Bool.{true}
-use Prim.Native.Nat.{◌+◌, ◌-◌, ◌≤◌}
-use lib.ListN.{length, drop}
-use Rattle.tokens.specs.Classes.{gap}
+use Rattle.tokens.specs.Private.{is_comment_byte}
 use Rattle.tokens.proofs.comment_end.Given as goal
 
-abbrev pub invariant-loop-i : goal.invariant-loop-i
-invariant-loop-i l =
-    (l.at ≤ l.i) × (l.i + gap true (drop l.i l.text) ≡ l.at + gap true (drop l.at l.text))
-
-abbrev pub decreases-loop-i : goal.decreases-loop-i
-decreases-loop-i l =
-    length l.text - l.i
+abbrev pub ghost-run_end : goal.ghost-run_end
+ghost-run_end a = is_comment_byte

@@ -123,14 +123,14 @@ returns-in-62 c =
 pub returns-in-33 : goal.returns-in-33
 returns-in-33 c =
     let a = c.args in
-    rw (exclamation a.text.now a.i c.requires c.in-33.is) c.pair_at-in-33.ensures
+    rw (exclamation a.text.now a.i c.requires c.in-33.is, ← c.refused-none.ensures) c.pair_at-in-33.ensures
 
 pub returns-in-38 : goal.returns-in-38
 returns-in-38 c =
     let a = c.args in
-    rw (ampersand a.text.now a.i c.requires c.in-38.is) c.pair_at-in-38.ensures
+    rw (ampersand a.text.now a.i c.requires c.in-38.is, ← c.refused-none.ensures) c.pair_at-in-38.ensures
 
 pub returns-in_default : goal.returns-in_default
 returns-in_default c =
     let a = c.args in
-    sym (no_mark a.text.now a.i c.requires c.in_default.in_default-own.rest)
+    c.refused-none.ensures ∙ sym (no_mark a.text.now a.i c.requires c.in_default.in_default-own.rest)

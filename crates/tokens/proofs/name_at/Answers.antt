@@ -32,4 +32,4 @@ returns-else-fits c =
     let a = c.args in
     let g = run_go a.text.now a.i c.requires.0 is_name_byte (letter_name _ c.requires.1) in
     let h : 32 < run is_name_byte (drop a.i a.text.now) = omega (arith, c.name_end-end.ensures, g, c.if-fits.false) in
-    rw (lt-leb _ _ h)
+    rw (lt-leb _ _ h) c.refused.ensures

@@ -1,21 +1,7 @@
 -- `words::continues` meets its contract. Assumes nothing.
-use mathlib.Core.Path.{ap, ◌∙◌}
-use native.Mathlib.Omega.{arith}
-use lib.ListN.{drop, length-take}
+use Rattle.std.proofs.Common.{◌∙◌, ap}
 use Rattle.laws.specs.Bytes.{starts_with}
-use Rattle.words.specs.Words.{spelled}
-use Rattle.words.proofs.Spellings.{front_within, front_is}
 use Rattle.words.proofs.continues.Goals as goal
 
-pub slice_bounds-bytes-end : goal.slice_bounds-bytes-end
-slice_bounds-bytes-end c = front_within (spelled c.args.which) c.spelling-word.ensures
-
-pub slice_bounds-goes_on-end : goal.slice_bounds-goes_on-end
-slice_bounds-goes_on-end c =
-    let w = c.spelling-word in
-    omega (arith, front_within (spelled c.args.which) w.ensures, length-take w.result.length w.result.bytes)
-
 pub returns : goal.returns
-returns c =
-    let a = c.args in
-    c.goes_on.ensures ∙ ap (starts_with (drop a.at a.text.now)) (front_is (spelled a.which) c.spelling-word.ensures)
+returns c = c.goes_on.ensures ∙ ap (starts_with _) c.spelling.ensures

@@ -1,21 +1,14 @@
--- `words::is_word` meets its contract. Assumes nothing.
-use mathlib.Core.Path.{ap, ◌∙◌}
-use native.Mathlib.Omega.{arith}
-use lib.ListN.{length-take}
-use Rattle.laws.specs.Bytes.{same_bytes}
-use Rattle.words.specs.Words.{spelled}
-use Rattle.words.proofs.Spellings.{front_within, front_is}
+-- `words::is_word` meets its contract: a part of the word's length is the word where it begins with it. Assumes nothing.
+use Rattle.std.proofs.Common.{◌∙◌, ap, sym}
+use borrow.Author.Tests.{ne_eqb}
+use Rattle.laws.specs.Bytes.{starts_with}
+use Rattle.laws.proofs.Bytes.{same_length}
+use Rattle.words.proofs.Comparing.{same_starts}
 use Rattle.words.proofs.is_word.Goals as goal
 
-pub slice_bounds-bytes-end : goal.slice_bounds-bytes-end
-slice_bounds-bytes-end c = front_within (spelled c.args.which) c.spelling-word.ensures
+pub returns-then-part-word_length : goal.returns-then-part-word_length
+returns-then-part-word_length c =
+    c.goes_on.ensures ∙ ap (starts_with _) c.spelling.ensures ∙ sym (same_starts _ _ (c.if-part-word_length.true ∙ c.word_length.ensures))
 
-pub slice_bounds-same-end : goal.slice_bounds-same-end
-slice_bounds-same-end c =
-    let w = c.spelling-word in
-    omega (arith, front_within (spelled c.args.which) w.ensures, length-take w.result.length w.result.bytes)
-
-pub returns : goal.returns
-returns c =
-    let a = c.args in
-    c.same.ensures ∙ ap (same_bytes a.part.now) (front_is (spelled a.which) c.spelling-word.ensures)
+pub returns-else-part-word_length : goal.returns-else-part-word_length
+returns-else-part-word_length c = ne_eqb _ _ c.if-part-word_length.false ∙ sym (same_length _ _ (λ e. c.if-part-word_length.false (e ∙ sym c.word_length.ensures)))

@@ -1,7 +1,6 @@
 -- `tables::functions::events_ok` meets its contract. Assumes nothing.
 use mathlib.Core.Path.{◌≡◌}
 use mathlib.Core.Bool.{true}
-use Prim.Native.Nat.{◌≤◌, ◌-◌}
 use Rattle.tables.specs.Private.{event_passes}
 use Rattle.contract.specs.Check.{event_first}
 use Rattle.laws.specs.Lists.{all_below}
@@ -9,8 +8,4 @@ use Rattle.tables.proofs.functions.events_ok.Given as goal
 
 abbrev pub invariant-loop-j : goal.invariant-loop-j
 invariant-loop-j l =
-    (l.j ≤ l.events) × (l.first ≡ event_first l.table l.i l.j) × (all_below l.j (event_passes l.table l.i) ≡ true)
-
-abbrev pub decreases-loop-j : goal.decreases-loop-j
-decreases-loop-j l =
-    l.events - l.j
+    (l.first ≡ event_first l.table l.i l.j) × (all_below l.j (event_passes l.table l.i) ≡ true)

@@ -27,5 +27,6 @@ pub returns-else-packed_rows_ok : goal.returns-else-packed_rows_ok
 returns-else-packed_rows_ok c =
     let a = c.args in
     let e = c.function_at-f.ensures in
-    simp (sym c.packed_rows_ok.ensures ∙ c.if-packed_rows_ok.false)
+    c.if-packed_rows_ok.false
+    ∙ simp (sym c.packed_rows_ok.ensures ∙ c.if-packed_rows_ok.false)
     at (parameters_as a.table.now a.i (ap (λ (f : Function). f.values) e) (ap (λ (f : Function). f.parameters) e))
