@@ -7,6 +7,7 @@ ghost use Rattle.reading_laws.specs.Walk as walk;
 ghost use Rattle.reading_laws.specs.Walk.{AgreesWith, draft};
 
 use contract::Node;
+use questions::Question;
 use tokens::Token;
 
 // E -> t, at t. `first` is the statement's first token, `from` its block's first node.
@@ -191,10 +192,10 @@ pub(crate) fn action(
 pub(crate) fn is_start(kind: u8) -> bool
     ensures { result ≡ is_one_of item_starts kind }
 {
-    match kind {
-        words::OPEN_PAREN | Token::NAME | Token::NUMBER | Token::STRING | words::NOW => true,
-        _ => false,
-    }
+    matches!(
+        kind,
+        words::OPEN_PAREN | Token::NAME | Token::NUMBER | Token::STRING | words::NOW
+    )
 }
 
 #[cycle(blocks)]
@@ -237,8 +238,7 @@ fn statements(
     ensures { AgreesWith (walk.statements text.now handler levels (walk.conditional text.now handler levels) from (length text.now) (cursor_in text.now c) (draft table.old notes.old)) (step_in text.now result) table.new notes.new }
 {
     let mut here = c;
-    let mut left = text.len();
-    while 0 < left {
+    for _ in 0..text.len() {
         if !is_start(cursors::kind_of(here)) {
             return here;
         }
@@ -248,7 +248,6 @@ fn statements(
         }
         let d = r;
         here = d;
-        left -= 1;
     }
     here
 }
@@ -296,7 +295,7 @@ pub(crate) fn conditional(
 {
     let place = cursors::start_of(c);
     if levels == 0 {
-        return cursors::stop(questions::LEVELS, place);
+        return cursors::stop(Question::Levels as u8, place);
     }
     let a = cursors::token(text, c, words::OPEN_PAREN);
     if cursors::stops(a) {

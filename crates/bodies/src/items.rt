@@ -176,8 +176,7 @@ fn body_items(text: &[u8], table: &mut [u64], notes: &mut [u64], c: u64, from: u
     ensures { AgreesWith (walk.body_items text.now from (length text.now) (cursor_in text.now c) (draft table.old notes.old)) (step_in text.now result) table.new notes.new }
 {
     let mut here = c;
-    let mut left = text.len();
-    while 0 < left {
+    for _ in 0..text.len() {
         if !blocks::is_start(cursors::kind_of(here)) {
             return here;
         }
@@ -187,7 +186,6 @@ fn body_items(text: &[u8], table: &mut [u64], notes: &mut [u64], c: u64, from: u
         }
         let d = r;
         here = d;
-        left -= 1;
     }
     here
 }

@@ -6,7 +6,8 @@ ghost use Rattle.cursors.specs.Packed.{cursor_in, step_in, entered, step_after, 
 ghost use Rattle.reading_laws.specs.Walk as walk;
 ghost use Rattle.reading_laws.specs.Walk.{draft};
 
-use reading::Answer;
+use contract::Contract;
+use questions::Question;
 
 mod blocks;
 mod items;
@@ -17,8 +18,8 @@ pub fn body(text: &[u8], table: &mut [u64], notes: &mut [u64], c: u64) -> u64
     ensures table_after { table.new ≡ table_after table.old (entered text.now (walk.body text.now (cursor_in text.now c) (draft table.old notes.old))) }
     ensures notes_after { notes.new ≡ notes_after notes.old (entered text.now (walk.body text.now (cursor_in text.now c) (draft table.old notes.old))) }
 {
-    if Answer::TEXT < text.len() {
-        return cursors::leave(table, notes, cursors::stop(questions::TEXT_LENGTH, 0));
+    if Contract::TEXT < text.len() {
+        return cursors::leave(table, notes, cursors::stop(Question::TextLength as u8, 0));
     }
     let r = items::body(text, table, notes, cursors::going(c));
     cursors::leave(table, notes, r)

@@ -6,7 +6,8 @@ ghost use Rattle.cursors.specs.Packed.{cursor_in, step_in, entered, step_after, 
 ghost use Rattle.reading_laws.specs.Walk as walk;
 ghost use Rattle.reading_laws.specs.Walk.{draft};
 
-use reading::Answer;
+use contract::Contract;
+use questions::Question;
 
 mod lists;
 
@@ -16,8 +17,8 @@ pub fn names(text: &[u8], table: &mut [u64], notes: &mut [u64], c: u64, kind: us
     ensures table_after { table.new ≡ table_after table.old (entered text.now (walk.names text.now kind (cursor_in text.now c) (draft table.old notes.old))) }
     ensures notes_after { notes.new ≡ notes_after notes.old (entered text.now (walk.names text.now kind (cursor_in text.now c) (draft table.old notes.old))) }
 {
-    if Answer::TEXT < text.len() {
-        return cursors::leave(table, notes, cursors::stop(questions::TEXT_LENGTH, 0));
+    if Contract::TEXT < text.len() {
+        return cursors::leave(table, notes, cursors::stop(Question::TextLength as u8, 0));
     }
     let r = lists::names(text, table, notes, cursors::going(c), kind);
     cursors::leave(table, notes, r)
@@ -29,8 +30,8 @@ pub fn line(text: &[u8], table: &mut [u64], notes: &mut [u64], c: u64, word: u8,
     ensures table_after { table.new ≡ table_after table.old (entered text.now (walk.line text.now word kind (cursor_in text.now c) (draft table.old notes.old))) }
     ensures notes_after { notes.new ≡ notes_after notes.old (entered text.now (walk.line text.now word kind (cursor_in text.now c) (draft table.old notes.old))) }
 {
-    if Answer::TEXT < text.len() {
-        return cursors::leave(table, notes, cursors::stop(questions::TEXT_LENGTH, 0));
+    if Contract::TEXT < text.len() {
+        return cursors::leave(table, notes, cursors::stop(Question::TextLength as u8, 0));
     }
     let r = lists::line(text, table, notes, cursors::going(c), word, kind);
     cursors::leave(table, notes, r)
@@ -42,8 +43,8 @@ pub fn clauses(text: &[u8], table: &mut [u64], notes: &mut [u64], c: u64) -> u64
     ensures table_after { table.new ≡ table_after table.old (entered text.now (walk.clauses text.now (length text.now) (cursor_in text.now c) (draft table.old notes.old))) }
     ensures notes_after { notes.new ≡ notes_after notes.old (entered text.now (walk.clauses text.now (length text.now) (cursor_in text.now c) (draft table.old notes.old))) }
 {
-    if Answer::TEXT < text.len() {
-        return cursors::leave(table, notes, cursors::stop(questions::TEXT_LENGTH, 0));
+    if Contract::TEXT < text.len() {
+        return cursors::leave(table, notes, cursors::stop(Question::TextLength as u8, 0));
     }
     let r = lists::clauses(text, table, notes, cursors::going(c));
     cursors::leave(table, notes, r)

@@ -1,49 +1,90 @@
 // Lists of declared names, and the agreement's clauses.
 ghost use Rattle.std.specs.Prelude.{◌≡◌, ◌≤◌, false, length};
 ghost use Rattle.cursors.specs.Packed.{is_stop, cursor_in, step_in};
+ghost use Rattle.clauses.specs.Private.{entered, one_listed, list_of};
 ghost use Rattle.reading_laws.specs.Walk as walk;
 ghost use Rattle.reading_laws.specs.Walk.{AgreesWith, draft};
 
 use tokens::Token;
+
+// What the names of a list are: declared, of a kind, or the fields of the clause at hand.
+#[derive(Clone, Copy)]
+pub(crate) enum Listed {
+    Declared(usize),
+    Fields,
+}
+
+fn enter(
+    text: &[u8],
+    table: &mut [u64],
+    notes: &mut [u64],
+    listed: Listed,
+    start: usize,
+    end: usize,
+)
+    ensures table_after { table.new ≡ (entered text.now listed start end (draft table.old notes.old)).table }
+    ensures notes_after { notes.new ≡ (entered text.now listed start end (draft table.old notes.old)).notes }
+{
+    match listed {
+        Listed::Declared(kind) => entries::declare(text, table, notes, kind, start, end),
+        Listed::Fields => entries::clause_field(text, table, notes, start, end),
+    }
+}
+
+// One name of a list.
+fn one(text: &[u8], table: &mut [u64], notes: &mut [u64], c: u64, listed: Listed) -> u64
+    requires { (length text.now ≤ 16384) × (is_stop c ≡ false) }
+    ensures { AgreesWith (one_listed text.now listed (cursor_in text.now c) (draft table.old notes.old)) (step_in text.now result) table.new notes.new }
+{
+    if cursors::kind_of(c) != Token::NAME {
+        return cursors::unfit(text, c);
+    }
+    enter(
+        text,
+        table,
+        notes,
+        listed,
+        cursors::start_of(c),
+        cursors::end_of(c),
+    );
+    cursors::lex(text, cursors::end_of(c))
+}
+
+// Names with commas between them.
+fn list(text: &[u8], table: &mut [u64], notes: &mut [u64], c: u64, listed: Listed) -> u64
+    requires { (length text.now ≤ 16384) × (is_stop c ≡ false) }
+    ensures { AgreesWith (list_of text.now listed (cursor_in text.now c) (draft table.old notes.old)) (step_in text.now result) table.new notes.new }
+{
+    let first = one(text, table, notes, c, listed);
+    if cursors::stops(first) {
+        return first;
+    }
+    let mut here = first;
+    for _ in 0..text.len() {
+        if cursors::kind_of(here) != words::COMMA {
+            return here;
+        }
+        let r = one(
+            text,
+            table,
+            notes,
+            cursors::lex(text, cursors::end_of(here)),
+            listed,
+        );
+        if cursors::stops(r) {
+            return r;
+        }
+        here = r;
+    }
+    here
+}
 
 // Declared names of a kind.
 pub(crate) fn names(text: &[u8], table: &mut [u64], notes: &mut [u64], c: u64, kind: usize) -> u64
     requires { (length text.now ≤ 16384) × (is_stop c ≡ false) }
     ensures { AgreesWith (walk.names text.now kind (cursor_in text.now c) (draft table.old notes.old)) (step_in text.now result) table.new notes.new }
 {
-    if cursors::kind_of(c) != Token::NAME {
-        return cursors::unfit(text, c);
-    }
-    entries::declare(
-        text,
-        table,
-        notes,
-        kind,
-        cursors::start_of(c),
-        cursors::end_of(c),
-    );
-    let mut here = cursors::lex(text, cursors::end_of(c));
-    let mut left = text.len();
-    while 0 < left {
-        if cursors::kind_of(here) != words::COMMA {
-            return here;
-        }
-        let name = cursors::lex(text, cursors::end_of(here));
-        if cursors::kind_of(name) != Token::NAME {
-            return cursors::unfit(text, name);
-        }
-        entries::declare(
-            text,
-            table,
-            notes,
-            kind,
-            cursors::start_of(name),
-            cursors::end_of(name),
-        );
-        here = cursors::lex(text, cursors::end_of(name));
-        left -= 1;
-    }
-    here
+    list(text, table, notes, c, Listed::Declared(kind))
 }
 
 // A line of names that a word begins; omitted if empty.
@@ -75,31 +116,7 @@ fn fields(text: &[u8], table: &mut [u64], notes: &mut [u64], c: u64) -> u64
     requires { (length text.now ≤ 16384) × (is_stop c ≡ false) }
     ensures { AgreesWith (walk.clause_fields text.now (cursor_in text.now c) (draft table.old notes.old)) (step_in text.now result) table.new notes.new }
 {
-    if cursors::kind_of(c) != Token::NAME {
-        return cursors::unfit(text, c);
-    }
-    entries::clause_field(text, table, notes, cursors::start_of(c), cursors::end_of(c));
-    let mut here = cursors::lex(text, cursors::end_of(c));
-    let mut left = text.len();
-    while 0 < left {
-        if cursors::kind_of(here) != words::COMMA {
-            return here;
-        }
-        let name = cursors::lex(text, cursors::end_of(here));
-        if cursors::kind_of(name) != Token::NAME {
-            return cursors::unfit(text, name);
-        }
-        entries::clause_field(
-            text,
-            table,
-            notes,
-            cursors::start_of(name),
-            cursors::end_of(name),
-        );
-        here = cursors::lex(text, cursors::end_of(name));
-        left -= 1;
-    }
-    here
+    list(text, table, notes, c, Listed::Fields)
 }
 
 // A clause after its verb.
@@ -154,8 +171,7 @@ pub(crate) fn clauses(text: &[u8], table: &mut [u64], notes: &mut [u64], c: u64)
     ensures { AgreesWith (walk.clauses text.now (length text.now) (cursor_in text.now c) (draft table.old notes.old)) (step_in text.now result) table.new notes.new }
 {
     let mut here = c;
-    let mut left = text.len();
-    while 0 < left {
+    for _ in 0..text.len() {
         if cursors::kind_of(here) != Token::NAME {
             return here;
         }
@@ -165,7 +181,6 @@ pub(crate) fn clauses(text: &[u8], table: &mut [u64], notes: &mut [u64], c: u64)
         }
         let d = r;
         here = d;
-        left -= 1;
     }
     here
 }

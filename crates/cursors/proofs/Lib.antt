@@ -2,3 +2,4 @@ pub mod Values
 pub mod Packs
 pub mod Tested
 pub mod Clipped
+pub mod Turns

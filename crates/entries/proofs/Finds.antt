@@ -1,8 +1,8 @@
 -- The first slot that has a word. Assumes nothing.
 use mathlib.Core.Path.{◌≡◌, refl, sym, ap, subst, ◌∙◌}
-use mathlib.Core.Bool.{true, false}
+use mathlib.Core.Bool.{Bool, true, false}
 use mathlib.Core.List.{List, [], ◌∷◌}
-use Prim.Native.Nat.{ℕ, zero, suc, ◌+◌, ◌-◌, ◌*◌, ◌%◌, ◌<◌, ◌≤◌}
+use Prim.Native.Nat.{ℕ, zero, suc, ◌+◌, ◌-◌, ◌*◌, ◌<◌, ◌≤◌}
 use native.Mathlib.Omega.{arith}
 use lib.ListN.{length, get_or, drop, drop_of_length-le}
 use borrow.Author.Tests.{eq-eqb, ne_eqb}
@@ -13,6 +13,11 @@ use Rattle.laws.proofs.Choice.{pick_true, pick_false}
 use Rattle.laws.proofs.Lists.{cons_at}
 use Rattle.tokens.specs.Tokens.{between}
 use Rattle.entries.specs.Draft.{slot_is, find_from, Skips, number_in, among_in, is_declared, mark_of, slot_of, known_count}
+
+-- whether a word is among those of one of these kinds
+abbrev pub among_any : List ℕ → List ℕ → List ℕ → List ℕ → Bool
+among_any s n w [] = false
+among_any s n w (k ∷ ks) = pick (among_in s n k w) true (among_any s n w ks)
 
 -- ---- one turn of the comparison, and its end
 module _ (a b : List ℕ) (i : ℕ) where
@@ -68,35 +73,32 @@ module _ (s n w : List ℕ) where
   among_is k x y e f = λ i. ltb (e i) (f i)
 
   -- a declared name, by the kinds asked one after the other
-  pub declared_0 : among_in s n 0 w ≡ true → true ≡ is_declared s n w
-  unfolding is_declared
-  declared_0 a = sym (pick_true _ _ _ a)
+  pub declared_none : is_declared s n w ≡ among_any s n w (0 ∷ 1 ∷ 2 ∷ 3 ∷ 4 ∷ [])
+  unfolding is_declared pick
+  declared_none = ap (λ (t : Bool). pick (among_in s n 0 w) true (pick (among_in s n 1 w) true (pick (among_in s n 2 w) true (pick (among_in s n 3 w) true t)))) (go (among_in s n 4 w))
+    where
+      go : (t : Bool) → t ≡ pick t true false
+      go true = refl
+      go false = refl
 
-  pub declared_1 : among_in s n 0 w ≡ false → among_in s n 1 w ≡ true → true ≡ is_declared s n w
-  unfolding is_declared
-  declared_1 a b = sym (pick_false _ _ _ a ∙ pick_true _ _ _ b)
+  declared_turn : (i : ℕ) → i < 5
+      → among_any s n w (drop i (0 ∷ 1 ∷ 2 ∷ 3 ∷ 4 ∷ [])) ≡ pick (among_in s n i w) true (among_any s n w (drop (i + 1) (0 ∷ 1 ∷ 2 ∷ 3 ∷ 4 ∷ [])))
+  declared_turn zero h = refl
+  declared_turn (suc zero) h = refl
+  declared_turn (suc (suc zero)) h = refl
+  declared_turn (suc (suc (suc zero))) h = refl
+  declared_turn (suc (suc (suc (suc zero)))) h = refl
+  declared_turn (suc (suc (suc (suc (suc i))))) h = absurd (omega arith)
 
-  pub declared_2 : among_in s n 0 w ≡ false → among_in s n 1 w ≡ false → among_in s n 2 w ≡ true → true ≡ is_declared s n w
-  unfolding is_declared
-  declared_2 a b c = sym (pick_false _ _ _ a ∙ pick_false _ _ _ b ∙ pick_true _ _ _ c)
+  pub declared_hit : (i : ℕ) → i < 5 → among_in s n i w ≡ true → among_any s n w (drop i (0 ∷ 1 ∷ 2 ∷ 3 ∷ 4 ∷ [])) ≡ true
+  declared_hit i h e = declared_turn i h ∙ pick_true _ _ _ e
 
-  pub declared_3 :
-      among_in s n 0 w ≡ false → among_in s n 1 w ≡ false → among_in s n 2 w ≡ false → among_in s n 3 w ≡ true → true ≡ is_declared s n w
-  unfolding is_declared
-  declared_3 a b c d = sym (pick_false _ _ _ a ∙ pick_false _ _ _ b ∙ pick_false _ _ _ c ∙ pick_true _ _ _ d)
+  pub declared_more : (i : ℕ) → i < 5 → among_in s n i w ≡ false
+      → among_any s n w (drop i (0 ∷ 1 ∷ 2 ∷ 3 ∷ 4 ∷ [])) ≡ among_any s n w (drop (i + 1) (0 ∷ 1 ∷ 2 ∷ 3 ∷ 4 ∷ []))
+  declared_more i h e = declared_turn i h ∙ pick_false _ _ _ e
 
-  pub declared_4 :
-      among_in s n 0 w ≡ false → among_in s n 1 w ≡ false → among_in s n 2 w ≡ false → among_in s n 3 w ≡ false → among_in s n 4 w ≡ is_declared s n w
-  unfolding is_declared
-  declared_4 a b c d = sym (pick_false _ _ _ a ∙ pick_false _ _ _ b ∙ pick_false _ _ _ c ∙ pick_false _ _ _ d)
-
--- ---- marks
-pub no_mark : (w : List ℕ) → length w ≡ 0 → 0 ≡ mark_of w
-no_mark [] h = refl
-no_mark (x ∷ xs) h = absurd (omega arith)
-
-pub mark_most : (n b : ℕ) → b < 256 → (n % 65536) * 256 + b < 16777216
-mark_most n b h = omega arith
+  pub declared_end : (i : ℕ) → 5 ≤ i → among_any s n w (drop i (0 ∷ 1 ∷ 2 ∷ 3 ∷ 4 ∷ [])) ≡ false
+  declared_end i h = ap (among_any s n w) (drop_of_length-le (0 ∷ 1 ∷ 2 ∷ 3 ∷ 4 ∷ []) h)
 
 -- ---- one slot
 module _ (s n : List ℕ) (j m x : ℕ) (w : List ℕ) (f : x ≡ get_or n (16 + 3 * j) 0) where

@@ -1,18 +1,18 @@
 -- The clause at hand and functions' heads. Assumes nothing.
 use mathlib.Core.Path.{◌≡◌, sym, ap, ◌∙◌}
-use mathlib.Core.Bool.{Bool, true, false}
-use mathlib.Core.List.{List}
+use mathlib.Core.Bool.{Bool}
+use mathlib.Core.List.{List, [], ◌∷◌}
 use Prim.Native.Nat.{ℕ, ◌+◌, ◌*◌, ◌<◌, ◌≤◌, min}
 use native.Mathlib.Omega.{arith}
 use lib.Dec.{ltb}
 use lib.ListN.{get_or, set}
+use lib.Seq.{sets}
 use borrow.Author.Tests.{lt-ltb, le-ltb}
 use Rattle.laws.specs.Choice.{pick}
 use Rattle.laws.proofs.Choice.{pick_true, pick_false}
 use Rattle.tokens.specs.Tokens.{between}
 use Rattle.entries.specs.Draft.{name_used, Draft, note, found, known_count, number_in, among_in, clause_party, clause_verb, field_at, clause_field, clause_end, find_from, head_mark, headed, is_headed, head_notes, head_entered, head, rowed, slotted}
-use Rattle.entries.proofs.Uses.{is_among, not_among}
-use Rattle.entries.proofs.Nodes.{two}
+use Rattle.entries.proofs.Finds.{among_is}
 
 -- ---- the clause at hand, row r
 
@@ -62,12 +62,10 @@ module _ (r j x : ℕ) (t n : List ℕ) where
       )
 
 -- the notes after a name is looked up among those of a kind
-module _ (s : List ℕ) (k a : ℕ) (w n : List ℕ) (x m : ℕ) (f : x ≡ number_in s n k w) (g : m ≡ known_count n k) where
-  pub looked_known : x < m → n ≡ pick (among_in s n k w) n (found 13 a n)
-  looked_known h = sym (pick_true _ _ _ (is_among s n k w x m f g h))
-
-  pub looked_unknown : (l : List ℕ) → m ≤ x → l ≡ found 13 a n → l ≡ pick (among_in s n k w) n (found 13 a n)
-  looked_unknown l h e = e ∙ sym (pick_false _ _ _ (not_among s n k w x m f g h))
+pub looked : (s : List ℕ) (k a e : ℕ) (w n l : List ℕ) (x m : ℕ) → w ≡ between s a e → x ≡ number_in s n k w → m ≡ known_count n k
+    → l ≡ pick (ltb x m) n (found 13 a n) → l ≡ name_used s k a e n
+looked s k a e w n l x m c f g h =
+    h ∙ ap (λ (t : Bool). pick t n (found 13 a n)) (among_is s n w k x m f g ∙ ap (among_in s n k) c)
 
 module _ (s : List ℕ) (a e : ℕ) (t n : List ℕ) (r : ℕ) (l : List ℕ) (q : r ≡ note n 11)
     (u : l ≡ pick (among_in s n 2 (between s a e)) n (found 13 a n)) where
@@ -106,44 +104,21 @@ end_out n l r q h k = k ∙ sym (pick_false _ _ _ (le-ltb (note n 11) 16 (omega 
 
 -- ---- heads
 
-pub most_of : (n m v : ℕ) → v < m → v ≡ n → v ≡ min n m
-most_of n m v h e = omega (arith, e)
-
-pub most_is : (n m v : ℕ) → m ≤ v → v ≡ n → m ≡ min n m
-most_is n m v h e = omega (arith, e)
-
 pub headed_is : (s n : List ℕ) (q a : ℕ) (w : List ℕ) (m k r : ℕ) → m ≡ head_mark q a w → k ≡ min (note n 10) 64
     → r ≡ find_from s n m w 132 0 k → ltb r k ≡ is_headed s n q a w
 unfolding is_headed
 headed_is s n q a w m k r e f g = ap (λ (i : ℕ). ltb i k) g ∙ (λ i. ltb (find_from s n (e i) w 132 0 (f i)) (f i))
 
-module _ (s : List ℕ) (o q a f e : ℕ) (n l : List ℕ) (b : Bool) (z : b ≡ is_headed s n q a (between s f e))
-    (u : l ≡ pick (ltb (note n 10) 64) n (found 11 o n)) where
-  pub head_known : (l₁ : List ℕ) → b ≡ true → l₁ ≡ found 15 f l → l₁ ≡ head_notes s o q a f e n
-  unfolding head_notes
-  head_known l₁ h k = k ∙ ap (found 15 f) u ∙ sym (pick_true _ _ _ (sym z ∙ h))
-
-  pub head_new : b ≡ false → l ≡ head_notes s o q a f e n
-  unfolding head_notes
-  head_new h = u ∙ sym (pick_false _ _ _ (sym z ∙ h))
-
-pub heads_in : (o : ℕ) (n : List ℕ) (v : ℕ) → v ≡ note n 10 → v < 64 → n ≡ pick (ltb (note n 10) 64) n (found 11 o n)
-heads_in o n v e h = sym (pick_true _ _ _ (lt-ltb (note n 10) 64 (omega (arith, e))))
-
-pub heads_past : (o : ℕ) (n : List ℕ) (v : ℕ) (l : List ℕ) → v ≡ note n 10 → 64 ≤ v → l ≡ found 11 o n
-    → l ≡ pick (ltb (note n 10) 64) n (found 11 o n)
-heads_past o n v l e h k = k ∙ sym (pick_false _ _ _ (le-ltb (note n 10) 64 (omega (arith, e))))
-
-pub head_written : (s : List ℕ) (i q a f e : ℕ) (t n t₁ t₂ t₃ n₁ n₂ w : List ℕ) (m : ℕ)
-    → w ≡ between s f e → t₁ ≡ set t (5587 + 43 * i) q → t₂ ≡ set t₁ (5587 + 43 * i + 1) a → t₃ ≡ rowed t₂ (5587 + 43 * i + 10) w
+pub head_written : (s : List ℕ) (i q a f e : ℕ) (t n t₁ t₂ n₁ n₂ w : List ℕ) (m : ℕ)
+    → w ≡ between s f e → t₁ ≡ sets t (5587 + 43 * i) (q ∷ a ∷ []) → t₂ ≡ rowed t₁ (5587 + 43 * i + 10) w
     → m ≡ head_mark q a w → n₁ ≡ slotted n (132 + i) m f e → n₂ ≡ set n₁ 10 (i + 1)
-    → (t₃ ≡ (headed s i q a f e (record { table = t; notes = n })).table) × (n₂ ≡ (headed s i q a f e (record { table = t; notes = n })).notes)
+    → record { table = t₂; notes = n₂ } ≡ headed s i q a f e (record { table = t; notes = n })
 unfolding headed
-head_written s i q a f e t n t₁ t₂ t₃ n₁ n₂ w m z h₁ h₂ h₃ g k₁ k₂ =
-    let y : m ≡ head_mark q a (between s f e) = g ∙ ap (head_mark q a) z in (
-      h₃ ∙ (λ j. rowed (two t t₁ t₂ (5587 + 43 * i) q a h₁ h₂ j) (5587 + 43 * i + 10) (z j)),
-      k₂ ∙ ap (λ (l : List ℕ). set l 10 (i + 1)) (k₁ ∙ (λ j. slotted n (132 + i) (y j) f e)),
-    )
+head_written s i q a f e t n t₁ t₂ n₁ n₂ w m z h₁ h₂ g k₁ k₂ =
+    let y : m ≡ head_mark q a (between s f e) = g ∙ ap (head_mark q a) z in
+    let p : t₂ ≡ rowed (sets t (5587 + 43 * i) (q ∷ a ∷ [])) (5587 + 43 * i + 10) (between s f e) = h₂ ∙ (λ j. rowed (h₁ j) (5587 + 43 * i + 10) (z j)) in
+    let r : n₂ ≡ set (slotted n (132 + i) (head_mark q a (between s f e)) f e) 10 (i + 1) = k₂ ∙ ap (λ (l : List ℕ). set l 10 (i + 1)) (k₁ ∙ (λ j. slotted n (132 + i) (y j) f e)) in
+    λ j. record { table = p j; notes = r j }
 
 -- the row of a head within the limit, none past it; then no parameter
 module _ (s : List ℕ) (o q a f e : ℕ) (t n : List ℕ) where
@@ -160,20 +135,17 @@ module _ (s : List ℕ) (o q a f e : ℕ) (t n : List ℕ) where
     row_past g u h =
         (λ i. record { table = t; notes = u i }) ∙ sym (pick_false _ _ _ (le-ltb (note n 10) 64 (omega (arith, g))))
 
-  pub entered_in : (v : ℕ) (n₁ t₁ n₂ : List ℕ) → v ≡ note n 10 → n₁ ≡ head_notes s o q a f e n → v < 64
-      → t₁ ≡ (headed s v q a f e (record { table = t; notes = n₁ })).table
-      → n₂ ≡ (headed s v q a f e (record { table = t; notes = n₁ })).notes
-      → (t₁ ≡ Entered.table) × (n₂ ≡ Entered.notes)
-  entered_in v n₁ t₁ n₂ g u h k₁ k₂ =
-      (k₁ ∙ ap (λ (p : Draft). p.table) (row_in v n₁ g u h), k₂ ∙ ap (λ (p : Draft). p.notes) (row_in v n₁ g u h))
+  pub entered_in : (v : ℕ) (n₁ : List ℕ) (p : Draft) → v ≡ note n 10 → n₁ ≡ head_notes s o q a f e n → v < 64
+      → p ≡ headed s v q a f e (record { table = t; notes = n₁ }) → p ≡ Entered
+  entered_in v n₁ p g u h k = k ∙ row_in v n₁ g u h
 
-  pub entered_past : (v : ℕ) (n₁ : List ℕ) → v ≡ note n 10 → n₁ ≡ head_notes s o q a f e n → 64 ≤ v → (t ≡ Entered.table) × (n₁ ≡ Entered.notes)
-  entered_past v n₁ g u h = (ap (λ (p : Draft). p.table) (row_past v n₁ g u h), ap (λ (p : Draft). p.notes) (row_past v n₁ g u h))
+  pub entered_past : (v : ℕ) (n₁ : List ℕ) → v ≡ note n 10 → n₁ ≡ head_notes s o q a f e n → 64 ≤ v → record { table = t; notes = n₁ } ≡ Entered
+  entered_past v n₁ g u h = row_past v n₁ g u h
 
-  pub head_done : (t₁ n₂ n₃ n₄ : List ℕ) → (t₁ ≡ Entered.table) × (n₂ ≡ Entered.notes) → n₃ ≡ set n₂ 3 0 → n₄ ≡ set n₃ 4 0
+  pub head_done : (t₁ n₂ n₃ n₄ : List ℕ) → t₁ ≡ Entered.table → n₂ ≡ Entered.notes → n₃ ≡ set n₂ 3 0 → n₄ ≡ set n₃ 4 0
       → (t₁ ≡ (head s o q a f e (record { table = t; notes = n })).table) × (n₄ ≡ (head s o q a f e (record { table = t; notes = n })).notes)
   unfolding head
-  head_done t₁ n₂ n₃ n₄ r h k = (
-    r.0,
-    k ∙ ap (λ (l : List ℕ). set l 4 0) (h ∙ ap (λ (l : List ℕ). set l 3 0) r.1),
+  head_done t₁ n₂ n₃ n₄ r u h k = (
+    r,
+    k ∙ ap (λ (l : List ℕ). set l 4 0) (h ∙ ap (λ (l : List ℕ). set l 3 0) u),
   )

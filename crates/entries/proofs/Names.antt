@@ -1,6 +1,5 @@
 -- Names as they are entered, declared and mentioned. Assumes nothing.
 use mathlib.Core.Path.{◌≡◌, sym, ap, ◌∙◌}
-use mathlib.Core.Bool.{Bool, true, false}
 use mathlib.Core.List.{List}
 use Prim.Native.Nat.{ℕ, ◌+◌, ◌*◌, ◌<◌, ◌≤◌}
 use lib.ListN.{set}
@@ -9,7 +8,11 @@ use borrow.Author.Tests.{lt-ltb, le-ltb}
 use Rattle.laws.specs.Choice.{pick}
 use Rattle.laws.proofs.Choice.{pick_true, pick_false}
 use Rattle.tokens.specs.Tokens.{between}
-use Rattle.entries.specs.Draft.{Draft, note, limit, slot_of, section_of, width_of, mark_of, known_count, found, function_count, rowed, parameter_put, slotted, entered, is_declared, declared_in, declare, mention, number_in, among_in}
+use Rattle.entries.specs.Draft.{Draft, note, limit, slot_of, section_of, width_of, mark_of, known_count, found, function_count, rowed, parameter_put, slotted, entered, declared_in, declare, mention, number_in, among_in}
+
+-- ---- a lent list ends as what it was lent for left it
+pub ends_as : {A : Type 0} {x y z : A} → y ≡ z → x ≡ y → x ≡ z
+ends_as e h = h ∙ e
 
 -- ---- name i of a kind
 module _ (s t n : List ℕ) (k i a e : ℕ) (w : List ℕ) (f : w ≡ between s a e) where
@@ -27,27 +30,6 @@ module _ (s t n : List ℕ) (k i a e : ℕ) (w : List ℕ) (f : w ≡ between s 
   unfolding entered
   entered_notes n₁ n₂ j m g h x y =
       y ∙ ap (λ (l : List ℕ). set l k (i + 1)) (x ∙ (λ z. slotted n (g z + i) ((h ∙ ap mark_of f) z) a e))
-
--- ---- question 11 of a kind
-module _ (n : List ℕ) (k o x l : ℕ) (e : x ≡ note n k) (f : l ≡ limit k) where
-  test_of : (b : Bool) → ltb x l ≡ b → ltb (note n k) (limit k) ≡ b
-  test_of b h = sym (λ i. ltb (e i) (f i)) ∙ h
-
-  pub limit_full : (n₁ : List ℕ) → l ≤ x → n₁ ≡ found 11 o n → n₁ ≡ pick (ltb (note n k) (limit k)) n (found 11 o n)
-  limit_full n₁ h g = g ∙ sym (pick_false _ _ _ (test_of false (le-ltb x l h)))
-
-  pub limit_more : x < l → n ≡ pick (ltb (note n k) (limit k)) n (found 11 o n)
-  limit_more h = sym (pick_true _ _ _ (test_of true (lt-ltb x l h)))
-
--- ---- questions 11 and 12 of a declared name
-module _ (s n m : List ℕ) (k a e : ℕ) (g : m ≡ pick (ltb (note n k) (limit k)) n (found 11 a n)) where
-  pub declared_known : (n₁ : List ℕ) → is_declared s n (between s a e) ≡ true → n₁ ≡ found 12 a m → n₁ ≡ declared_in s k a e n
-  unfolding declared_in
-  declared_known n₁ t h = h ∙ ap (found 12 a) g ∙ sym (pick_true _ _ _ t)
-
-  pub declared_new : is_declared s n (between s a e) ≡ false → m ≡ declared_in s k a e n
-  unfolding declared_in
-  declared_new t = g ∙ sym (pick_false _ _ _ t)
 
 -- ---- a declared name
 module _ (s t n m : List ℕ) (k a e x l : ℕ) (f : x ≡ note n k) (g : l ≡ limit k) (h : m ≡ declared_in s k a e n) where

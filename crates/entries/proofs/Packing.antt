@@ -4,16 +4,16 @@ use mathlib.Core.List.{List, [], ◌∷◌}
 use Prim.Native.Nat.{ℕ, zero, suc, ◌+◌, ◌-◌, ◌*◌, ◌<◌, ◌≤◌}
 use native.Mathlib.Omega.{arith}
 use native.Mathlib.Nat.{add-zero}
-use lib.ListN.{length, get_or, set, take, drop}
+use lib.ListN.{length, get_or, take, drop}
 use lib.Seq.{sets, get_or-drop, drop-drop}
 use lib.Dec.{eqb}
 use borrow.Author.Tests.{lt-ltb, le-ltb, eq-eqb, ne_eqb}
+use Rattle.std.specs.Int.{from_le_bytes, w64}
 use Rattle.laws.specs.Choice.{pick}
 use Rattle.laws.proofs.Choice.{pick_true, pick_false}
 use Rattle.contract.specs.Limits.{max_values}
 use Rattle.contract.specs.Encode.{packed, packs, packed_row}
 use Rattle.entries.specs.Draft.{parameter_put}
-use Rattle.entries.proofs.Nodes.{two, after}
 
 -- ---- bytes
 
@@ -41,27 +41,15 @@ run_more w n i =
     first_taken n (drop i w)
     ∙ (λ x. (get_or-drop i w 0 0 ∙ ap (λ (k : ℕ). get_or w k 0) (add-zero i)) x + packed (take n (drop-drop 1 i w x)) * 256)
 
-module _ (w : List ℕ) (i x y : ℕ) where
-  pub two_packed : x ≡ get_or w i 0 → y ≡ get_or w (i + 1) 0 → x + 256 * y ≡ run w 2 i
-  two_packed e f = let a = run_more w 1 i in let b = run_more w 0 (i + 1) in let z = no_run w (i + 1 + 1) in omega arith
-
-  pub four_packed : x ≡ run w 2 i → y ≡ run w 2 (i + 2) → x + 65536 * y ≡ run w 4 i
-  four_packed e f =
-      let a = run_more w 3 i in let b = run_more w 2 (i + 1) in
-      let c = run_more w 1 i in let d = run_more w 0 (i + 1) in let z = no_run w (i + 1 + 1) in
-      let p : i + 1 + 1 ≡ i + 2 = omega arith in
-      let q : run w 2 (i + 1 + 1) ≡ run w 2 (i + 2) = ap (run w 2) p in
-      omega arith
-
-  pub eight_packed : x ≡ run w 4 i → y ≡ run w 4 (i + 4) → x + 4294967296 * y ≡ run w 8 i
-  eight_packed e f =
-      let j = i + 1 in let k = i + 1 + 1 in let l = i + 1 + 1 + 1 in
-      let a = run_more w 7 i in let b = run_more w 6 j in let c = run_more w 5 k in let d = run_more w 4 l in
-      let a' = run_more w 3 i in let b' = run_more w 2 j in let c' = run_more w 1 k in let d' = run_more w 0 l in
-      let z = no_run w (l + 1) in
-      let p : l + 1 ≡ i + 4 = omega arith in
-      let q : run w 4 (l + 1) ≡ run w 4 (i + 4) = ap (run w 4) p in
-      omega arith
+-- eight bytes from i on, the first lowest, as the library makes a number of them
+pub eight_packed : (w : List ℕ) (i a b d e f g h k : ℕ) → a ≡ get_or w (i + 0) 0 → b ≡ get_or w (i + 1) 0 → d ≡ get_or w (i + 2) 0
+    → e ≡ get_or w (i + 3) 0 → f ≡ get_or w (i + 4) 0 → g ≡ get_or w (i + 5) 0 → h ≡ get_or w (i + 6) 0 → k ≡ get_or w (i + 7) 0
+    → from_le_bytes w64 (a ∷ b ∷ d ∷ e ∷ f ∷ g ∷ h ∷ k ∷ []) ≡ run w 8 i
+eight_packed w i a b d e f g h k pa pb pd pe pf pg ph pk =
+    omega (arith, more 7 0, more 6 1, more 5 2, more 4 3, more 3 4, more 2 5, more 1 6, more 0 7, no_run w (i + 7 + 1), ap (run w 8) (add-zero i))
+  where
+    more : (n j : ℕ) → run w (suc n) (i + j) ≡ get_or w (i + j) 0 + run w n (i + (j + 1)) * 256
+    more n j = run_more w n (i + j) ∙ ap (λ (k : ℕ). get_or w (i + j) 0 + run w n k * 256) (omega arith)
 
 -- ---- a packed row
 
@@ -72,14 +60,10 @@ row_words w =
     let b : drop 8 (drop 16 w) ≡ drop 24 w = drop-drop 8 16 w in
     λ x. length w ∷ run w 8 0 ∷ run w 8 8 ∷ packed (take 8 (a x)) ∷ packed (take 8 ((ap (drop 8) a ∙ b) x)) ∷ []
 
-pub packed_written : (t t₁ t₂ t₃ w : List ℕ) (o a b d e : ℕ) → a ≡ run w 8 0 → b ≡ run w 8 8 → d ≡ run w 8 16 → e ≡ run w 8 24
-    → t₁ ≡ sets t o (length w ∷ a ∷ b ∷ []) → t₂ ≡ set t₁ (o + 3) d → t₃ ≡ set t₂ (o + 4) e → t₃ ≡ sets t o (packed_row w)
-packed_written t t₁ t₂ t₃ w o a b d e f g h i u v x =
-    let p : o + 4 ≡ o + 3 + 1 = omega arith in
-    two t₁ t₂ t₃ (o + 3) d e v (x ∙ ap (λ (k : ℕ). set t₂ k e) p)
-    ∙ after t t₁ o (o + 3) (length w) a b (d ∷ e ∷ []) refl u
-    ∙ (λ j. sets t o (length w ∷ f j ∷ g j ∷ h j ∷ i j ∷ []))
-    ∙ ap (sets t o) (sym (row_words w))
+pub packed_written : (t t₁ w : List ℕ) (o a b d e : ℕ) → a ≡ run w 8 0 → b ≡ run w 8 8 → d ≡ run w 8 16 → e ≡ run w 8 24
+    → t₁ ≡ sets t o (length w ∷ a ∷ b ∷ d ∷ e ∷ []) → t₁ ≡ sets t o (packed_row w)
+packed_written t t₁ w o a b d e f g h i u =
+    u ∙ (λ j. sets t o (length w ∷ f j ∷ g j ∷ h j ∷ i j ∷ [])) ∙ ap (sets t o) (sym (row_words w))
 
 -- ---- the rows of parameters
 

@@ -1,25 +1,27 @@
 -- Limits and first slots of the kinds, and the least finding. Assumes nothing.
 use mathlib.Core.Path.{◌≡◌, refl, sym, ap, ◌∙◌}
-use mathlib.Core.Bool.{true, false, ◌||◌, ◌&&◌}
-use mathlib.Core.List.{List, [], ◌∷◌}
+use mathlib.Core.Bool.{Bool, true, false, not, ◌||◌, ◌&&◌}
+use mathlib.Core.List.{List}
 use Prim.Native.Nat.{ℕ, zero, suc, ◌+◌, ◌<◌, ◌≤◌}
-use native.Mathlib.Omega.{arith}
-use lib.ListN.{set, get_or-eq_default}
+use lib.ListN.{set}
 use lib.Dec.{eqb, ltb}
 use borrow.Author.Tests.{lt-ltb, le-ltb}
+use Rattle.laws.specs.Choice.{pick}
 use Rattle.laws.proofs.Choice.{pick_true, pick_false}
-use Rattle.contract.specs.Limits.{max_parties, max_assets, max_fields, max_states, max_strings, max_events, max_nodes, max_values, max_parameters, max_statements}
-use Rattle.entries.specs.Draft.{limit, slot_of, section_of, found, counted, note}
+use Rattle.entries.specs.Draft.{limit, section_of, found, counted, note}
 
--- a kind that is none of those with a limit, slots or rows
-pub past_limits : (k : ℕ) → 10 ≤ k → 0 ≡ limit k
-past_limits k h =
-    sym (get_or-eq_default (max_parties ∷ max_assets ∷ max_fields ∷ max_values ∷ max_parameters ∷ max_states ∷ max_strings ∷ max_events ∷ max_statements ∷ max_nodes ∷ []) 0 h)
+-- ---- a choice turned
+pub pick_not : {A : Type 0} (t : Bool) (x y : A) → pick (not t) x y ≡ pick t y x
+unfolding pick
+pick_not true x y = refl
+pick_not false x y = refl
 
-pub past_slots : (k : ℕ) → 7 ≤ k → 132 ≡ slot_of k
-past_slots k h = sym (get_or-eq_default (0 ∷ 8 ∷ 24 ∷ 56 ∷ 64 ∷ 68 ∷ 100 ∷ []) 132 h)
+-- notes l with a question q more at place a, asked where a test says so
+pub asked_new : (b d : Bool) (m l n : List ℕ) (q a : ℕ) → b ≡ d → m ≡ l → n ≡ pick (not b) m (found q a m) → n ≡ pick d (found q a l) l
+asked_new b d m l n q a e f g = g ∙ pick_not b m (found q a m) ∙ (λ i. pick (e i) (found q a (f i)) (f i))
 
-pub no_section : (k : ℕ) → (k ≡ 0 → ⊥) → (k ≡ 1 → ⊥) → (k ≡ 2 → ⊥) → (k ≡ 5 → ⊥) → (k ≡ 6 → ⊥) → 0 ≡ section_of k
+-- a kind that has no rows
+pub no_section : (k : ℕ) → (k ≡ 0 → ⊥) → (k ≡ 1 → ⊥) → (k ≡ 2 → ⊥) → (k ≡ 5 → ⊥) → (k ≡ 6 → ⊥) → section_of k ≡ 0
 no_section zero a b c d e = absurd (a refl)
 no_section (suc zero) a b c d e = absurd (b refl)
 no_section (suc (suc zero)) a b c d e = absurd (c refl)
@@ -28,19 +30,6 @@ no_section (suc (suc (suc (suc zero)))) a b c d e = refl
 no_section (suc (suc (suc (suc (suc zero))))) a b c d e = absurd (d refl)
 no_section (suc (suc (suc (suc (suc (suc zero)))))) a b c d e = absurd (e refl)
 no_section (suc (suc (suc (suc (suc (suc (suc k))))))) a b c d e = refl
-
-pub limit_most : (k : ℕ) → limit k ≤ 4096
-limit_most zero = omega arith
-limit_most (suc zero) = omega arith
-limit_most (suc (suc zero)) = omega arith
-limit_most (suc (suc (suc zero))) = omega arith
-limit_most (suc (suc (suc (suc zero)))) = omega arith
-limit_most (suc (suc (suc (suc (suc zero))))) = omega arith
-limit_most (suc (suc (suc (suc (suc (suc zero)))))) = omega arith
-limit_most (suc (suc (suc (suc (suc (suc (suc zero))))))) = omega arith
-limit_most (suc (suc (suc (suc (suc (suc (suc (suc zero)))))))) = omega arith
-limit_most (suc (suc (suc (suc (suc (suc (suc (suc (suc zero))))))))) = omega arith
-limit_most (suc (suc (suc (suc (suc (suc (suc (suc (suc (suc k)))))))))) = omega arith
 
 -- ---- one finding more
 module _ (n : List ℕ) (q o x y : ℕ) (e : x ≡ note n 12) (f : y ≡ note n 13) where

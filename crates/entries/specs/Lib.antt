@@ -1,1 +1,2 @@
 pub mod Draft
+pub mod Private

@@ -2,17 +2,22 @@
 // words: a word past their end reads as 0, and is not written.
 #![tactic(auto)]
 
-ghost use Rattle.std.specs.Prelude.{◌≡◌, true, false, [], ◌∷◌, ◌+◌, ◌-◌, ◌*◌, ◌%◌, ◌≤◌, ◌<◌, length, set, take, drop, eqb};
+ghost use Rattle.std.specs.Prelude.{◌≡◌, true, false, [], ◌∷◌, ◌+◌, ◌-◌, ◌*◌, ◌%◌, ◌≤◌, ◌<◌, length, set, take, drop, eqb, ltb, get_or, MatchOption};
 ghost use Rattle.std.proofs.lemmas.List.Edits.{sets};
 ghost use Rattle.laws.specs.Choice.{pick};
 ghost use Rattle.laws.specs.Bytes.{same_bytes};
 ghost use Rattle.tokens.specs.Tokens.{between};
 ghost use Rattle.contract.specs.Encode.{zeros, packed, packed_row};
+ghost use Rattle.questions.specs.Numbers.{number_of};
 ghost use Rattle.entries.specs.Draft as draft;
+ghost use Rattle.entries.specs.Private.{sought, IsSection, draft_in, SameLists};
 
 use contract::{Clause, Contract, Event, Function, Node};
+use questions::Question;
 
 // Kinds of what is counted. The first seven are names.
+// Kept: (a) numbers, since a public function takes any number as a kind and an enum would ask more of its callers; each is also the place
+// of its count in the lent notes.
 pub const PARTY: usize = 0;
 
 pub const ASSET: usize = 1;
@@ -84,6 +89,7 @@ impl Notes {
 }
 
 // What a name stands for: the kind of its node and its number; kind 0 where it is unknown.
+// Kept: (d) no `Option`, since these are the two words of a node, which is written for an unknown name too.
 #[derive(Clone, Copy)]
 pub struct Known {
     pub kind: u64,
@@ -91,6 +97,7 @@ pub struct Known {
 }
 
 // Word i of a table or of notes becomes v; nothing past their end.
+// Kept: (c) `get_mut`, whose contract says nothing of what a slice ends as.
 pub fn store(words: &mut [u64], i: usize, v: u64)
     ensures { words.new ≡ set words.old i v }
 {
@@ -99,14 +106,15 @@ pub fn store(words: &mut [u64], i: usize, v: u64)
     }
 }
 
-// Three words from word i on.
-fn store_three(words: &mut [u64], i: usize, a: u64, b: u64, c: u64)
+// Words from word i on.
+#[inline(always)]
+fn store_all(words: &mut [u64], i: usize, values: &[u64])
     requires { i ≤ 300000 }
-    ensures { words.new ≡ sets words.old i (a ∷ b ∷ c ∷ []) }
+    ensures { words.new ≡ sets words.old i values.now }
 {
-    store(words, i, a);
-    store(words, i + 1, b);
-    store(words, i + 2, c);
+    for (k, value) in values.iter().enumerate() {
+        store(words, i + k, *value);
+    }
 }
 
 // ---- Findings and counts.
@@ -126,23 +134,33 @@ pub fn find(notes: &mut [u64], question: u8, place: usize)
     }
 }
 
-// The most of a kind.
+// A question at a place, where its answer is no.
+fn ask(notes: &mut [u64], yes: bool, question: Question, place: usize)
+    ensures { notes.new ≡ pick yes notes.old (draft.found (number_of question) place notes.old) }
+{
+    if !yes {
+        find(notes, question.number(), place);
+    }
+}
+
+// The most of each kind.
+const LIMITS: [usize; 10] = [
+    Contract::PARTIES,
+    Contract::ASSETS,
+    Contract::FIELDS,
+    Function::VALUES,
+    Function::PARAMETERS,
+    Contract::STATES,
+    Contract::STRINGS,
+    Contract::EVENTS,
+    Function::STATEMENTS,
+    Contract::NODES,
+];
+
 fn limit(kind: usize) -> usize
     ensures { result ≡ draft.limit kind }
 {
-    match kind {
-        PARTY => Contract::PARTIES,
-        ASSET => Contract::ASSETS,
-        FIELD => Contract::FIELDS,
-        VALUE => Function::VALUES,
-        PARAMETER => Function::PARAMETERS,
-        STATE => Contract::STATES,
-        STRING => Contract::STRINGS,
-        EVENT => Contract::EVENTS,
-        STATEMENT => Function::STATEMENTS,
-        NODE => Contract::NODES,
-        _ => 0,
-    }
+    LIMITS.get(kind).copied().unwrap_or(0)
 }
 
 // One more of a kind, within its limit; else question 11.
@@ -153,39 +171,74 @@ pub fn count(notes: &mut [u64], kind: usize, place: usize)
     if n < limit(kind) as u64 {
         store(notes, kind, n + 1);
     } else {
-        find(notes, questions::LIMITS, place);
+        find(notes, Question::Limits.number(), place);
     }
+}
+
+// Question 11 where there are as many of a kind as can be.
+fn ask_limit(notes: &mut [u64], kind: usize, most: usize, place: usize)
+    ensures { notes.new ≡ pick (ltb (draft.note notes.old kind) most) notes.old (draft.found 11 place notes.old) }
+{
+    let room = contract::word(notes, kind) < most as u64;
+    ask(notes, room, Question::Limits, place);
 }
 
 // ---- Names.
-
-fn same_bytes(a: &[u8], b: &[u8]) -> bool
-    ensures { result ≡ same_bytes a.now b.now }
-{
-    if a.len() != b.len() {
-        return false;
-    }
-    let mut i: usize = 0;
-    while i < a.len() {
-        if a[i] == b[i] {
-            i += 1;
-        } else {
-            return false;
-        }
-    }
-    true
-}
 
 // A number that equal words share.
 fn mark(word: &[u8]) -> u64
     ensures value { result ≡ draft.mark_of word.now }
     ensures upper_bound { result < 16777216 }
 {
-    let n = word.len();
-    if n == 0 {
-        return 0;
+    match word.last() {
+        Some(last) => (word.len() % 65536) as u64 * 256 + *last as u64,
+        None => 0,
     }
-    (n % 65536) as u64 * 256 + word[n - 1] as u64
+}
+
+// A name of a text, from start up to end: its bytes and their mark.
+#[derive(Clone, Copy)]
+struct NameAt<'a> {
+    text: &'a [u8],
+    start: usize,
+    end: usize,
+    word: &'a [u8],
+    mark: u64,
+    ghost cut: { word.now ≡ between text.now start end },
+    ghost marked: { (mark ≡ draft.mark_of word.now) × (mark < 16777216) },
+}
+
+impl<'a> NameAt<'a> {
+    fn of(text: &'a [u8], start: usize, end: usize) -> NameAt<'a>
+        ensures text_value { result.text.now ≡ text.now }
+        ensures word_value { result.word.now ≡ between text.now start end }
+        ensures start_value { result.start ≡ start }
+        ensures end_value { result.end ≡ end }
+    {
+        let word = tokens::between(text, start, end);
+        NameAt {
+            text,
+            start,
+            end,
+            word,
+            mark: mark(word),
+        }
+    }
+}
+
+// Kept: (b) with `==` of slices a reading of 4,096 nodes takes 4 % more instructions, since most names are short.
+fn same_bytes(a: &[u8], b: &[u8]) -> bool
+    ensures { result ≡ same_bytes a.now b.now }
+{
+    if a.len() != b.len() {
+        return false;
+    }
+    for i in 0..a.len() {
+        if a[i] != b[i] {
+            return false;
+        }
+    }
+    true
 }
 
 // Whether a slot has this mark and these bytes.
@@ -202,13 +255,8 @@ fn slot_is(text: &[u8], notes: &[u64], slot: usize, mark: u64, word: &[u8]) -> b
     same_bytes(tokens::between(text, start, end), word)
 }
 
-fn less_one(n: usize) -> usize
-    ensures { result ≡ n - 1 }
-{
-    if 0 < n { n - 1 } else { 0 }
-}
-
-// A slot before which none has this mark: the first that has it, two slots a turn, or `many`; the first of all in short notes.
+// A slot before which none has this mark: the first that has it, or `many`; the first of all in short notes.
+// Kept: (b) two slots a turn, since with a `for` of one a turn a text of 64 functions takes 5 % more instructions.
 fn find_mark(notes: &[u64], mark: u64, slot: usize, many: usize) -> usize
     requires { (slot ≤ 132) × (many ≤ 4096) }
     ensures { draft.Skips notes.now mark slot 0 many result }
@@ -216,7 +264,7 @@ fn find_mark(notes: &[u64], mark: u64, slot: usize, many: usize) -> usize
     if notes.len() < Notes::SLOTS + Notes::SLOT * (slot + many) {
         return 0;
     }
-    let last = less_one(many);
+    let last = many.saturating_sub(1);
     let mut i: usize = 0;
     while i < last {
         let at = Notes::SLOTS + Notes::SLOT * (slot + i);
@@ -242,12 +290,10 @@ fn find_from(text: &[u8], notes: &[u64], mark: u64, word: &[u8], slot: usize, ma
     ensures value { result ≡ draft.find_from text.now notes.now mark word.now slot 0 many }
     ensures upper_bound { result ≤ many }
 {
-    let mut i = find_mark(notes, mark, slot, many);
-    while i < many {
+    for i in find_mark(notes, mark, slot, many)..many {
         if slot_is(text, notes, slot + i, mark, word) {
             return i;
         }
-        i += 1;
     }
     many
 }
@@ -257,73 +303,70 @@ fn many_of(notes: &[u64], kind: usize) -> usize
     ensures value { result ≡ draft.known_count notes.now kind }
     ensures upper_bound { result ≤ 4096 }
 {
-    let n = contract::word(notes, kind) as usize;
-    let most = limit(kind);
-    if n < most { n } else { most }
+    limit(kind).min(contract::word(notes, kind) as usize)
 }
+
+// The first slot of each kind of names.
+const SLOTS: [usize; 7] = [
+    Notes::PARTIES,
+    Notes::ASSETS,
+    Notes::FIELDS,
+    Notes::VALUES,
+    Notes::PARAMETERS,
+    Notes::STATES,
+    Notes::STRINGS,
+];
 
 fn slot_of(kind: usize) -> usize
     ensures value { result ≡ draft.slot_of kind }
     ensures upper_bound { result ≤ 132 }
 {
-    match kind {
-        PARTY => Notes::PARTIES,
-        ASSET => Notes::ASSETS,
-        FIELD => Notes::FIELDS,
-        VALUE => Notes::VALUES,
-        PARAMETER => Notes::PARAMETERS,
-        STATE => Notes::STATES,
-        STRING => Notes::STRINGS,
-        _ => Notes::FUNCTIONS,
-    }
+    SLOTS.get(kind).copied().unwrap_or(Notes::FUNCTIONS)
 }
 
-// The number of a word with its mark among those of a kind.
-fn number_by(text: &[u8], notes: &[u64], kind: usize, mark: u64, word: &[u8]) -> usize
-    requires { mark ≡ draft.mark_of word.now }
-    ensures { result ≡ draft.number_in text.now notes.now kind word.now }
-{
-    let many = many_of(notes, kind);
-    if many == 0 {
-        return 0;
+impl NameAt<'_> {
+    // Its number among those of a kind; how many they are where it is not among them.
+    fn number(&self, notes: &[u64], kind: usize) -> usize
+        ensures { result ≡ draft.number_in self.now.text.now notes.now kind self.now.word.now }
+    {
+        let many = many_of(notes, kind);
+        if many == 0 {
+            return 0;
+        }
+        find_from(self.text, notes, self.mark, self.word, slot_of(kind), many)
     }
-    find_from(text, notes, mark, word, slot_of(kind), many)
-}
 
-fn among(text: &[u8], notes: &[u64], kind: usize, mark: u64, word: &[u8]) -> bool
-    requires { mark ≡ draft.mark_of word.now }
-    ensures { result ≡ draft.among_in text.now notes.now kind word.now }
-{
-    number_by(text, notes, kind, mark, word) < many_of(notes, kind)
-}
+    fn is_among(&self, notes: &[u64], kind: usize) -> bool
+        ensures { result ≡ draft.among_in self.now.text.now notes.now kind self.now.word.now }
+    {
+        self.number(notes, kind) < many_of(notes, kind)
+    }
 
-// The number of a name among those of a kind; how many they are where it is not among them.
-fn number_of(text: &[u8], notes: &[u64], kind: usize, start: usize, end: usize) -> usize
-    ensures { result ≡ draft.number_in text.now notes.now kind (between text.now start end) }
-{
-    let word = tokens::between(text, start, end);
-    number_by(text, notes, kind, mark(word), word)
-}
+    // Whether it is a party's, an asset's, a field's or a parameter's.
+    fn is_declared(&self, notes: &[u64]) -> bool
+        ensures { result ≡ draft.is_declared self.now.text.now notes.now self.now.word.now }
+    {
+        for kind in PARTY..STATE {
+            if self.is_among(notes, kind) {
+                return true;
+            }
+        }
+        false
+    }
 
-// Whether a name is a party's, an asset's, a field's or a parameter's.
-fn is_declared(text: &[u8], notes: &[u64], start: usize, end: usize) -> bool
-    ensures { result ≡ draft.is_declared text.now notes.now (between text.now start end) }
-{
-    let word = tokens::between(text, start, end);
-    let mark = mark(word);
-    if among(text, notes, PARTY, mark, word) {
-        return true;
+    // What it stands for among those of a kind.
+    fn seek(&self, notes: &[u64], kind: usize, node: u64) -> Option<Known>
+        ensures { result ≡ sought self.now.text.now notes.now kind node self.now.word.now }
+    {
+        let number = self.number(notes, kind);
+        if number < many_of(notes, kind) {
+            return Some(Known {
+                kind: node,
+                number: number as u64,
+            });
+        }
+        None
     }
-    if among(text, notes, ASSET, mark, word) {
-        return true;
-    }
-    if among(text, notes, FIELD, mark, word) {
-        return true;
-    }
-    if among(text, notes, VALUE, mark, word) {
-        return true;
-    }
-    among(text, notes, PARAMETER, mark, word)
 }
 
 // A word's length and bytes at a row.
@@ -332,39 +375,31 @@ fn write_row(table: &mut [u64], at: usize, word: &[u8])
     ensures { table.new ≡ draft.rowed table.old at word.now }
 {
     store(table, at, word.len() as u64);
-    let mut i: usize = 0;
-    while i < word.len() {
+    for i in 0..word.len() {
         store(table, at + 1 + i, word[i] as u64);
-        i += 1;
     }
 }
 
-// A name's mark and place at a slot.
-fn write_slot(notes: &mut [u64], slot: usize, mark: u64, start: usize, end: usize)
+// A mark and a name's place at a slot.
+fn write_slot(notes: &mut [u64], slot: usize, mark: u64, name: &NameAt)
     requires { slot ≤ 5000 }
-    ensures { notes.new ≡ draft.slotted notes.old slot mark start end }
+    ensures { notes.new ≡ draft.slotted notes.old slot mark name.now.start name.now.end }
 {
-    store_three(
-        notes,
-        Notes::SLOTS + Notes::SLOT * slot,
-        mark,
-        start as u64,
-        end as u64,
-    );
+    let at = Notes::SLOTS + Notes::SLOT * slot;
+    store_all(notes, at, &[mark, name.start as u64, name.end as u64]);
 }
 
-// Where the rows of a kind of names stand; 0 where it has none.
-fn section_of(kind: usize) -> usize
-    ensures value { result ≡ draft.section_of kind }
-    ensures upper_bound { result ≤ 2947 }
+// Where the rows of a kind of names stand, if it has any.
+fn section_of(kind: usize) -> Option<usize>
+    ensures { MatchOption result (draft.section_of kind ≡ 0) (IsSection (draft.section_of kind)) }
 {
     match kind {
-        PARTY => contract::PARTIES,
-        ASSET => contract::ASSETS,
-        FIELD => contract::FIELDS,
-        STATE => contract::STATES,
-        STRING => contract::STRINGS,
-        _ => 0,
+        PARTY => Some(contract::PARTIES),
+        ASSET => Some(contract::ASSETS),
+        FIELD => Some(contract::FIELDS),
+        STATE => Some(contract::STATES),
+        STRING => Some(contract::STRINGS),
+        _ => None,
     }
 }
 
@@ -380,28 +415,16 @@ fn width_of(kind: usize) -> usize
     }
 }
 
-// Two bytes of a word from byte i on, the first lowest; then four and eight. A byte past its end is 0.
-fn two_bytes(word: &[u8], i: usize) -> u64
-    requires { i ≤ 30 }
-    ensures value { result ≡ packed (take 2 (drop i word.now)) }
-    ensures upper_bound { result < 65536 }
-{
-    tokens::byte_at(word, i) as u64 + 256 * tokens::byte_at(word, i + 1) as u64
-}
-
-fn four_bytes(word: &[u8], i: usize) -> u64
-    requires { i ≤ 28 }
-    ensures value { result ≡ packed (take 4 (drop i word.now)) }
-    ensures upper_bound { result < 4294967296 }
-{
-    two_bytes(word, i) + 65536 * two_bytes(word, i + 2)
-}
-
+// Eight bytes of a word from byte i on, the first lowest. A byte past its end is 0.
 fn eight_bytes(word: &[u8], i: usize) -> u64
     requires { i ≤ 24 }
     ensures { result ≡ packed (take 8 (drop i word.now)) }
 {
-    four_bytes(word, i) + 4294967296 * four_bytes(word, i + 4)
+    let at = |k: usize| -> u8
+        requires { i + k < 32 }
+        ensures { result ≡ get_or word.entry.now (i + k) 0 }
+    { tokens::byte_at(word, i + k) };
+    u64::from_le_bytes([at(0), at(1), at(2), at(3), at(4), at(5), at(6), at(7)])
 }
 
 // A word's length and its first 32 bytes, eight in a word of the table.
@@ -412,9 +435,8 @@ fn write_packed(table: &mut [u64], at: usize, word: &[u8])
     let a = eight_bytes(word, 0);
     let b = eight_bytes(word, 8);
     let c = eight_bytes(word, 16);
-    store_three(table, at, word.len() as u64, a, b);
-    store(table, at + 3, c);
-    store(table, at + 4, eight_bytes(word, 24));
+    let d = eight_bytes(word, 24);
+    store_all(table, at, &[word.len() as u64, a, b, c, d]);
 }
 
 // The first row of a kind of parameters among those of a function.
@@ -431,7 +453,7 @@ fn enter_parameter(table: &mut [u64], functions: usize, kind: usize, i: usize, w
     requires { i < 4096 }
     ensures { table.new ≡ draft.parameter_put functions kind i word.now table.old }
 {
-    let function = less_one(functions);
+    let function = functions.saturating_sub(1);
     let first = first_row(kind);
     if function < Contract::FUNCTIONS {
         let row = Function::NAMES * function + first + i;
@@ -448,53 +470,56 @@ fn enter_row(table: &mut [u64], functions: usize, kind: usize, i: usize, word: &
     requires { i < 4096 }
     ensures { table.new ≡ pick (eqb (draft.section_of kind) 0) (draft.parameter_put functions kind i word.now table.old) (draft.rowed table.old (draft.section_of kind + draft.width_of kind * i) word.now) }
 {
-    let section = section_of(kind);
-    if section != 0 {
-        write_row(table, section + width_of(kind) * i, word);
-    } else {
-        enter_parameter(table, functions, kind, i, word);
+    match section_of(kind) {
+        Some(section) => write_row(table, section + width_of(kind) * i, word),
+        None => enter_parameter(table, functions, kind, i, word),
     }
 }
 
-// Name i of a kind.
-fn enter(
-    text: &[u8],
-    table: &mut [u64],
-    notes: &mut [u64],
-    kind: usize,
-    i: usize,
-    start: usize,
-    end: usize,
-)
-    requires { i < 4096 }
-    ensures table_value { table.exit.now ≡ (draft.entered text.now kind i start end (record { table = table.entry.now; notes = notes.old })).table }
-    ensures notes_after { notes.new ≡ (draft.entered text.now kind i start end (record { table = table.entry.now; notes = notes.old })).notes }
-{
-    let word = tokens::between(text, start, end);
-    let functions = contract::word(notes, FUNCTIONS) as usize;
-    enter_row(table, functions, kind, i, word);
-    write_slot(notes, slot_of(kind) + i, mark(word), start, end);
-    store(notes, kind, i as u64 + 1);
+// The two lent lists that a pass writes.
+#[derive(Drop)]
+struct Lent<'a> {
+    table: &'a mut [u64],
+    notes: &'a mut [u64],
 }
 
-// Question 11 where there are as many of a kind as can be.
-fn ask_limit(notes: &mut [u64], kind: usize, place: usize)
-    ensures { notes.new ≡ draft.limit_asked kind place notes.old }
-{
-    if limit(kind) as u64 <= contract::word(notes, kind) {
-        find(notes, questions::LIMITS, place);
+impl Lent<'_> {
+    // Name i of a kind.
+    #[inline(always)]
+    fn enter(&mut self, name: &NameAt, kind: usize, i: usize)
+        requires { i < 4096 }
+        ensures value { draft_in self.new ≡ draft.entered name.now.text.now kind i name.now.start name.now.end (draft_in self.old) }
+        ensures same_lists { SameLists self.old self.new }
+    {
+        let notes = &mut *self.notes;
+        let functions = contract::word(notes, FUNCTIONS) as usize;
+        enter_row(self.table, functions, kind, i, name.word);
+        write_slot(notes, slot_of(kind) + i, name.mark, name);
+        store(notes, kind, i as u64 + 1);
+    }
+
+    // One more name of a kind, within its limit; else question 11.
+    fn enter_new(&mut self, name: &NameAt, kind: usize, place: usize)
+        ensures value { draft_in self.new ≡ draft.entered_new name.now.text.now kind name.now.start name.now.end place (draft_in self.old) }
+        ensures same_lists { SameLists self.old self.new }
+    {
+        let notes = &mut *self.notes;
+        let n = contract::word(notes, kind) as usize;
+        if n < limit(kind) {
+            self.enter(name, kind, n);
+        } else {
+            find(notes, Question::Limits.number(), place);
+        }
     }
 }
 
 // Questions 11 and 12 of a declared name.
-fn declare_notes(text: &[u8], notes: &mut [u64], kind: usize, start: usize, end: usize)
-    ensures { notes.new ≡ draft.declared_in text.now kind start end notes.old }
+fn declare_notes(name: &NameAt, notes: &mut [u64], kind: usize)
+    ensures { notes.new ≡ draft.declared_in name.now.text.now kind name.now.start name.now.end notes.old }
 {
-    let known = is_declared(text, notes, start, end);
-    ask_limit(notes, kind, start);
-    if known {
-        find(notes, questions::NAME_NEW, start);
-    }
+    let new = !name.is_declared(notes);
+    ask_limit(notes, kind, limit(kind), name.start);
+    ask(notes, new, Question::NameNew, name.start);
 }
 
 // A declared name.
@@ -509,31 +534,12 @@ pub fn declare(
     ensures table_value { table.exit.now ≡ (draft.declare text.now kind start end (record { table = table.entry.now; notes = notes.old })).table }
     ensures notes_after { notes.new ≡ (draft.declare text.now kind start end (record { table = table.entry.now; notes = notes.old })).notes }
 {
+    let name = NameAt::of(text, start, end);
     let n = contract::word(notes, kind) as usize;
-    declare_notes(text, notes, kind, start, end);
+    declare_notes(&name, notes, kind);
     if n < limit(kind) {
-        enter(text, table, notes, kind, n, start, end);
-    }
-}
-
-// One more name of a kind, within its limit; else question 11.
-fn enter_new(
-    text: &[u8],
-    table: &mut [u64],
-    notes: &mut [u64],
-    kind: usize,
-    start: usize,
-    end: usize,
-    place: usize,
-)
-    ensures table_value { table.exit.now ≡ (draft.entered_new text.now kind start end place (record { table = table.entry.now; notes = notes.old })).table }
-    ensures notes_after { notes.new ≡ (draft.entered_new text.now kind start end place (record { table = table.entry.now; notes = notes.old })).notes }
-{
-    let n = contract::word(notes, kind) as usize;
-    if n < limit(kind) {
-        enter(text, table, notes, kind, n, start, end);
-    } else {
-        find(notes, questions::LIMITS, place);
+        let mut lent = Lent { table, notes };
+        lent.enter(&name, kind, n);
     }
 }
 
@@ -551,11 +557,12 @@ pub fn mention(
     ensures table_value { table.exit.now ≡ (draft.mention text.now kind start end place (record { table = table.entry.now; notes = notes.old })).table }
     ensures notes_after { notes.new ≡ (draft.mention text.now kind start end place (record { table = table.entry.now; notes = notes.old })).notes }
 {
-    let i = number_of(text, notes, kind, start, end);
-    if i < many_of(notes, kind) {
-        return i;
+    let name = NameAt::of(text, start, end);
+    let i = name.number(notes, kind);
+    if many_of(notes, kind) <= i {
+        let mut lent = Lent { table, notes };
+        lent.enter_new(&name, kind, place);
     }
-    enter_new(text, table, notes, kind, start, end, place);
     i
 }
 
@@ -567,134 +574,82 @@ fn unknown() -> Known
     Known { kind: 0, number: 0 }
 }
 
-// An asset, or outside handlers an asset parameter.
-fn holder_by(text: &[u8], notes: &[u64], handler: bool, mark: u64, word: &[u8]) -> Known
-    requires { mark ≡ draft.mark_of word.now }
-    ensures { result ≡ draft.holder_in text.now notes.now handler word.now }
-{
-    let asset = number_by(text, notes, ASSET, mark, word);
-    if asset < many_of(notes, ASSET) {
-        return Known {
-            kind: Node::ASSET,
-            number: asset as u64,
-        };
+impl NameAt<'_> {
+    // An asset, or outside handlers an asset parameter.
+    fn holder(&self, notes: &[u64], handler: bool) -> Known
+        ensures { result ≡ draft.holder_in self.now.text.now notes.now handler self.now.word.now }
+    {
+        if let Some(asset) = self.seek(notes, ASSET, Node::ASSET) {
+            return asset;
+        }
+        if handler {
+            return unknown();
+        }
+        self.seek(notes, PARAMETER, Node::PARAMETER)
+            .unwrap_or(unknown())
     }
-    if handler {
-        return unknown();
+
+    // An asset or a field.
+    fn stored(&self, notes: &[u64]) -> Known
+        ensures { result ≡ draft.stored_in self.now.text.now notes.now self.now.word.now }
+    {
+        if let Some(asset) = self.seek(notes, ASSET, Node::ASSET) {
+            return asset;
+        }
+        self.seek(notes, FIELD, Node::FIELD).unwrap_or(unknown())
     }
-    let parameter = number_by(text, notes, PARAMETER, mark, word);
-    if parameter < many_of(notes, PARAMETER) {
-        return Known {
-            kind: Node::PARAMETER,
-            number: parameter as u64,
-        };
-    }
-    unknown()
 }
 
 pub fn holder(text: &[u8], notes: &[u64], handler: bool, start: usize, end: usize) -> Known
     ensures { result ≡ draft.holder_in text.now notes.now handler (between text.now start end) }
 {
-    let word = tokens::between(text, start, end);
-    holder_by(text, notes, handler, mark(word), word)
-}
-
-// An asset or a field.
-fn stored_by(text: &[u8], notes: &[u64], mark: u64, word: &[u8]) -> Known
-    requires { mark ≡ draft.mark_of word.now }
-    ensures { result ≡ draft.stored_in text.now notes.now word.now }
-{
-    let asset = number_by(text, notes, ASSET, mark, word);
-    if asset < many_of(notes, ASSET) {
-        return Known {
-            kind: Node::ASSET,
-            number: asset as u64,
-        };
-    }
-    let field = number_by(text, notes, FIELD, mark, word);
-    if field < many_of(notes, FIELD) {
-        return Known {
-            kind: Node::FIELD,
-            number: field as u64,
-        };
-    }
-    unknown()
+    NameAt::of(text, start, end).holder(notes, handler)
 }
 
 // What an expression names.
 pub fn name(text: &[u8], notes: &[u64], handler: bool, start: usize, end: usize) -> Known
     ensures { result ≡ draft.name_in text.now notes.now handler (between text.now start end) }
 {
-    let word = tokens::between(text, start, end);
-    let mark = mark(word);
+    let name = NameAt::of(text, start, end);
     if handler {
-        return stored_by(text, notes, mark, word);
+        return name.stored(notes);
     }
-    let value = number_by(text, notes, VALUE, mark, word);
-    if value < many_of(notes, VALUE) {
-        return Known {
-            kind: Node::VALUE,
-            number: value as u64,
-        };
+    if let Some(value) = name.seek(notes, VALUE, Node::VALUE) {
+        return value;
     }
-    let parameter = number_by(text, notes, PARAMETER, mark, word);
-    if parameter < many_of(notes, PARAMETER) {
-        return Known {
-            kind: Node::PARAMETER,
-            number: parameter as u64,
-        };
+    if let Some(parameter) = name.seek(notes, PARAMETER, Node::PARAMETER) {
+        return parameter;
     }
-    stored_by(text, notes, mark, word)
+    name.stored(notes)
 }
 
 // What `->` goes to.
 pub fn value_target(text: &[u8], notes: &[u64], start: usize, end: usize) -> Known
     ensures { result ≡ draft.value_target text.now notes.now (between text.now start end) }
 {
-    let word = tokens::between(text, start, end);
-    let mark = mark(word);
-    let party = number_by(text, notes, PARTY, mark, word);
-    if party < many_of(notes, PARTY) {
-        return Known {
-            kind: Node::PARTY,
-            number: party as u64,
-        };
+    let name = NameAt::of(text, start, end);
+    if let Some(party) = name.seek(notes, PARTY, Node::PARTY) {
+        return party;
     }
-    let field = number_by(text, notes, FIELD, mark, word);
-    if field < many_of(notes, FIELD) {
-        return Known {
-            kind: Node::FIELD,
-            number: field as u64,
-        };
-    }
-    unknown()
+    name.seek(notes, FIELD, Node::FIELD).unwrap_or(unknown())
 }
 
 // What `-o` goes to.
 pub fn asset_target(text: &[u8], notes: &[u64], handler: bool, start: usize, end: usize) -> Known
     ensures { result ≡ draft.asset_target text.now notes.now handler (between text.now start end) }
 {
-    let word = tokens::between(text, start, end);
-    let mark = mark(word);
-    let party = number_by(text, notes, PARTY, mark, word);
-    if party < many_of(notes, PARTY) {
-        return Known {
-            kind: Node::PARTY,
-            number: party as u64,
-        };
+    let name = NameAt::of(text, start, end);
+    if let Some(party) = name.seek(notes, PARTY, Node::PARTY) {
+        return party;
     }
-    holder_by(text, notes, handler, mark, word)
+    name.holder(notes, handler)
 }
 
 // Question 13 where a name is unknown.
 pub fn want(notes: &mut [u64], name: Known, place: usize)
     ensures { notes.new ≡ draft.wanted name place notes.old }
 {
-    let kind = name.kind;
-    let unknown = kind == 0;
-    if unknown {
-        find(notes, questions::NAME_KIND, place);
-    }
+    ask(notes, name.kind != 0, Question::NameKind, place);
 }
 
 // ---- Nodes.
@@ -706,14 +661,9 @@ pub fn put(table: &mut [u64], notes: &mut [u64], kind: u64, argument: u64, befor
 {
     let n = contract::word(notes, WRITTEN) as usize;
     if n < Contract::NODES {
-        let size = if before < n { n - before + 1 } else { 1 };
-        store_three(
-            table,
-            contract::NODES + Node::WORDS * n,
-            kind,
-            argument,
-            size as u64,
-        );
+        let at = contract::NODES + Node::WORDS * n;
+        let size = n.saturating_sub(before) + 1;
+        store_all(table, at, &[kind, argument, size as u64]);
         store(notes, WRITTEN, n as u64 + 1);
     }
 }
@@ -742,14 +692,13 @@ pub fn put_leaf(table: &mut [u64], notes: &mut [u64], kind: u64, argument: u64, 
 // ---- Rows.
 
 // The number of a name among those of a kind; question 13 where it is not among them.
-fn use_name(text: &[u8], notes: &mut [u64], kind: usize, start: usize, end: usize) -> usize
-    ensures value { result ≡ draft.number_in text.now notes.old kind (between text.now start end) }
-    ensures notes_after { notes.new ≡ draft.name_used text.now kind start end notes.old }
+fn use_name(name: &NameAt, notes: &mut [u64], kind: usize) -> usize
+    ensures value { result ≡ draft.number_in name.now.text.now notes.old kind name.now.word.now }
+    ensures notes_after { notes.new ≡ draft.name_used name.now.text.now kind name.now.start name.now.end notes.old }
 {
-    let number = number_of(text, notes, kind, start, end);
-    if many_of(notes, kind) <= number {
-        find(notes, questions::NAME_KIND, start);
-    }
+    let number = name.number(notes, kind);
+    let known = number < many_of(notes, kind);
+    ask(notes, known, Question::NameKind, name.start);
     number
 }
 
@@ -759,7 +708,7 @@ pub fn clause_party(text: &[u8], table: &mut [u64], notes: &mut [u64], start: us
     ensures notes_after { notes.new ≡ (draft.clause_party text.now start end (record { table = table.entry.now; notes = notes.old })).notes }
 {
     let row = contract::word(notes, CLAUSES) as usize;
-    let party = use_name(text, notes, PARTY, start, end);
+    let party = use_name(&NameAt::of(text, start, end), notes, PARTY);
     if row < Contract::CLAUSES {
         store(table, contract::CLAUSES + Clause::WORDS * row, party as u64);
     }
@@ -770,7 +719,7 @@ pub fn use_party(text: &[u8], notes: &mut [u64], start: usize, end: usize) -> us
     ensures value { result ≡ draft.number_in text.now notes.old 0 (between text.now start end) }
     ensures notes_after { notes.new ≡ draft.party_used text.now start end notes.old }
 {
-    use_name(text, notes, PARTY, start, end)
+    use_name(&NameAt::of(text, start, end), notes, PARTY)
 }
 
 // Its verb: 0 for SET, 1 for OK.
@@ -783,17 +732,19 @@ pub fn clause_verb(table: &mut [u64], notes: &[u64], verb: u64)
     }
 }
 
-// Field number `field` in the row at `at`, the j-th there.
-fn field_at(table: &mut [u64], notes: &mut [u64], at: usize, j: u64, field: usize)
-    requires { at ≤ 300000 }
-    ensures table_value { table.exit.now ≡ (draft.field_at at j field (record { table = table.entry.now; notes = notes.old })).table }
-    ensures notes_after { notes.new ≡ (draft.field_at at j field (record { table = table.entry.now; notes = notes.old })).notes }
-{
-    if j < Contract::FIELDS as u64 {
-        store(table, at + Clause::FIELDS + j as usize, field as u64);
-        store(table, at + 2, j + 1);
-    } else {
-        store(notes, EXCESS, 1);
+impl Lent<'_> {
+    // Field number `field` in the row at `at`, the j-th there.
+    fn field_at(&mut self, at: usize, j: u64, field: usize)
+        requires { at ≤ 300000 }
+        ensures value { draft_in self.new ≡ draft.field_at at j field (draft_in self.old) }
+        ensures same_lists { SameLists self.old self.new }
+    {
+        if j < Contract::FIELDS as u64 {
+            store(self.table, at + Clause::FIELDS + j as usize, field as u64);
+            store(self.table, at + 2, j + 1);
+        } else {
+            store(self.notes, EXCESS, 1);
+        }
     }
 }
 
@@ -803,11 +754,12 @@ pub fn clause_field(text: &[u8], table: &mut [u64], notes: &mut [u64], start: us
     ensures notes_after { notes.new ≡ (draft.clause_field text.now start end (record { table = table.entry.now; notes = notes.old })).notes }
 {
     let row = contract::word(notes, CLAUSES) as usize;
-    let field = use_name(text, notes, FIELD, start, end);
+    let field = use_name(&NameAt::of(text, start, end), notes, FIELD);
     if row < Contract::CLAUSES {
         let at = contract::CLAUSES + Clause::WORDS * row;
         let j = contract::word(table, at + 2);
-        field_at(table, notes, at, j, field);
+        let mut lent = Lent { table, notes };
+        lent.field_at(at, j, field);
     }
 }
 
@@ -824,102 +776,64 @@ pub fn clause_end(notes: &mut [u64])
 }
 
 // The mark of a function's head.
-fn head_mark(state: usize, party: usize, word: &[u8]) -> u64
-    ensures { result ≡ draft.head_mark state party word.now }
+fn head_mark(state: usize, party: usize, name: &NameAt) -> u64
+    ensures { result ≡ draft.head_mark state party name.now.word.now }
 {
-    mark(word) + 16777216 * (16 * (state % 256) as u64 + (party % 16) as u64)
+    name.mark + 16777216 * (16 * (state % 256) as u64 + (party % 16) as u64)
 }
 
-fn is_headed(text: &[u8], notes: &[u64], state: usize, party: usize, word: &[u8]) -> bool
-    ensures { result ≡ draft.is_headed text.now notes.now state party word.now }
+fn is_headed(name: &NameAt, notes: &[u64], state: usize, party: usize) -> bool
+    ensures { result ≡ draft.is_headed name.now.text.now notes.now state party name.now.word.now }
 {
-    let n = contract::word(notes, FUNCTIONS) as usize;
-    let many = if n < Contract::FUNCTIONS {
-        n
-    } else {
-        Contract::FUNCTIONS
-    };
-    let mark = head_mark(state, party, word);
-    find_from(text, notes, mark, word, Notes::FUNCTIONS, many) < many
-}
-
-// Question 11 where there are as many functions as can be.
-fn ask_functions(notes: &mut [u64], place: usize)
-    ensures { notes.new ≡ draft.functions_asked place notes.old }
-{
-    if Contract::FUNCTIONS as u64 <= contract::word(notes, FUNCTIONS) {
-        find(notes, questions::LIMITS, place);
-    }
+    let many = Contract::FUNCTIONS.min(contract::word(notes, FUNCTIONS) as usize);
+    let mark = head_mark(state, party, name);
+    find_from(name.text, notes, mark, name.word, Notes::FUNCTIONS, many) < many
 }
 
 // Questions 11 and 15 of a function's head.
-fn head_notes(
-    text: &[u8],
-    notes: &mut [u64],
-    place: usize,
-    state: usize,
-    party: usize,
-    start: usize,
-    end: usize,
-)
-    ensures { notes.new ≡ draft.head_notes text.now place state party start end notes.old }
+fn head_notes(name: &NameAt, notes: &mut [u64], place: usize, state: usize, party: usize)
+    ensures { notes.new ≡ draft.head_notes name.now.text.now place state party name.now.start name.now.end notes.old }
 {
-    let word = tokens::between(text, start, end);
-    let known = is_headed(text, notes, state, party, word);
-    ask_functions(notes, place);
-    if known {
-        find(notes, questions::FUNCTION_NEW, start);
+    let new = !is_headed(name, notes, state, party);
+    ask_limit(notes, FUNCTIONS, Contract::FUNCTIONS, place);
+    ask(notes, new, Question::FunctionNew, name.start);
+}
+
+impl Lent<'_> {
+    // Function i with its state, party and name.
+    fn write_head(&mut self, name: &NameAt, i: usize, state: usize, party: usize)
+        requires { i < 64 }
+        ensures value { draft_in self.new ≡ draft.headed name.now.text.now i state party name.now.start name.now.end (draft_in self.old) }
+        ensures same_lists { SameLists self.old self.new }
+    {
+        let at = contract::FUNCTIONS + Function::WORDS * i;
+        store_all(self.table, at, &[state as u64, party as u64]);
+        write_row(self.table, at + Function::NAME, name.word);
+        let mark = head_mark(state, party, name);
+        write_slot(self.notes, Notes::FUNCTIONS + i, mark, name);
+        store(self.notes, FUNCTIONS, i as u64 + 1);
     }
 }
 
-// Function i with its state, party and name.
-fn write_head(
-    text: &[u8],
-    table: &mut [u64],
-    notes: &mut [u64],
-    i: usize,
-    state: usize,
-    party: usize,
-    start: usize,
-    end: usize,
-)
-    requires { i < 64 }
-    ensures table_value { table.exit.now ≡ (draft.headed text.now i state party start end (record { table = table.entry.now; notes = notes.old })).table }
-    ensures notes_after { notes.new ≡ (draft.headed text.now i state party start end (record { table = table.entry.now; notes = notes.old })).notes }
-{
-    let word = tokens::between(text, start, end);
-    let at = contract::FUNCTIONS + Function::WORDS * i;
-    store(table, at, state as u64);
-    store(table, at + 1, party as u64);
-    write_row(table, at + Function::NAME, word);
-    write_slot(
-        notes,
-        Notes::FUNCTIONS + i,
-        head_mark(state, party, word),
-        start,
-        end,
-    );
-    store(notes, FUNCTIONS, i as u64 + 1);
-}
-
 // One more head, within the limit; questions 11 and 15.
+// Kept: (b) the two lists apart, since in a struct the compiler loses the notes' length, and a reading of 4,096 nodes takes 2 % more
+// instructions.
 fn enter_head(
-    text: &[u8],
+    name: &NameAt,
     table: &mut [u64],
     notes: &mut [u64],
     place: usize,
     state: usize,
     party: usize,
-    start: usize,
-    end: usize,
 )
-    ensures table_value { table.exit.now ≡ (draft.head_entered text.now place state party start end (record { table = table.entry.now; notes = notes.old })).table }
-    ensures notes_after { notes.new ≡ (draft.head_entered text.now place state party start end (record { table = table.entry.now; notes = notes.old })).notes }
+    ensures table_value { table.exit.now ≡ (draft.head_entered name.now.text.now place state party name.now.start name.now.end (record { table = table.entry.now; notes = notes.old })).table }
+    ensures notes_after { notes.new ≡ (draft.head_entered name.now.text.now place state party name.now.start name.now.end (record { table = table.entry.now; notes = notes.old })).notes }
 {
     let n = contract::word(notes, FUNCTIONS) as usize;
-    head_notes(text, notes, place, state, party, start, end);
+    head_notes(name, notes, place, state, party);
     if n < Contract::FUNCTIONS {
-        write_head(text, table, notes, n, state, party, start, end);
+        let mut lent = Lent { table, notes };
+        lent.write_head(name, n, state, party);
     }
 }
 
@@ -937,7 +851,8 @@ pub fn head(
     ensures table_value { table.exit.now ≡ (draft.head text.now place state party start end (record { table = table.entry.now; notes = notes.old })).table }
     ensures notes_after { notes.new ≡ (draft.head text.now place state party start end (record { table = table.entry.now; notes = notes.old })).notes }
 {
-    enter_head(text, table, notes, place, state, party, start, end);
+    let name = NameAt::of(text, start, end);
+    enter_head(&name, table, notes, place, state, party);
     store(notes, VALUE, 0);
     store(notes, PARAMETER, 0);
 }
@@ -960,16 +875,17 @@ pub fn function_rest(table: &mut [u64], notes: &[u64], i: usize, rest: Rest)
         let at = contract::FUNCTIONS + Function::WORDS * i + 2;
         let values = contract::word(notes, VALUE);
         let parameters = contract::word(notes, PARAMETER);
-        store_three(table, at, rest.last as u64, values, parameters);
-        store_three(
-            table,
-            at + 3,
+        let row = [
+            rest.last as u64,
+            values,
+            parameters,
             rest.first as u64,
             rest.precondition as u64,
             rest.body as u64,
-        );
-        store(table, at + 6, rest.event as u64);
-        store(table, at + 7, rest.events as u64);
+            rest.event as u64,
+            rest.events as u64,
+        ];
+        store_all(table, at, &row);
     }
 }
 
@@ -979,7 +895,7 @@ pub fn event_row(table: &mut [u64], i: usize, state: usize, last: usize, node: u
 {
     if i < Contract::EVENTS {
         let at = contract::EVENTS + Event::WORDS * i;
-        store_three(table, at, state as u64, last as u64, node as u64);
+        store_all(table, at, &[state as u64, last as u64, node as u64]);
     }
 }
 
@@ -990,59 +906,38 @@ pub fn title(text: &[u8], table: &mut [u64], start: usize, end: usize)
     write_row(table, contract::NAME, tokens::between(text, start, end));
 }
 
-// Three words of the notes, from word `at` of the table on.
-fn copy_three(table: &mut [u64], at: usize, notes: &[u64], i: usize, j: usize, k: usize)
-    requires { at ≤ 300000 }
-    ensures { table.new ≡ sets table.old at (draft.note notes.now i ∷ draft.note notes.now j ∷ draft.note notes.now k ∷ []) }
-{
-    let a = contract::word(notes, i);
-    let b = contract::word(notes, j);
-    store_three(table, at, a, b, contract::word(notes, k));
-}
-
 // How many there are of each, and the initial state.
 pub fn write_counts(table: &mut [u64], notes: &[u64], initial: usize)
     ensures { table.new ≡ draft.counts initial notes.now table.old }
 {
-    copy_three(table, 0, notes, PARTY, ASSET, FIELD);
-    copy_three(table, 3, notes, STATE, STRING, CLAUSES);
-    copy_three(table, 6, notes, FUNCTIONS, EVENT, WRITTEN);
-    store(table, 9, initial as u64);
+    let counts = [
+        contract::word(notes, PARTY),
+        contract::word(notes, ASSET),
+        contract::word(notes, FIELD),
+        contract::word(notes, STATE),
+        contract::word(notes, STRING),
+        contract::word(notes, CLAUSES),
+        contract::word(notes, FUNCTIONS),
+        contract::word(notes, EVENT),
+        contract::word(notes, WRITTEN),
+        initial as u64,
+    ];
+    store_all(table, 0, &counts);
 }
 
-// How many words are cleared at once, so that a table is cleared by wide stores.
+// How many words are cleared at once.
+// Kept: (b) a whole table by one `fill` takes six times the instructions, since its bytes are then stored one by one; (c) `chunks_mut`,
+// whose contract says nothing of what the slice ends as.
 const CLEARED: usize = 128;
-
-fn clear_part(part: &mut [u64])
-    ensures { part.new ≡ zeros (length part.old) }
-{
-    let mut i: usize = 0;
-    while i < part.len() {
-        part[i] = 0;
-        i += 1;
-    }
-}
-
-// Where the part from a place on ends, among so many words.
-fn part_end(size: usize, from: usize) -> usize
-    requires { from < size }
-    ensures { (from < result) × (result ≤ size) }
-{
-    if size - from < CLEARED {
-        size
-    } else {
-        from + CLEARED
-    }
-}
 
 // A table of zeros.
 pub fn clear(table: &mut [u64])
     ensures { table.new ≡ zeros (length table.old) }
 {
-    let mut i: usize = 0;
-    while i < table.len() {
-        let end = part_end(table.len(), i);
-        clear_part(&mut table[i..end]);
-        i = end;
+    let mut start: usize = 0;
+    while start < table.len() {
+        let end = start + CLEARED.min(table.len() - start);
+        table[start..end].fill(0);
+        start = end;
     }
 }

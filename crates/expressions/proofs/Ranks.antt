@@ -21,20 +21,20 @@ use Rattle.reading_laws.proofs.AgreesWith.{leaves_same}
 
 -- the place of a rank's operands in the order of calls at one level
 unfoldable pub weight : ℕ → ℕ
-weight zero = 13
-weight (suc zero) = 10
-weight (suc (suc zero)) = 4
+weight zero = 16
+weight (suc zero) = 12
+weight (suc (suc zero)) = 5
 weight (suc (suc (suc r))) = 1
 
-pub weight_zero : (r : ℕ) → r ≡ 0 → weight r ≡ 13
+pub weight_zero : (r : ℕ) → r ≡ 0 → weight r ≡ 16
 unfolding weight
 weight_zero r e = ap weight e
 
-pub weight_one : (r : ℕ) → r ≡ 1 → weight r ≡ 10
+pub weight_one : (r : ℕ) → r ≡ 1 → weight r ≡ 12
 unfolding weight
 weight_one r e = ap weight e
 
-pub weight_two : (r : ℕ) → r ≡ 2 → weight r ≡ 4
+pub weight_two : (r : ℕ) → r ≡ 2 → weight r ≡ 5
 unfolding weight
 weight_two r e = ap weight e
 

@@ -6,7 +6,8 @@ ghost use Rattle.cursors.specs.Packed.{cursor_in, step_in, entered, step_after, 
 ghost use Rattle.reading_laws.specs.Walk as walk;
 ghost use Rattle.reading_laws.specs.Walk.{draft};
 
-use reading::Answer;
+use contract::Contract;
+use questions::Question;
 
 mod operands;
 mod terms;
@@ -24,8 +25,8 @@ pub fn expression(
     ensures table_after { table.new ≡ table_after table.old (entered text.now (walk.expression text.now handler levels (cursor_in text.now c) (draft table.old notes.old))) }
     ensures notes_after { notes.new ≡ notes_after notes.old (entered text.now (walk.expression text.now handler levels (cursor_in text.now c) (draft table.old notes.old))) }
 {
-    if Answer::TEXT < text.len() {
-        return cursors::leave(table, notes, cursors::stop(questions::TEXT_LENGTH, 0));
+    if Contract::TEXT < text.len() {
+        return cursors::leave(table, notes, cursors::stop(Question::TextLength as u8, 0));
     }
     let r = operands::expression(text, table, notes, cursors::going(c), levels, handler);
     cursors::leave(table, notes, r)
@@ -44,8 +45,8 @@ pub fn condition(
     ensures table_after { table.new ≡ table_after table.old (entered text.now (walk.condition text.now handler levels (cursor_in text.now c) (draft table.old notes.old))) }
     ensures notes_after { notes.new ≡ notes_after notes.old (entered text.now (walk.condition text.now handler levels (cursor_in text.now c) (draft table.old notes.old))) }
 {
-    if Answer::TEXT < text.len() {
-        return cursors::leave(table, notes, cursors::stop(questions::TEXT_LENGTH, 0));
+    if Contract::TEXT < text.len() {
+        return cursors::leave(table, notes, cursors::stop(Question::TextLength as u8, 0));
     }
     let r = operands::condition(text, table, notes, cursors::going(c), levels, handler);
     cursors::leave(table, notes, r)

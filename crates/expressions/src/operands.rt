@@ -6,6 +6,7 @@ ghost use Rattle.reading_laws.specs.Walk.{AgreesWith, draft};
 
 use crate::terms;
 use contract::Node;
+use questions::Question;
 
 // Operators of a rank, each with an operand after it.
 #[cycle(operands)]
@@ -23,8 +24,7 @@ fn rest(
     ensures { AgreesWith (walk.row_from text.now rank (walk.operand_at text.now handler levels rank) before (length text.now) (cursor_in text.now c) (draft table.old notes.old)) (step_in text.now result) table.new notes.new }
 {
     let mut here = c;
-    let mut left = text.len();
-    while 0 < left {
+    for _ in 0..text.len() {
         let kind = cursors::kind_of(here);
         if !terms::is_operator(rank, kind) {
             return here;
@@ -45,12 +45,12 @@ fn rest(
         let e = second;
         entries::put(table, notes, terms::operator_node(kind), 0, before);
         here = e;
-        left -= 1;
     }
     here
 }
 
-// An operand of a rank, and the operators of the next rank after it.
+// An operand of a rank: a chain of the next rank, or what has no operator of these outside parentheses.
+#[inline(always)]
 #[cycle(operands)]
 fn operand(
     text: &[u8],
@@ -85,16 +85,7 @@ fn product(
     requires { (length text.now ≤ 16384) × (is_stop c ≡ false) }
     ensures { AgreesWith (walk.operand_at text.now handler levels 2 (cursor_in text.now c) (draft table.old notes.old)) (step_in text.now result) table.new notes.new }
 {
-    let before = cursors::nodes(notes);
-    let r = factor(text, table, notes, c, levels, handler);
-    if cursors::stops(r) {
-        return r;
-    }
-    let d = r;
-    if terms::is_operator(3, cursors::kind_of(d)) {
-        return rest(text, table, notes, d, levels, 3, before, handler);
-    }
-    r
+    chain(text, table, notes, c, levels, 3, handler)
 }
 
 // An expression, with so many levels left inside it.
@@ -110,16 +101,7 @@ pub(crate) fn expression(
     requires { (length text.now ≤ 16384) × (is_stop c ≡ false) }
     ensures { AgreesWith (walk.expression text.now handler levels (cursor_in text.now c) (draft table.old notes.old)) (step_in text.now result) table.new notes.new }
 {
-    let before = cursors::nodes(notes);
-    let r = product(text, table, notes, c, levels, handler);
-    if cursors::stops(r) {
-        return r;
-    }
-    let d = r;
-    if terms::is_operator(2, cursors::kind_of(d)) {
-        return rest(text, table, notes, d, levels, 2, before, handler);
-    }
-    r
+    chain(text, table, notes, c, levels, 2, handler)
 }
 
 // Conditions with && between them.
@@ -135,16 +117,7 @@ fn conjunction(
     requires { (length text.now ≤ 16384) × (is_stop c ≡ false) }
     ensures { AgreesWith (walk.operand_at text.now handler levels 0 (cursor_in text.now c) (draft table.old notes.old)) (step_in text.now result) table.new notes.new }
 {
-    let before = cursors::nodes(notes);
-    let r = primary(text, table, notes, c, levels, handler);
-    if cursors::stops(r) {
-        return r;
-    }
-    let d = r;
-    if terms::is_operator(1, cursors::kind_of(d)) {
-        return rest(text, table, notes, d, levels, 1, before, handler);
-    }
-    r
+    chain(text, table, notes, c, levels, 1, handler)
 }
 
 // A condition, with so many levels left inside it.
@@ -160,14 +133,32 @@ pub(crate) fn condition(
     requires { (length text.now ≤ 16384) × (is_stop c ≡ false) }
     ensures { AgreesWith (walk.condition text.now handler levels (cursor_in text.now c) (draft table.old notes.old)) (step_in text.now result) table.new notes.new }
 {
+    chain(text, table, notes, c, levels, 0, handler)
+}
+
+// Operands of a rank with its operators between them: || binds last, then &&, then + and -, then * and /.
+#[inline(always)]
+#[cycle(operands)]
+fn chain(
+    text: &[u8],
+    table: &mut [u64],
+    notes: &mut [u64],
+    c: u64,
+    levels: usize,
+    rank: u8,
+    handler: bool,
+) -> u64
+    requires { (length text.now ≤ 16384) × (is_stop c ≡ false) }
+    ensures { AgreesWith (walk.chain text.now rank (walk.operand_at text.now handler levels rank) (cursor_in text.now c) (draft table.old notes.old)) (step_in text.now result) table.new notes.new }
+{
     let before = cursors::nodes(notes);
-    let r = conjunction(text, table, notes, c, levels, handler);
+    let r = operand(text, table, notes, c, levels, rank, handler);
     if cursors::stops(r) {
         return r;
     }
     let d = r;
-    if terms::is_operator(0, cursors::kind_of(d)) {
-        return rest(text, table, notes, d, levels, 0, before, handler);
+    if terms::is_operator(rank, cursors::kind_of(d)) {
+        return rest(text, table, notes, d, levels, rank, before, handler);
     }
     r
 }
@@ -188,7 +179,7 @@ fn factor(
         return terms::leaf(text, table, notes, c, handler);
     }
     if levels == 0 {
-        return cursors::stop(questions::LEVELS, cursors::start_of(c));
+        return cursors::stop(Question::Levels as u8, cursors::start_of(c));
     }
     let inner = expression(
         text,
@@ -242,7 +233,7 @@ fn simple(
     let kind = cursors::kind_of(c);
     if kind == words::OPEN_PAREN {
         if levels == 0 {
-            return cursors::stop(questions::LEVELS, cursors::start_of(c));
+            return cursors::stop(Question::Levels as u8, cursors::start_of(c));
         }
         let inner = condition(
             text,

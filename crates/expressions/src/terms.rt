@@ -45,15 +45,15 @@ pub(crate) fn is_operator(rank: u8, kind: u8) -> bool
 pub(crate) fn is_comparison(kind: u8) -> bool
     ensures { result ≡ is_one_of comparisons kind }
 {
-    match kind {
+    matches!(
+        kind,
         words::EQUAL
-        | words::UNEQUAL
-        | words::LESS
-        | words::AT_MOST
-        | words::GREATER
-        | words::AT_LEAST => true,
-        _ => false,
-    }
+            | words::UNEQUAL
+            | words::LESS
+            | words::AT_MOST
+            | words::GREATER
+            | words::AT_LEAST
+    )
 }
 
 // A string's node.
@@ -118,10 +118,8 @@ pub(crate) fn negate(table: &mut [u64], notes: &mut [u64], many: usize, before: 
     ensures table_after { table.new ≡ (walk.negations many before (draft table.old notes.old)).table }
     ensures notes_after { notes.new ≡ (walk.negations many before (draft table.old notes.old)).notes }
 {
-    let mut left = many;
-    while 0 < left {
+    for _ in 0..many {
         entries::put(table, notes, Node::NOT, 0, before);
-        left -= 1;
     }
 }
 
@@ -137,14 +135,15 @@ pub(crate) fn count_nots(text: &[u8], notes: &mut [u64], c: u64) -> Nots
     ensures { NotsAre text.now (cursor_in text.now c) notes.old result notes.new }
 {
     let mut here = c;
-    let mut many: usize = 0;
-    while many < text.len() {
+    for many in 0..text.len() {
         if cursors::kind_of(here) != words::NOT {
             return Nots { many, next: here };
         }
         entries::count(notes, entries::NODE, cursors::start_of(here));
         here = cursors::lex(text, cursors::end_of(here));
-        many += 1;
     }
-    Nots { many, next: here }
+    Nots {
+        many: text.len(),
+        next: here,
+    }
 }

@@ -6,7 +6,8 @@ ghost use Rattle.cursors.specs.Packed.{cursor_in, step_in, entered, step_after, 
 ghost use Rattle.reading_laws.specs.Walk as walk;
 ghost use Rattle.reading_laws.specs.Walk.{draft};
 
-use reading::Answer;
+use contract::Contract;
+use questions::Question;
 
 mod parts;
 
@@ -16,9 +17,9 @@ pub fn functions(text: &[u8], table: &mut [u64], notes: &mut [u64], c: u64) -> u
     ensures table_after { table.new ≡ table_after table.old (entered text.now (walk.functions text.now (length text.now) (cursor_in text.now c) (draft table.old notes.old))) }
     ensures notes_after { notes.new ≡ notes_after notes.old (entered text.now (walk.functions text.now (length text.now) (cursor_in text.now c) (draft table.old notes.old))) }
 {
-    let long = Answer::TEXT < text.len();
+    let long = Contract::TEXT < text.len();
     if long {
-        return cursors::leave(table, notes, cursors::stop(questions::TEXT_LENGTH, 0));
+        return cursors::leave(table, notes, cursors::stop(Question::TextLength as u8, 0));
     }
     let r = parts::functions(text, table, notes, cursors::going(c));
     cursors::leave(table, notes, r)

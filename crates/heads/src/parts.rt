@@ -218,8 +218,7 @@ pub(crate) fn functions(text: &[u8], table: &mut [u64], notes: &mut [u64], c: u6
     ensures { AgreesWith (walk.functions text.now (length text.now) (cursor_in text.now c) (draft table.old notes.old)) (step_in text.now result) table.new notes.new }
 {
     let mut here = c;
-    let mut left = text.len();
-    while 0 < left {
+    for _ in 0..text.len() {
         if cursors::kind_of(here) != words::AT_SIGN {
             return here;
         }
@@ -229,7 +228,6 @@ pub(crate) fn functions(text: &[u8], table: &mut [u64], notes: &mut [u64], c: u6
         }
         let d = r;
         here = d;
-        left -= 1;
     }
     here
 }

@@ -1,1 +1,2 @@
 pub mod PackedWhole
+pub mod AllBelow

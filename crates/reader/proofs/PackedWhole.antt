@@ -1,12 +1,14 @@
 -- Laws of the parts of a contract around its clauses and functions where a cursor is a number. Assumes nothing.
-use mathlib.Core.Path.{◌≡◌, sym, ap, ◌∙◌}
+use mathlib.Core.Path.{◌≡◌, sym, ap, ◌∙◌, subst}
 use mathlib.Core.List.{List}
 use Prim.Native.Nat.{ℕ}
 use borrow.Author.Tests.{eq-eqb, ne_eqb}
 use Rattle.laws.proofs.Choice.{pick_true, pick_false}
 use Rattle.words.specs.Words.{legal_contract, open_brace, close_brace}
 use Rattle.entries.specs.Draft.{title}
-use Rattle.reading.specs.declared.Answer.TheVariants.{Refused}
+use Rattle.std.specs.Prelude.{Err}
+use Rattle.reading.specs.declared.Refusal.{Refusal}
+use Rattle.reading.specs.Reading.{refusal}
 use Rattle.reading_laws.specs.Walk.{Walk, AgreesWith, Ends, On, Stop, draft, cursor_at, unfit_at, token, name_here, opening, closed, text_end, at_end, ending_at}
 use Rattle.cursors.specs.Packed.{kind_in, start_in, end_in, cursor_in, step_in}
 use Rattle.reading_laws.proofs.Enclosing as enclosing
@@ -43,6 +45,8 @@ module _ (s : List ℕ) where
       ending_unfit r g h = h ∙ sym (ap (at_end s) (sym e ∙ f) ∙ pick_false _ _ _ (ne_eqb (kind_in a) text_end (λ z. g (k-is ∙ z))))
 
   -- the pass that stopped
-  pub ends_stopped : (w : Walk) (r k o : ℕ) (t n u : List ℕ) → AgreesWith w (step_in s r) t n → step_in s r ≡ Stop (kind_in r) (start_in r) → k ≡ kind_in r
-      → o ≡ start_in r → Ends w (Refused k o) u
-  ends_stopped w r k o t n u h e f g = ends_stop w (step_in s r) k o t n u h (e ∙ (λ i. Stop (sym f i) (sym g i)))
+  pub ends_stopped : (w : Walk) (r k o : ℕ) (x : Refusal) (t n u : List ℕ) → AgreesWith w (step_in s r) t n → step_in s r ≡ Stop (kind_in r) (start_in r)
+      → k ≡ kind_in r → o ≡ start_in r → x ≡ refusal k o → Ends w (Err x) u
+  ends_stopped w r k o x t n u h e f g j =
+      let P : Refusal → Type 0 = λ y. Ends w (Err y) u in
+      subst P (sym j) (ends_stop w (step_in s r) k o t n u h (e ∙ (λ i. Stop (sym f i) (sym g i))))

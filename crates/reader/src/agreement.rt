@@ -14,7 +14,7 @@ const NOBODY: usize = 63;
 fn place(n: usize) -> usize
     ensures { result ≡ min n 63 }
 {
-    if n < TWICE { n } else { TWICE }
+    n.min(TWICE)
 }
 
 fn holds(mask: u64, n: usize) -> bool
@@ -37,9 +37,7 @@ fn with_fields(table: &[u64], i: usize, start: u64) -> u64
     ensures { result ≡ with_all start (row_of table.now i).fields }
 {
     let mut mask = start;
-    let mut j = contract::clause_at(table, i).fields;
-    while 0 < j {
-        j -= 1;
+    for j in (0..contract::clause_at(table, i).fields).rev() {
         mask = with(mask, contract::clause_field(table, i, j));
     }
     mask
@@ -50,9 +48,7 @@ fn fields_set(table: &[u64], clauses: usize, party: usize) -> u64
     ensures { result ≡ field_mask party (rows_of table.now clauses) }
 {
     let mut mask: u64 = 0;
-    let mut i = clauses;
-    while 0 < i {
-        i -= 1;
+    for i in (0..clauses).rev() {
         let c = contract::clause_at(table, i);
         if c.verb != 0 {
             continue;
@@ -70,9 +66,7 @@ fn parties_of(table: &[u64], clauses: usize, set: bool) -> u64
     ensures { result ≡ party_mask set (rows_of table.now clauses) }
 {
     let mut mask: u64 = 0;
-    let mut i = clauses;
-    while 0 < i {
-        i -= 1;
+    for i in (0..clauses).rev() {
         let c = contract::clause_at(table, i);
         if (c.verb == 0) == set {
             mask = with(mask, c.party);
@@ -106,9 +100,7 @@ fn all_agree(table: &[u64], clauses: usize) -> bool
     ensures { result ≡ every (agrees_by_mask (rows_of table.now clauses)) (rows_of table.now clauses) }
 {
     let mut all = true;
-    let mut i = clauses;
-    while 0 < i {
-        i -= 1;
+    for i in (0..clauses).rev() {
         all = agrees(table, clauses, i) & all;
     }
     all
@@ -118,15 +110,7 @@ fn all_agree(table: &[u64], clauses: usize) -> bool
 fn holds_all(mask: u64, n: usize) -> bool
     ensures { result ≡ all_below n (holds mask) }
 {
-    let mut a: usize = 0;
-    while a < n {
-        if holds(mask, a) {
-            a += 1;
-        } else {
-            return false;
-        }
-    }
-    true
+    (0..n).all(|a| holds(mask, a))
 }
 
 // A field is set at most once; a party agrees only on fields set by another, each once; each party has a clause, at most one

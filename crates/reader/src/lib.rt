@@ -1,17 +1,19 @@
 // Reading a contract's text into a table.
 #![tactic(auto)]
 
-ghost use Rattle.std.specs.Prelude.{◌≡◌, false, ◌-◌, ◌≤◌, [], length};
+ghost use Rattle.std.specs.Prelude.{◌≡◌, false, ◌-◌, ◌≤◌, [], length, IfErr};
 ghost use Rattle.contract.specs.Encode.{zeros};
 ghost use Rattle.entries.specs.Draft.{note};
 ghost use Rattle.cursors.specs.Packed.{is_stop, cursor_in, step_in};
 ghost use Rattle.reading_laws.specs.Walk as walk;
 ghost use Rattle.reading_laws.specs.Walk.{AgreesWith, draft};
-ghost use Rattle.reading.specs.Reading.{read_text, answer_of, table_of};
+ghost use Rattle.questions.specs.Numbers.{number_of};
+ghost use Rattle.reading.specs.Reading.{refused, read_text, answer_of, table_of};
 
 use contract::Contract;
 use entries::Notes;
-use reading::Answer;
+use questions::Question;
+use reading::Refusal;
 use tokens::Token;
 
 mod agreement;
@@ -64,7 +66,7 @@ fn close(table: &[u64], notes: &mut [u64], place: usize)
             return;
         }
     }
-    entries::find(notes, questions::AGREEMENT_RULES, place);
+    entries::find(notes, Question::AgreementRules as u8, place);
 }
 
 // => @Q after the agreement's closing brace.
@@ -183,49 +185,55 @@ fn contract_text(text: &[u8], table: &mut [u64], notes: &mut [u64]) -> u64
 }
 
 // The least finding, or accepted, and then the table's head.
-fn settle(table: &mut [u64], notes: &[u64]) -> Answer
+fn settle(table: &mut [u64], notes: &[u64]) -> Result<(), Refusal>
     ensures value { result ≡ walk.settled_answer notes.now }
     ensures table_after { table.new ≡ walk.settled_table notes.now table.old }
 {
     let question = contract::word(notes, entries::QUESTION);
     if question != 0 {
         let place = contract::word(notes, entries::PLACE) as usize;
-        return Answer::Refused((question % 256) as u8, place);
+        return Err(Refusal::by_number((question % 256) as u8, place));
     }
     let initial = contract::word(table, 9) as usize;
     entries::write_counts(table, notes, initial);
-    Answer::Accepted
+    Ok(())
 }
 
 // The pass with notes of its own, all zeros.
-fn pass_over(text: &[u8], table: &mut [u64]) -> Answer
+fn pass_over(text: &[u8], table: &mut [u64]) -> Result<(), Refusal>
     requires { length text.now ≤ 16384 }
     ensures { walk.Ends (walk.walk text.now (draft table.old (zeros 606))) result table.new }
 {
     let mut notes: [u64; Notes::LENGTH] = [0; Notes::LENGTH];
     let r = contract_text(text, table, &mut notes);
     if cursors::stops(r) {
-        return Answer::Refused(cursors::kind_of(r), cursors::start_of(r));
+        return Err(Refusal::by_number(cursors::kind_of(r), cursors::start_of(r)));
     }
     settle(table, &notes)
 }
 
 // Reads a contract's text into a lent table; a refused one leaves zeros.
-pub fn read(text: &[u8], table: &mut [u64]) -> Answer
+pub fn read(text: &[u8], table: &mut [u64]) -> Result<(), Refusal>
     ensures value { result ≡ answer_of (read_text text.now (length table.old)) }
     ensures table_after { table.new ≡ table_of (length table.old) (read_text text.now (length table.old)) }
+    ensures refusal { IfErr result (λ e. read_text text.now (length table.old) ≡ refused (number_of e.question) e.place) }
 {
     entries::clear(table);
-    if Answer::TEXT < text.len() {
-        return Answer::Refused(questions::TEXT_LENGTH, 0);
+    if Contract::TEXT < text.len() {
+        return Err(Refusal {
+            question: Question::TextLength,
+            place: 0,
+        });
     }
     if table.len() != Contract::TABLE {
-        return Answer::Refused(questions::TABLE_LENGTH, 0);
+        return Err(Refusal {
+            question: Question::TableLength,
+            place: 0,
+        });
     }
     let answer = pass_over(text, table);
-    let Answer::Accepted = answer else {
+    if answer.is_err() {
         entries::clear(table);
-        return answer;
-    };
+    }
     answer
 }

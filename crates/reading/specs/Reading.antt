@@ -1,5 +1,5 @@
 -- Reading a text into a table of words: what it answers, and what the table then holds.
-use Rattle.std.specs.Prelude.{ℕ, List, [], length, eqb, leb}
+use Rattle.std.specs.Prelude.{ℕ, List, [], length, eqb, leb, Result, Ok, Err, unwrap_or}
 use Rattle.laws.specs.Choice.{pick}
 use Rattle.contract.specs.Tree.{Contract}
 use Rattle.contract.specs.Table.{table_length}
@@ -9,8 +9,10 @@ use Rattle.reading.specs.Grammar.{Parsed, done, no, parse}
 use Rattle.reading.specs.Items.{items}
 use Rattle.reading.specs.Rules.{Finding, fine, breaks, judged}
 use Rattle.reading.specs.Resolve.{resolve}
-use Rattle.reading.specs.declared.Answer.{Answer}
-use Rattle.reading.specs.declared.Answer.TheVariants.{Accepted, Refused}
+use Rattle.questions.specs.declared.Question.{Question}
+use Rattle.questions.specs.declared.Question.TheVariants.{Grammar}
+use Rattle.questions.specs.Numbers.{question_of}
+use Rattle.reading.specs.declared.Refusal.{Refusal}
 
 -- bytes of a text
 abbrev pub max_text : ℕ
@@ -38,9 +40,19 @@ read_text s words =
     (pick (eqb words table_length) (parsed s (parse s)) (refused 2 0))
     (refused 1 0)
 
-abbrev pub answer_of : Reading → Answer
-answer_of (accepted c) = Accepted
-answer_of (refused q p) = Refused q p
+-- the question with a number; no text is refused by a number that no question has (`number_asked`, reading_laws/proofs/Asked.antt)
+unfoldable pub asked : ℕ → Question
+asked q = unwrap_or (question_of q) Grammar
+
+abbrev pub refusal : ℕ → ℕ → Refusal
+refusal q p = record { question = asked q; place = p }
+
+abbrev pub Answered : Type 0
+Answered = Result (Unit {0}) Refusal
+
+abbrev pub answer_of : Reading → Answered
+answer_of (accepted c) = Ok tt
+answer_of (refused q p) = Err (refusal q p)
 
 -- the table after reading: the contract's, or zeros
 abbrev pub table_of : ℕ → Reading → List ℕ

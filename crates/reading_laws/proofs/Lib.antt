@@ -46,6 +46,7 @@ pub mod TableIsEncoded
 pub mod ReadIs
 pub mod Whole
 pub mod Settled
+pub mod Asked
 pub mod AgreesWith
 pub mod Operators
 pub mod Listed

@@ -16,39 +16,38 @@ use Rattle.reading.specs.Grammar.{Parsed, done, no, parse}
 use Rattle.reading.specs.Items.{items}
 use Rattle.reading.specs.Rules.{Finding, fine, breaks, judged}
 use Rattle.reading.specs.Resolve.{resolve}
-use Rattle.reading.specs.Reading.{Reading, ruled, parsed, read_text, answer_of, table_of}
+use Rattle.reading.specs.Reading.{Reading, Answered, refusal, ruled, parsed, read_text, answer_of, table_of}
 use Rattle.reading_laws.specs.Walk.{Walk, walk, Ends, settled_answer, settled_table}
-use Rattle.reading.specs.declared.Answer.{Answer}
-use Rattle.reading.specs.declared.Answer.TheVariants.{Accepted, Refused}
+use Rattle.std.specs.Prelude.{Ok, Err}
 use Rattle.reading_laws.proofs.Run.{fresh, finding_of, walked, run_contract}
 
 -- what the answer says of the table
-pub record Reads (d : Reading) (r : Answer) (t : List ℕ) : Type 0 where
+pub record Reads (d : Reading) (r : Answered) (t : List ℕ) : Type 0 where
   pub answer : r ≡ answer_of d
-  pub table : r ≡ Accepted → t ≡ table_of 24659 d
+  pub table : r ≡ Ok tt → t ≡ table_of 24659 d
 
-abbrev answer_for : Finding → Answer
-answer_for fine = Accepted
-answer_for (breaks q p) = Refused q p
+abbrev answer_for : Finding → Answered
+answer_for fine = Ok tt
+answer_for (breaks q p) = Err (refusal q p)
 
 abbrev fineness : Finding → ℕ
 fineness fine = 0
 fineness (breaks q p) = 1
 
-abbrev acceptance : Answer → ℕ
-acceptance Accepted = 0
-acceptance (Refused q p) = 1
+abbrev acceptance : Answered → ℕ
+acceptance (Ok x) = 0
+acceptance (Err e) = 1
 
 -- what is settled is the finding
 settled_is : (n : List ℕ) → note n question ≤ 15 → settled_answer n ≡ answer_for (finding_of n)
 unfolding settled_answer
 settled_is n h = go (eqb (note n question) 0) refl
   where
-    go : (b : Bool) → eqb (note n question) 0 ≡ b → pick (eqb (note n question) 0) Accepted (Refused (note n question % 256) (note n place)) ≡ answer_for (finding_of n)
+    go : (b : Bool) → eqb (note n question) 0 ≡ b → pick (eqb (note n question) 0) (Ok tt) (Err (refusal (note n question % 256) (note n place))) ≡ answer_for (finding_of n)
     go true t = pick_true _ _ _ t ∙ sym (ap answer_for (pick_true _ _ _ t))
     go false t =
         pick_false _ _ _ t
-        ∙ ap (λ (q : ℕ). Refused q (note n place)) (omega arith)
+        ∙ ap (λ (q : ℕ). Err (refusal q (note n place))) (omega arith)
         ∙ sym (ap answer_for (pick_false _ _ _ t))
 
 settled_table_lem : (n t : List ℕ) → finding_of n ≡ fine → settled_table n t ≡ counts (get_or t 9 0) n t
@@ -71,7 +70,7 @@ module _
     (run_table : (c : Syntax) (n : ℕ) → parse s ≡ done c n → judged s [] fine (items c) ≡ fine
     → counts (get_or (run_contract s c fresh).table 9 0) (run_contract s c fresh).notes (run_contract s c fresh).table ≡ encode (resolve s c))
   where
-    reads_tree : (c : Syntax) (n : ℕ) → parse s ≡ done c n → (f : Finding) → judged s [] fine (items c) ≡ f → (r : Answer) (t : List ℕ)
+    reads_tree : (c : Syntax) (n : ℕ) → parse s ≡ done c n → (f : Finding) → judged s [] fine (items c) ≡ f → (r : Answered) (t : List ℕ)
         → r ≡ settled_answer (run_contract s c fresh).notes → t ≡ settled_table (run_contract s c fresh).notes (run_contract s c fresh).table
         → Reads (ruled s c f) r t
     reads_tree c n e fine j r t a b =
@@ -80,13 +79,13 @@ module _
           table = λ x. b ∙ settled_table_lem (run_contract s c fresh).notes (run_contract s c fresh).table (run_found c n e ∙ j) ∙ run_table c n e j;
         }
     reads_tree c n e (breaks q p) j r t a b =
-        let k : r ≡ Refused q p = a ∙ settled_is (run_contract s c fresh).notes (run-least c n e) ∙ ap answer_for (run_found c n e ∙ j) in
+        let k : r ≡ Err (refusal q p) = a ∙ settled_is (run_contract s c fresh).notes (run-least c n e) ∙ ap answer_for (run_found c n e ∙ j) in
         record {
           answer = k;
           table = λ x. let z : ◌≡◌ {A = ℕ} 0 1 = ap acceptance (sym x ∙ k) in absurd (omega (arith, z));
         }
 
-    reads_parse : (d : Parsed Syntax) → parse s ≡ d → (r : Answer) (t : List ℕ) → Ends (walked s (run_contract s) d fresh) r t → Reads (parsed s d) r t
+    reads_parse : (d : Parsed Syntax) → parse s ≡ d → (r : Answered) (t : List ℕ) → Ends (walked s (run_contract s) d fresh) r t → Reads (parsed s d) r t
     unfolding Ends walked
     reads_parse (done c n) e r t (a, b) = reads_tree c n e (judged s [] fine (items c)) refl r t a b
     reads_parse (no q o) e r t a =
@@ -95,7 +94,7 @@ module _
           table = λ x. let z : ◌≡◌ {A = ℕ} 0 1 = ap acceptance (sym x ∙ a) in absurd (omega (arith, z));
         }
 
-    pub reads : length s ≤ 16384 → (r : Answer) (t : List ℕ) → Ends (walk s fresh) r t → Reads (read_text s 24659) r t
+    pub reads : length s ≤ 16384 → (r : Answered) (t : List ℕ) → Ends (walk s fresh) r t → Reads (read_text s 24659) r t
     reads h r t e =
         subst (λ (d : Reading). Reads d r t) (sym (whole_text s h))
         (reads_parse (parse s) refl r t (subst (λ (w : Walk). Ends w r t) walk_run e))

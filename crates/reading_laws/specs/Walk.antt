@@ -1,6 +1,6 @@
 -- The pass over a text that the code makes: a cursor at the token that is read next, and what the pass has noted and written so far. Each
 -- parser stands beside the grammar's of the same name; these definitions serve the code alone.
-use Rattle.std.specs.Prelude.{ℕ, zero, suc, ◌+◌, ◌-◌, ◌%◌, ◌≡◌, Bool, true, false, List, length, set, eqb, ltb}
+use Rattle.std.specs.Prelude.{ℕ, zero, suc, ◌+◌, ◌-◌, ◌%◌, ◌≡◌, Bool, true, false, List, length, set, eqb, ltb, Ok, Err}
 use Rattle.laws.specs.Choice.{pick}
 use Rattle.words.specs.Words.{legal_contract, assets as assetsWord, fields as fieldsWord, agreement as agreementWord, now_word, true_word, false_word, set_arrow, ok_arrow, value_arrow, asset_arrow, state_arrow, event_mark, equal, unequal, at_most, less, greater, and_mark, or_mark, open_paren, close_paren}
 use Rattle.words.specs.Words.{open_brace, close_brace, open_bracket, close_bracket, comma, colon, at_sign, underscore, plus_mark, minus_mark, times_mark, over_mark, not_mark}
@@ -12,8 +12,7 @@ use Rattle.entries.specs.declared.Known.{Known}
 use Rattle.entries.specs.Draft.{Draft, note, with_notes, with_table, counted, found, declare, mention, number_in, party_used, name_in, holder_in, value_target, asset_target, wanted, put, put_name, put_leaf, clause_party, clause_verb, clause_field, clause_end, clause_count, excess, written, function_count, body_nodes, events_here, head, function_rest, event_row, title, question, place, counts}
 use Rattle.reading.specs.Grammar.{is_one_of, operators, comparisons, item_starts, max_levels}
 use Rattle.reading_laws.specs.Masks.{rows_of, kept_by_masks}
-use Rattle.reading.specs.declared.Answer.{Answer}
-use Rattle.reading.specs.declared.Answer.TheVariants.{Accepted, Refused}
+use Rattle.reading.specs.Reading.{Answered, refusal}
 
 -- kinds of a cursor where no token is: a refusal of 5 to 8, the text's end
 abbrev pub no_token : ℕ
@@ -532,14 +531,14 @@ module _ (s : List ℕ) where
 -- ---- what the whole pass leaves
 
 -- the least finding, or accepted
-unfoldable pub settled_answer : List ℕ → Answer
-settled_answer n = pick (eqb (note n question) 0) Accepted (Refused (note n question % 256) (note n place))
+unfoldable pub settled_answer : List ℕ → Answered
+settled_answer n = pick (eqb (note n question) 0) (Ok tt) (Err (refusal (note n question % 256) (note n place)))
 
 -- the table with its head where there is no finding
 unfoldable pub settled_table : List ℕ → List ℕ → List ℕ
 settled_table n t = pick (eqb (note n question) 0) (counts (word_at t 9) n t) t
 
 -- the answer of a pass, and the table where it is accepted
-unfoldable pub Ends : Walk → Answer → List ℕ → Type 0
+unfoldable pub Ends : Walk → Answered → List ℕ → Type 0
 Ends (on c p) r t = (r ≡ settled_answer p.notes) × (t ≡ settled_table p.notes p.table)
-Ends (stop q o) r t = r ≡ Refused q o
+Ends (stop q o) r t = r ≡ Err (refusal q o)

@@ -1,13 +1,19 @@
 -- `entries::asset_target` meets its contract. Assumes nothing.
-use mathlib.Core.Path.{ap, ◌∙◌}
+use mathlib.Core.Path.{◌∙◌}
 use Rattle.entries.specs.Draft.{asset_target}
-use Rattle.entries.proofs.Uses.{asset_party, asset_holder}
+use Rattle.entries.proofs.Uses.{asset_party, asset_rest}
 use Rattle.entries.proofs.asset_target.Goals as goal
 
-pub returns-then-party-many_of : goal.returns-then-party-many_of
-returns-then-party-many_of c =
-    asset_party _ _ _ _ _ c.number_by-party.ensures c.many_of.ensures.value _ c.if-party-many_of.true ∙ ap (asset_target _ _ _) c.between-word.ensures
+pub returns-in-Some : goal.returns-in-Some
+returns-in-Some c =
+    let x = c.of-name.result in
+    let o = c.of-name.ensures in
+    asset_party x.text.now c.args.notes.now x.word.now _ c.seek.ensures _ _ c.in-Some.is
+    ∙ (λ i. asset_target (o.text_value i) c.args.notes.now c.args.handler (o.word_value i))
 
 pub returns : goal.returns
 returns c =
-    c.holder_by.ensures ∙ asset_holder _ _ _ _ _ c.number_by-party.ensures c.many_of.ensures.value _ c.if-party-many_of.false ∙ ap (asset_target _ _ _) c.between-word.ensures
+    let x = c.of-name.result in
+    let o = c.of-name.ensures in
+    c.holder.ensures ∙ asset_rest x.text.now c.args.notes.now x.word.now _ c.seek.ensures _ c.in_default.is
+    ∙ (λ i. asset_target (o.text_value i) c.args.notes.now c.args.handler (o.word_value i))

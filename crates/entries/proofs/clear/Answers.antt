@@ -1,29 +1,28 @@
--- `entries::clear` meets its contract. The invariant of its loop: all before i is zeros. Assumes nothing.
-use mathlib.Core.Path.{refl, ap, ◌∙◌}
-use Prim.Native.Nat.{◌-◌}
-use native.Mathlib.Omega.{arith}
-use lib.ListN.{length}
-use borrow.Rule.Slice.PartMut.{same_len_mid}
+-- `entries::clear` meets its contract. The invariant of its loop: all before start is zeros. Assumes nothing.
+use Rattle.std.proofs.Common.{◌≡◌, ◌∙◌, ◌+◌, ◌-◌, ◌≤◌, refl, ap, length, replicate, rules, arith}
+use borrow.Rule.Slice.PartMut.{mid_of, same_len_mid}
 use Rattle.contract.proofs.Zeros.{length_zeros}
-use Rattle.entries.proofs.Rows.{clear_none, clear_part, clear_all}
+use Rattle.contract.specs.Encode.{zeros}
+use Rattle.entries.proofs.Rows.{clear_none, clear_part, clear_all, zeros_all}
 use Rattle.entries.proofs.clear.Goals as goal
 
-pub loop-i-init : goal.loop-i-init
-loop-i-init c =
+pub loop-start-init : goal.loop-start-init
+loop-start-init c =
     (omega arith, refl, clear_none c.args.table.now)
 
-pub loop-i-preserved : goal.loop-i-preserved
-loop-i-preserved c =
-    let l = c.loop-i in
-    let e = c.part_end-end.ensures in
-    let k = c.part_end-end.result in
-    let y = c.clear_part.ensures in (
-      omega (arith, l.invariant.1, e.1),
-      same_len_mid l.i (k - l.i) l.table c.clear_part.new.part (ap length y ∙ length_zeros _) ∙ l.invariant.1,
-      clear_part l.i k l.table c.clear_part.new.part (omega (arith, e.0)) e.1 l.invariant.2 y,
+pub loop-start-preserved : goal.loop-start-preserved
+loop-start-preserved c =
+    let l = c.loop-start in
+    let k = l.start + c.min.result in
+    let h : k ≤ length l.table = omega (arith, c.loop-start-test.true) in
+    let f : c.fill.new.self ≡ replicate (length (mid_of l.start (k - l.start) l.table)) 0 = search rules in
+    let y : c.fill.new.self ≡ zeros (length (mid_of l.start (k - l.start) l.table)) = f ∙ zeros_all _ in (
+      omega (arith, l.invariant.1, h),
+      same_len_mid l.start (k - l.start) l.table c.fill.new.self (ap length y ∙ length_zeros _) ∙ l.invariant.1,
+      clear_part l.start k l.table c.fill.new.self (omega arith) h l.invariant.2 y,
     )
 
 pub returns : goal.returns
 returns c =
-    let l = c.loop-i in
-    clear_all l.i (length c.args.table.now) l.table l.invariant.1 (omega (arith, l.invariant.1, c.loop-i-test.false)) l.invariant.0 l.invariant.2
+    let l = c.loop-start in
+    clear_all l.start (length c.args.table.now) l.table l.invariant.1 (omega (arith, l.invariant.1, c.loop-start-test.false)) l.invariant.0 l.invariant.2

@@ -7,7 +7,3 @@ use Rattle.entries.proofs.find_from.Given as goal
 abbrev pub invariant-loop-i : goal.invariant-loop-i
 invariant-loop-i l =
     (l.i ≤ l.many) × (find_from l.text l.notes l.mark l.word l.slot 0 l.many ≡ find_from l.text l.notes l.mark l.word l.slot l.i (l.many - l.i))
-
-abbrev pub decreases-loop-i : goal.decreases-loop-i
-decreases-loop-i l =
-    l.many - l.i

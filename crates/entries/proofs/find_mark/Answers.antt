@@ -22,14 +22,14 @@ pub returns-then-notes-at-2 : goal.returns-then-notes-at-2
 returns-then-notes-at-2 c =
     let a = c.args in
     let l = c.loop-i in
-    let h : l.i < a.many = omega (arith, c.less_one-last.ensures, c.loop-i-test.true) in
+    let h : l.i < a.many = omega (arith, c.saturating_sub-last.ensures, c.loop-i-test.true) in
     skip_one a.notes.now a.mark a.slot a.many l.i l.invariant h c.if-notes-at.false
 
 pub loop-i-preserved : goal.loop-i-preserved
 loop-i-preserved c =
     let a = c.args in
     let l = c.loop-i in
-    let h : l.i + 1 < a.many = omega (arith, c.less_one-last.ensures, c.loop-i-test.true) in
+    let h : l.i + 1 < a.many = omega (arith, c.saturating_sub-last.ensures, c.loop-i-test.true) in
     skip_two a.notes.now a.mark a.slot a.many l.i l.invariant h c.if-notes-at.false c.if-notes-at-2.false
 
 pub returns-then-notes-slot-2 : goal.returns-then-notes-slot-2
@@ -40,7 +40,7 @@ pub returns-else-notes-slot-2 : goal.returns-else-notes-slot-2
 returns-else-notes-slot-2 c =
     let a = c.args in
     let l = c.loop-i in
-    let h : a.many ≤ l.i + 1 = omega (arith, c.less_one-last.ensures, c.loop-i-test.false) in
+    let h : a.many ≤ l.i + 1 = omega (arith, c.saturating_sub-last.ensures, c.loop-i-test.false) in
     skip_end a.notes.now a.mark a.slot a.many (l.i + 1) (skip_one a.notes.now a.mark a.slot a.many l.i l.invariant c.if-i-many.true c.if-notes-slot-2.false) h
 
 pub returns-else-i-many : goal.returns-else-i-many

@@ -1,8 +1,9 @@
 -- `entries::holder` meets its contract. Assumes nothing.
-use mathlib.Core.Path.{ap, ◌∙◌}
+use mathlib.Core.Path.{◌∙◌}
 use Rattle.entries.specs.Draft.{holder_in}
 use Rattle.entries.proofs.holder.Goals as goal
 
 pub returns : goal.returns
 returns c =
-    c.holder_by.ensures ∙ ap (holder_in _ _ _) c.between-word.ensures
+    let o = c.of.ensures in
+    c.holder.ensures ∙ (λ i. holder_in (o.text_value i) c.args.notes.now c.args.handler (o.word_value i))

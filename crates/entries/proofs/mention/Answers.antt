@@ -1,17 +1,24 @@
 -- `entries::mention` meets its contract. Assumes nothing.
+use Rattle.std.proofs.Common.{rules}
 use mathlib.Core.Path.{ap, ◌∙◌}
-use Rattle.entries.specs.Draft.{Draft}
-use Rattle.entries.proofs.Names.{mention_known, mention_new}
+use Rattle.entries.specs.Draft.{Draft, number_in, entered_new}
+use Rattle.entries.proofs.Names.{ends_as, mention_known, mention_new}
 use Rattle.entries.proofs.mention.Goals as goal
 
-pub returns-then-i-many_of : goal.returns-then-i-many_of
-returns-then-i-many_of c =
+pub returns-then-many_of-i : goal.returns-then-many_of-i
+returns-then-many_of-i c =
     let a = c.args in
-    let q = mention_known a.text.now a.table.now a.notes.now a.kind a.start a.end a.place _ _ c.number_of-i.ensures c.many_of.ensures.value c.if-i-many_of.true in
-    record { value = c.number_of-i.ensures; table_value = ap (λ (p : Draft). p.table) q; notes_after = ap (λ (p : Draft). p.notes) q }
+    let o = c.of-name.ensures in
+    let v = c.number-i.ensures ∙ (λ i. number_in (o.text_value i) a.notes.now a.kind (o.word_value i)) in
+    let q = c.enter_new.ensures.value
+    ∙ (λ i. entered_new (o.text_value i) a.kind (o.start_value i) (o.end_value i) a.place (record { table = a.table.now; notes = a.notes.now }))
+    ∙ mention_new a.text.now a.table.now a.notes.now a.kind a.start a.end a.place _ _ v c.many_of.ensures.value c.if-many_of-i.true in
+    record { value = v; table_value = ends_as (ap (λ (p : Draft). p.table) q) (search rules); notes_after = ends_as (ap (λ (p : Draft). p.notes) q) (search rules) }
 
-pub returns : goal.returns
-returns c =
+pub returns-else-many_of-i : goal.returns-else-many_of-i
+returns-else-many_of-i c =
     let a = c.args in
-    let q = mention_new a.text.now a.table.now a.notes.now a.kind a.start a.end a.place _ _ c.number_of-i.ensures c.many_of.ensures.value c.if-i-many_of.false in
-    record { value = c.number_of-i.ensures; table_value = c.enter_new.ensures.table_value ∙ ap (λ (p : Draft). p.table) q; notes_after = c.enter_new.ensures.notes_after ∙ ap (λ (p : Draft). p.notes) q }
+    let o = c.of-name.ensures in
+    let v = c.number-i.ensures ∙ (λ i. number_in (o.text_value i) a.notes.now a.kind (o.word_value i)) in
+    let q = mention_known a.text.now a.table.now a.notes.now a.kind a.start a.end a.place _ _ v c.many_of.ensures.value c.if-many_of-i.false in
+    record { value = v; table_value = ap (λ (p : Draft). p.table) q; notes_after = ap (λ (p : Draft). p.notes) q }

@@ -1,24 +1,34 @@
 -- `entries::name` meets its contract. Assumes nothing.
-use mathlib.Core.Path.{ap, ◌∙◌}
+use mathlib.Core.Path.{◌∙◌}
 use Rattle.entries.specs.Draft.{name_in}
 use Rattle.entries.proofs.Uses.{name_handler, name_value, name_parameter, name_stored}
 use Rattle.entries.proofs.name.Goals as goal
 
 pub returns-then-handler : goal.returns-then-handler
 returns-then-handler c =
-    c.stored_by.ensures ∙ name_handler _ _ _ _ c.if-handler.true ∙ ap (name_in _ _ _) c.between-word.ensures
+    let x = c.of-name.result in
+    let o = c.of-name.ensures in
+    c.stored.ensures ∙ name_handler x.text.now c.args.notes.now x.word.now _ c.if-handler.true
+    ∙ (λ i. name_in (o.text_value i) c.args.notes.now c.args.handler (o.word_value i))
 
-pub returns-then-value-many_of : goal.returns-then-value-many_of
-returns-then-value-many_of c =
-    name_value _ _ _ _ c.if-handler.false _ _ c.number_by-value.ensures c.many_of.ensures.value c.if-value-many_of.true ∙ ap (name_in _ _ _) c.between-word.ensures
+pub returns-in-Some : goal.returns-in-Some
+returns-in-Some c =
+    let x = c.of-name.result in
+    let o = c.of-name.ensures in
+    name_value x.text.now c.args.notes.now x.word.now _ c.if-handler.false _ c.seek.ensures _ c.in-Some.is
+    ∙ (λ i. name_in (o.text_value i) c.args.notes.now c.args.handler (o.word_value i))
 
-pub returns-then-parameter-many_of : goal.returns-then-parameter-many_of
-returns-then-parameter-many_of c =
-    name_parameter _ _ _ _ c.if-handler.false _ _ c.number_by-value.ensures c.many_of.ensures.value _ _ c.if-value-many_of.false c.number_by-parameter.ensures c.many_of-2.ensures.value c.if-parameter-many_of.true
-    ∙ ap (name_in _ _ _) c.between-word.ensures
+pub returns-in-Some-seek : goal.returns-in-Some-seek
+returns-in-Some-seek c =
+    let x = c.of-name.result in
+    let o = c.of-name.ensures in
+    name_parameter x.text.now c.args.notes.now x.word.now _ c.if-handler.false _ c.seek.ensures _ _ c.in_default.is c.seek-2.ensures c.in-Some-seek.is
+    ∙ (λ i. name_in (o.text_value i) c.args.notes.now c.args.handler (o.word_value i))
 
 pub returns : goal.returns
 returns c =
-    c.stored_by-2.ensures
-    ∙ name_stored _ _ _ _ c.if-handler.false _ _ c.number_by-value.ensures c.many_of.ensures.value _ _ c.if-value-many_of.false c.number_by-parameter.ensures c.many_of-2.ensures.value c.if-parameter-many_of.false
-    ∙ ap (name_in _ _ _) c.between-word.ensures
+    let x = c.of-name.result in
+    let o = c.of-name.ensures in
+    c.stored-2.ensures
+    ∙ name_stored x.text.now c.args.notes.now x.word.now _ c.if-handler.false _ c.seek.ensures _ c.in_default.is c.seek-2.ensures c.in_default-seek.is
+    ∙ (λ i. name_in (o.text_value i) c.args.notes.now c.args.handler (o.word_value i))

@@ -1,15 +1,12 @@
 -- `entries::put` meets its contract. Assumes nothing.
-use mathlib.Core.Path.{◌∙◌}
-use Rattle.entries.proofs.put.Goals.{then-before-n, else-before-n}
-use Rattle.entries.proofs.Nodes.{put_more, put_full, size_one}
+use native.Mathlib.Omega.{arith}
+use Rattle.entries.proofs.Nodes.{put_more, put_full}
 use Rattle.entries.proofs.put.Goals as goal
 
-pub returns-after-before-n : goal.returns-after-before-n
-returns-after-before-n c =
+pub returns-then-n-lt-NODES : goal.returns-then-n-lt-NODES
+returns-then-n-lt-NODES c =
     let a = c.args in
-    let p = put_more a.kind a.argument a.before a.table.now a.notes.now _ c.word-n.ensures _ _ _ c.if-n-lt-NODES.true
-    (elim c.if-before-n.branch [ then-before-n w ↦ w.size-is | else-before-n w ↦ w.size-is ∙ size_one _ _ w.if-before-n.false ])
-    c.store_three.ensures c.store.ensures in
+    let p = put_more a.kind a.argument a.before a.table.now a.notes.now _ c.word-n.ensures _ _ _ c.if-n-lt-NODES.true (omega arith) c.store_all.ensures c.store.ensures in
     record { table_value = p.0; notes_after = p.1 }
 
 pub returns-else-n-lt-NODES : goal.returns-else-n-lt-NODES

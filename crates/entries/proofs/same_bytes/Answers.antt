@@ -10,20 +10,19 @@ returns-then-a-b c =
     sym (same_length c.args.a.now c.args.b.now c.if-a-b.true)
 
 pub loop-i-init : goal.loop-i-init
-loop-i-init c =
-    (c.if-a-b.false, refl)
+loop-i-init c = refl
 
 pub loop-i-preserved : goal.loop-i-preserved
 loop-i-preserved c =
     let l = c.loop-i in
-    (l.invariant.0, l.invariant.1 ∙ same_more c.args.a.now c.args.b.now l.i c.loop-i-test.true (omega (arith, l.invariant.0, c.loop-i-test.true)) c.if-a-i.true)
+    l.invariant ∙ same_more c.args.a.now c.args.b.now l.i c.loop-i-test.true (omega (arith, c.if-a-b.false, c.loop-i-test.true)) c.if-a-i.false
 
-pub returns-else-a-i : goal.returns-else-a-i
-returns-else-a-i c =
+pub returns-then-a-i : goal.returns-then-a-i
+returns-then-a-i c =
     let l = c.loop-i in
-    sym (l.invariant.1 ∙ same_other c.args.a.now c.args.b.now l.i c.loop-i-test.true (omega (arith, l.invariant.0, c.loop-i-test.true)) c.if-a-i.false)
+    sym (l.invariant ∙ same_other c.args.a.now c.args.b.now l.i c.loop-i-test.true (omega (arith, c.if-a-b.false, c.loop-i-test.true)) c.if-a-i.true)
 
 pub returns : goal.returns
 returns c =
     let l = c.loop-i in
-    sym (l.invariant.1 ∙ same_all c.args.a.now c.args.b.now l.i c.loop-i-test.false (omega (arith, l.invariant.0, c.loop-i-test.false)))
+    sym (l.invariant ∙ same_all c.args.a.now c.args.b.now l.i c.loop-i-test.false (omega (arith, c.if-a-b.false, c.loop-i-test.false)))

@@ -1,8 +1,15 @@
 -- `entries::use_party` meets its contract. Assumes nothing.
-use Rattle.entries.specs.Draft.{party_used}
+use mathlib.Core.Path.{◌∙◌}
+use Rattle.entries.specs.Draft.{number_in, name_used, party_used}
 use Rattle.entries.proofs.use_party.Goals as goal
 
 pub returns : goal.returns
 unfolding party_used
 returns c =
-    c.use_name.ensures
+    let a = c.args in
+    let o = c.of.ensures in
+    let u = c.use_name.ensures in
+    record {
+      value = u.value ∙ (λ i. number_in (o.text_value i) a.notes.now 0 (o.word_value i));
+      notes_after = u.notes_after ∙ (λ i. name_used (o.text_value i) 0 (o.start_value i) (o.end_value i) a.notes.now);
+    }

@@ -1,20 +1,20 @@
 -- `entries::value_target` meets its contract. Assumes nothing.
 use mathlib.Core.Path.{ap, ◌∙◌}
+use Rattle.std.specs.Prelude.{unwrap_or}
+use Rattle.entries.specs.declared.Known.{Known}
 use Rattle.entries.specs.Draft.{value_target}
-use Rattle.entries.proofs.Uses.{value_party, value_field, value_unknown}
+use Rattle.entries.proofs.Uses.{value_party, value_rest}
 use Rattle.entries.proofs.value_target.Goals as goal
 
-pub returns-then-party-many_of : goal.returns-then-party-many_of
-returns-then-party-many_of c =
-    value_party _ _ _ _ _ c.number_by-party.ensures c.many_of.ensures.value c.if-party-many_of.true ∙ ap (value_target _ _) c.between-word.ensures
-
-pub returns-then-field-many_of : goal.returns-then-field-many_of
-returns-then-field-many_of c =
-    value_field _ _ _ _ _ c.number_by-party.ensures c.many_of.ensures.value _ _ c.if-party-many_of.false c.number_by-field.ensures c.many_of-2.ensures.value c.if-field-many_of.true
-    ∙ ap (value_target _ _) c.between-word.ensures
+pub returns-in-Some : goal.returns-in-Some
+returns-in-Some c =
+    let x = c.of-name.result in
+    let o = c.of-name.ensures in
+    value_party x.text.now c.args.notes.now x.word.now _ c.seek.ensures _ c.in-Some.is ∙ (λ i. value_target (o.text_value i) c.args.notes.now (o.word_value i))
 
 pub returns : goal.returns
 returns c =
-    c.unknown.ensures
-    ∙ value_unknown _ _ _ _ _ c.number_by-party.ensures c.many_of.ensures.value _ _ c.if-party-many_of.false c.number_by-field.ensures c.many_of-2.ensures.value c.if-field-many_of.false
-    ∙ ap (value_target _ _) c.between-word.ensures
+    let x = c.of-name.result in
+    let o = c.of-name.ensures in
+    value_rest x.text.now c.args.notes.now x.word.now _ c.seek.ensures _ _ c.in_default.is c.seek-2.ensures (c.unwrap_or.ensures ∙ ap (λ (u : Known). unwrap_or c.seek-2.result u) c.unknown.ensures)
+    ∙ (λ i. value_target (o.text_value i) c.args.notes.now (o.word_value i))

@@ -5,5 +5,4 @@ use Rattle.entries.proofs.write_packed.Goals as goal
 pub returns : goal.returns
 returns c =
     let a = c.args in
-    packed_written a.table.now _ _ _ a.word.now a.at _ _ _ _ c.eight_bytes-a.ensures c.eight_bytes-b.ensures c.eight_bytes-c.ensures c.eight_bytes.ensures
-    c.store_three.ensures c.store.ensures c.store-2.ensures
+    packed_written a.table.now _ a.word.now a.at _ _ _ _ c.eight_bytes-a.ensures c.eight_bytes-b.ensures c.eight_bytes-c.ensures c.eight_bytes-d.ensures c.store_all.ensures

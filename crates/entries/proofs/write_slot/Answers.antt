@@ -4,5 +4,4 @@ use Rattle.entries.proofs.write_slot.Goals as goal
 
 pub returns : goal.returns
 unfolding slotted
-returns c =
-    c.store_three.ensures
+returns c = c.store_all.ensures

@@ -9,7 +9,7 @@ pub returns-then-stops : goal.returns-then-stops
 unfolding zeros
 returns-then-stops c =
     let s = c.args.text.now in
-    ends_stopped s _ _ _ _ _ _ _ c.contract_text-r.ensures (packed.halts s _ _ c.stops.ensures c.if-stops.true) c.kind_of.ensures c.start_of.ensures
+    ends_stopped s _ _ _ _ _ _ _ _ c.contract_text-r.ensures (packed.halts s _ _ c.stops.ensures c.if-stops.true) c.kind_of.ensures c.start_of.ensures c.by_number.ensures
 
 pub returns : goal.returns
 unfolding zeros

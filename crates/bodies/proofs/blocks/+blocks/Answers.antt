@@ -1,5 +1,9 @@
 -- The parsers of statements and blocks, which call each other, meet their contracts. Assumes nothing.
-use mathlib.Core.Path.{refl, sym, ◌∙◌}
+use Prim.Native.Nat.{ℕ}
+use native.Mathlib.Omega.{arith}
+use lib.ListN.{length}
+use Rattle.cursors.proofs.Turns.{fewer}
+use mathlib.Core.Path.{refl, sym, ◌∙◌, ap}
 use Rattle.reading_laws.specs.Walk as walk
 use Rattle.reading_laws.specs.Walk.{draft}
 use Rattle.cursors.specs.Packed.{cursor_in}
@@ -86,31 +90,28 @@ statement-returns t c =
     blocks.statement_acts z.text.now z.handler z.levels (walk.conditional z.text.now z.handler z.levels) z.from (cursor_in z.text.now z.c) z.table.now z.notes.now _
     (kind_not z.text.now z.c _ _ c.kind_of.ensures c.if-kind_of-eq-OPEN_PAREN.false) (counted_at z.text.now _ z.c _ _ _ c.start_of.ensures c.count.ensures) _ _ _ _ _ _ _ (agrees _ _ _ _ _ _ _ short (c.expression-r.ensures.result_value, (c.expression-r.ensures.table_after, c.expression-r.ensures.notes_after))) (step_in_on z.text.now _ (sym c.stops.ensures ∙ c.if-stops.false)) c.action.ensures
 
-pub statements-loop-left-init : goal.statements-loop-left-init
-statements-loop-left-init t c =
-    (refl, (c.requires.1, (refl, refl)))
-
 pub statements-returns-then-not-is_start : goal.statements-returns-then-not-is_start
 statements-returns-then-not-is_start t c =
     let z = c.args in
-    leaves_step_in _ _ _ _ _ (step_in_on z.text.now _ c.loop-left.invariant.1.0)
-    (blocks.block_ends z.text.now z.handler z.levels (walk.conditional z.text.now z.handler z.levels) z.from _ _ _ _ _ c.loop-left.invariant.0 (starts_is z.text.now _ _ _ _ c.kind_of.ensures c.is_start.ensures (c.if-not-is_start.true)))
+    leaves_step_in _ _ _ _ _ (step_in_on z.text.now _ c.loop.invariant.1.0)
+    (blocks.block_ends z.text.now z.handler z.levels (walk.conditional z.text.now z.handler z.levels) z.from _ _ _ _ _ c.loop.invariant.0 (starts_is z.text.now _ _ _ _ c.kind_of.ensures c.is_start.ensures (c.if-not-is_start.true)))
 
 pub statements-returns-then-stops : goal.statements-returns-then-stops
 statements-returns-then-stops t c =
     let z = c.args in
-    blocks.block_stops z.text.now z.handler z.levels (walk.conditional z.text.now z.handler z.levels) z.from _ _ _ _ _ c.loop-left.invariant.0 _ _ _ _ _ _ _ c.loop-left-test.true
+    blocks.block_stops z.text.now z.handler z.levels (walk.conditional z.text.now z.handler z.levels) z.from _ _ _ _ _ c.loop.invariant.0 _ _ _ _ _ _ _ (omega (arith, c.loop-test.true))
     (starts_is z.text.now _ _ _ _ c.kind_of.ensures c.is_start.ensures (c.if-not-is_start.false)) c.statement-r.ensures (step_in_stop z.text.now _ (sym c.stops.ensures ∙ c.if-stops.true))
 
-pub statements-loop-left-preserved : goal.statements-loop-left-preserved
-statements-loop-left-preserved t c =
+pub statements-loop-preserved : goal.statements-loop-preserved
+statements-loop-preserved t c =
     let z = c.args in
     let go = sym c.stops.ensures ∙ c.if-stops.false in (
-      blocks.block_turn z.text.now z.handler z.levels (walk.conditional z.text.now z.handler z.levels) z.from _ _ _ _ _ c.loop-left.invariant.0 _ _ _ _ c.loop-left-test.true (starts_is z.text.now _ _ _ _ c.kind_of.ensures c.is_start.ensures (c.if-not-is_start.false)) c.statement-r.ensures (step_in_on z.text.now _ go),
-      (go, (c.statement-r.auto.table ∙ c.loop-left.invariant.1.1.0, c.statement-r.auto.notes ∙ c.loop-left.invariant.1.1.1)),
+      ap (λ (k : ℕ). walk.statements z.text.now z.handler z.levels (walk.conditional z.text.now z.handler z.levels) z.from k (cursor_in z.text.now c.statement-r.result) (draft c.statement-r.new.table c.statement-r.new.notes)) (fewer (length c.args.text.now) c.loop.counter)
+          ∙ blocks.block_turn z.text.now z.handler z.levels (walk.conditional z.text.now z.handler z.levels) z.from _ _ _ _ _ c.loop.invariant.0 _ _ _ _ (omega (arith, c.loop-test.true)) (starts_is z.text.now _ _ _ _ c.kind_of.ensures c.is_start.ensures (c.if-not-is_start.false)) c.statement-r.ensures (step_in_on z.text.now _ go),
+      (go, (c.statement-r.auto.table ∙ c.loop.invariant.1.1.0, c.statement-r.auto.notes ∙ c.loop.invariant.1.1.1)),
     )
 
 pub statements-returns : goal.statements-returns
 statements-returns t c =
     let z = c.args in
-    leaves_step_in _ _ _ _ _ (step_in_on z.text.now _ c.loop-left.invariant.1.0) (blocks.block_out z.text.now z.handler z.levels (walk.conditional z.text.now z.handler z.levels) z.from _ _ _ _ _ c.loop-left.invariant.0 c.loop-left-test.false)
+    leaves_step_in _ _ _ _ _ (step_in_on z.text.now _ c.loop.invariant.1.0) (blocks.block_out z.text.now z.handler z.levels (walk.conditional z.text.now z.handler z.levels) z.from _ _ _ _ _ c.loop.invariant.0 (omega (arith, c.loop-test.false)))

@@ -1,5 +1,5 @@
 -- The parsers of statements and blocks, which call each other, meet their contracts. Assumes nothing.
-use Prim.Native.Nat.{◌+◌, ◌*◌}
+use Prim.Native.Nat.{◌+◌, ◌*◌, ◌-◌}
 use mathlib.Core.Path.{◌≡◌}
 use mathlib.Core.Bool.{false}
 use lib.ListN.{length}
@@ -20,9 +20,6 @@ decreases-statement l = l.levels * 4 + 1
 abbrev pub decreases-statements : goal.decreases-statements
 decreases-statements l = l.levels * 4 + 2
 
-abbrev pub invariant-statements-loop-left : goal.invariant-statements-loop-left
-invariant-statements-loop-left l = (walk.statements l.text l.handler l.levels (walk.conditional l.text l.handler l.levels) l.from l.left (cursor_in l.text l.here) (draft l.table l.notes) ≡ walk.statements l.text l.handler l.levels (walk.conditional l.text l.handler l.levels) l.from l.initial.left (cursor_in l.text l.initial.here) (draft l.initial.table l.initial.notes))
+abbrev pub invariant-statements-loop : goal.invariant-statements-loop
+invariant-statements-loop l = (walk.statements l.text l.handler l.levels (walk.conditional l.text l.handler l.levels) l.from (l.end - l.counter) (cursor_in l.text l.here) (draft l.table l.notes) ≡ walk.statements l.text l.handler l.levels (walk.conditional l.text l.handler l.levels) l.from l.end (cursor_in l.text l.initial.here) (draft l.initial.table l.initial.notes))
     × ((is_stop l.here ≡ false) × ((length l.table ≡ length l.initial.table) × (length l.notes ≡ length l.initial.notes)))
-
-abbrev pub decreases-statements-loop-left : goal.decreases-statements-loop-left
-decreases-statements-loop-left l = l.left

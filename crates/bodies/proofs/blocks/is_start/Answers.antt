@@ -5,11 +5,11 @@ use Rattle.bodies.proofs.blocks.is_start.Goals as goal
 
 pub returns-in_default : goal.returns-in_default
 returns-in_default c =
-    sym (starts_low c.args.kind c.in_default.if-kind-lt200-own.true c.in_default.in_default-own.rest.1)
+    sym (starts_low c.args.kind c.in_default.if-matches-own.true c.in_default.in_default-own.rest.1)
 
 pub returns-in_default-2 : goal.returns-in_default-2
 returns-in_default-2 c =
-    sym (starts_high c.args.kind c.in_default.if-kind-lt203-own.false)
+    sym (starts_high c.args.kind c.in_default.if-matches-2-own.false)
 
 pub returns-in-20 : goal.returns-in-20
 returns-in-20 c =
@@ -17,4 +17,4 @@ returns-in-20 c =
 
 pub returns-in-20-2 : goal.returns-in-20-2
 returns-in-20-2 c =
-    sym (starts_range c.args.kind c.in-20.if-kind-lt200-own.false c.in-20.if-kind-lt203-own.true)
+    sym (starts_range c.args.kind c.in-20.if-matches-own.false c.in-20.if-matches-2-own.true)

@@ -1,5 +1,11 @@
 -- `clauses::lists::clauses` meets its contract. Assumes nothing.
-use mathlib.Core.Path.{refl, sym, ◌∙◌}
+use Prim.Native.Nat.{ℕ}
+use native.Mathlib.Omega.{arith}
+use lib.ListN.{length}
+use mathlib.Core.Path.{sym, ap, ◌∙◌}
+use Rattle.reading_laws.specs.Walk as walk
+use Rattle.cursors.specs.Packed.{cursor_in}
+use Rattle.cursors.proofs.Turns.{fewer}
 use Rattle.reading_laws.proofs.AgreesWith.{is_on, went, handed}
 use Rattle.reading_laws.proofs.Listed.{clauses_turn, clauses_refused, clauses_stop, clauses_end}
 use Rattle.cursors.proofs.Packs.{step_in_on, step_in_stop}
@@ -8,22 +14,20 @@ use Rattle.clauses.proofs.lists.clauses.Goals as goal
 
 pub returns-then-kind_of : goal.returns-then-kind_of
 returns-then-kind_of c =
-    is_on _ _ _ _ _ (sym c.loop-left.invariant.0 ∙ clauses_stop _ _ _ _ (kind_not c.args.text.now _ _ _ c.kind_of.ensures c.if-kind_of.true)) (step_in_on c.args.text.now _ c.loop-left.invariant.1.0)
+    is_on _ _ _ _ _ (sym c.loop.invariant.0 ∙ clauses_stop _ _ _ _ (kind_not c.args.text.now _ _ _ c.kind_of.ensures c.if-kind_of.true)) (step_in_on c.args.text.now _ c.loop.invariant.1.0)
 
 pub returns-then-stops : goal.returns-then-stops
 returns-then-stops c =
     handed _ _ _ _ _ _ _ _ _ c.clause-r.ensures (step_in_stop c.args.text.now _ (sym c.stops.ensures ∙ c.if-stops.true))
-    (λ e. sym c.loop-left.invariant.0 ∙ clauses_refused _ _ _ _ _ _ c.loop-left-test.true (kind_is c.args.text.now _ _ _ c.kind_of.ensures c.if-kind_of.false) e)
+    (λ e. sym c.loop.invariant.0 ∙ clauses_refused _ _ _ _ _ _ (omega (arith, c.loop-test.true)) (kind_is c.args.text.now _ _ _ c.kind_of.ensures c.if-kind_of.false) e)
 
-pub loop-left-preserved : goal.loop-left-preserved
-loop-left-preserved c = (
-  clauses_turn _ _ _ _ _ _ c.loop-left-test.true (kind_is c.args.text.now _ _ _ c.kind_of.ensures c.if-kind_of.false) (went _ _ _ _ _ c.clause-r.ensures (step_in_on c.args.text.now _ (sym c.stops.ensures ∙ c.if-stops.false))) ∙ c.loop-left.invariant.0,
-  ((sym c.stops.ensures ∙ c.if-stops.false), (c.clause-r.auto.table ∙ c.loop-left.invariant.1.1.0, c.clause-r.auto.notes ∙ c.loop-left.invariant.1.1.1)),
+pub loop-preserved : goal.loop-preserved
+loop-preserved c = (
+  ap (λ (k : ℕ). walk.clauses c.args.text.now k (cursor_in c.args.text.now c.clause-r.result) (walk.draft c.clause-r.new.table c.clause-r.new.notes)) (fewer (length c.args.text.now) c.loop.counter)
+      ∙ clauses_turn _ _ _ _ _ _ (omega (arith, c.loop-test.true)) (kind_is c.args.text.now _ _ _ c.kind_of.ensures c.if-kind_of.false) (went _ _ _ _ _ c.clause-r.ensures (step_in_on c.args.text.now _ (sym c.stops.ensures ∙ c.if-stops.false))) ∙ c.loop.invariant.0,
+  ((sym c.stops.ensures ∙ c.if-stops.false), (c.clause-r.auto.table ∙ c.loop.invariant.1.1.0, c.clause-r.auto.notes ∙ c.loop.invariant.1.1.1)),
 )
 
 pub returns : goal.returns
 returns c =
-    is_on _ _ _ _ _ (sym c.loop-left.invariant.0 ∙ clauses_end _ _ _ _ c.loop-left-test.false) (step_in_on c.args.text.now _ c.loop-left.invariant.1.0)
-
-pub loop-left-init : goal.loop-left-init
-loop-left-init c = (refl, (c.requires.1, (refl, refl)))
+    is_on _ _ _ _ _ (sym c.loop.invariant.0 ∙ clauses_end _ _ _ _ (omega (arith, c.loop-test.false))) (step_in_on c.args.text.now _ c.loop.invariant.1.0)

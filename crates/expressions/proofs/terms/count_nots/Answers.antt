@@ -1,5 +1,9 @@
 -- `expressions::terms::count_nots` meets its contract. Assumes nothing.
-use mathlib.Core.Path.{refl, ◌∙◌}
+use Prim.Native.Nat.{ℕ}
+use native.Mathlib.Omega.{arith}
+use lib.ListN.{length}
+use mathlib.Core.Path.{◌≡◌, refl, ap, ◌∙◌}
+use Rattle.reading_laws.specs.Walk.{draft}
 use Rattle.cursors.specs.Packed.{cursor_in}
 use Rattle.reading_laws.proofs.Operators.{nots_begin, nots_stop, nots_end}
 use Rattle.expressions.proofs.PackedTerms.{another}
@@ -35,7 +39,9 @@ pub returns : goal.returns
 returns c =
     let z = c.args in
     let l = c.loop-many in
+    let all : l.many ≡ length z.text.now = omega (arith, c.loop-many-test.false, l.auto.many-end) in
     record {
       goes = l.invariant.1;
-      same = nots_end z.text.now z.notes.now (cursor_in z.text.now z.c) l.notes (cursor_in z.text.now l.here) l.many l.invariant.0 c.loop-many-test.false;
+      same = λ t go. nots_end z.text.now z.notes.now (cursor_in z.text.now z.c) l.notes (cursor_in z.text.now l.here) l.many l.invariant.0 c.loop-many-test.false t go
+          ∙ ap (λ (k : ℕ). go k (cursor_in z.text.now l.here) (draft t l.notes)) all;
     }

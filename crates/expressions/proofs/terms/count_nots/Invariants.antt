@@ -2,7 +2,6 @@
 use mathlib.Core.Path.{◌≡◌}
 use mathlib.Core.Bool.{false}
 use lib.ListN.{length}
-use Prim.Native.Nat.{◌-◌}
 use Rattle.cursors.specs.Packed.{is_stop, cursor_in}
 use Rattle.reading_laws.proofs.Operators.{NotsLeft}
 use Rattle.expressions.proofs.terms.count_nots.Given as goal
@@ -10,6 +9,3 @@ use Rattle.expressions.proofs.terms.count_nots.Given as goal
 abbrev pub invariant-loop-many : goal.invariant-loop-many
 invariant-loop-many l =
     NotsLeft l.text l.initial.notes (cursor_in l.text l.initial.here) l.notes (cursor_in l.text l.here) l.many × (is_stop l.here ≡ false) × (length l.notes ≡ length l.initial.notes)
-
-abbrev pub decreases-loop-many : goal.decreases-loop-many
-decreases-loop-many l = length l.text - l.many

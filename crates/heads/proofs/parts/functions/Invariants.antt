@@ -1,4 +1,5 @@
 -- `heads::parts::functions` meets its contract. Assumes nothing.
+use Prim.Native.Nat.{◌-◌}
 use mathlib.Core.Path.{◌≡◌}
 use mathlib.Core.Bool.{false}
 use lib.ListN.{length}
@@ -7,11 +8,7 @@ use Rattle.reading_laws.specs.Walk.{draft}
 use Rattle.cursors.specs.Packed.{is_stop, cursor_in}
 use Rattle.heads.proofs.parts.functions.Given as goal
 
-abbrev pub invariant-loop-left : goal.invariant-loop-left
-invariant-loop-left l =
-    (walk.functions l.text l.left (cursor_in l.text l.here) (draft l.table l.notes) ≡ walk.functions l.text l.initial.left (cursor_in l.text l.initial.here) (draft l.initial.table l.initial.notes)) ×
+abbrev pub invariant-loop : goal.invariant-loop
+invariant-loop l =
+    (walk.functions l.text (l.end - l.counter) (cursor_in l.text l.here) (draft l.table l.notes) ≡ walk.functions l.text l.end (cursor_in l.text l.initial.here) (draft l.initial.table l.initial.notes)) ×
     (((length l.table ≡ length l.initial.table) × (length l.notes ≡ length l.initial.notes)) × (is_stop l.here ≡ false))
-
-abbrev pub decreases-loop-left : goal.decreases-loop-left
-decreases-loop-left l =
-    l.left

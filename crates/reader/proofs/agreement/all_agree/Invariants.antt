@@ -6,6 +6,3 @@ use Rattle.reader.proofs.agreement.all_agree.Given as goal
 
 abbrev pub invariant-loop-i : goal.invariant-loop-i
 invariant-loop-i l = Left (every (agrees_by_mask (rows_of l.table l.clauses))) (row_of l.table) l.clauses l.i l.all
-
-abbrev pub decreases-loop-i : goal.decreases-loop-i
-decreases-loop-i l = l.i

@@ -5,6 +5,3 @@ use Rattle.reader.proofs.agreement.fields_set.Given as goal
 
 abbrev pub invariant-loop-i : goal.invariant-loop-i
 invariant-loop-i l = Left (field_mask l.party) (row_of l.table) l.clauses l.i l.mask
-
-abbrev pub decreases-loop-i : goal.decreases-loop-i
-decreases-loop-i l = l.i

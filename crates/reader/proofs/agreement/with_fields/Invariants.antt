@@ -8,6 +8,3 @@ use Rattle.reader.proofs.agreement.with_fields.Given as goal
 abbrev pub invariant-loop-j : goal.invariant-loop-j
 invariant-loop-j l =
     Left (with_all l.start) (λ k. clause_word l.table l.i (3 + k)) (clause_word l.table l.i 2) l.j l.mask
-
-abbrev pub decreases-loop-j : goal.decreases-loop-j
-decreases-loop-j l = l.j

@@ -1,0 +1,10 @@
+-- `entries::store_all` meets its contract. Assumes nothing.
+use mathlib.Core.Path.{◌≡◌}
+use Prim.Native.Nat.{◌+◌}
+use lib.ListN.{drop}
+use lib.Seq.{sets}
+use Rattle.entries.proofs.store_all.Given as goal
+
+abbrev pub invariant-loop-k : goal.invariant-loop-k
+invariant-loop-k l =
+    sets l.words (l.i + l.k) (drop l.k l.values) ≡ sets l.initial.words l.i l.values
