@@ -13,6 +13,7 @@ use lib.Bits.{bit_or}
 use lib.Dec.{eqb, leb}
 use lib.Pow.{shl_exact}
 use borrow.Author.Tests.{eq-eqb, ne_eqb, eqb-true, leb-true, leb-false}
+use Rattle.questions.specs.declared.Question.TheVariants as ask
 use Rattle.laws.specs.Choice.{pick}
 use Rattle.laws.specs.Bytes.{same_bytes}
 use Rattle.laws.proofs.Choice.{pick_true, pick_false, true_false}
@@ -500,12 +501,12 @@ agreed_in_row c (k ∷ ks) line (suc n) parts spans values s e =
 
 -- ---- the step
 module _ (c : Contract) (s : State) (ps : List Part) where
-  pub agree_twice : s.agreed ≡ true → refused s 21 ≡ agreed_on c s ps
+  pub agree_twice : s.agreed ≡ true → refused s ask.NotAgreed ≡ agreed_on c s ps
   unfolding agreed_on
   agree_twice e = sym (pick_true s.agreed _ _ e)
 
   module _ (e : s.agreed ≡ false) where
-    pub agree_others : same_clauses c c.clauses ps ≡ false → refused s 23 ≡ agreed_on c s ps
+    pub agree_others : same_clauses c c.clauses ps ≡ false → refused s ask.SameClauses ≡ agreed_on c s ps
     unfolding agreed_on
     agree_others f = sym (pick_false s.agreed _ _ e ∙ pick_false _ _ _ f)
 
@@ -514,7 +515,7 @@ module _ (c : Contract) (s : State) (ps : List Part) where
       unfolding same_map
       by_map = ap (λ (b : Bool). eqb (fields_of tree.set c.clauses) (fields_of tree.ok c.clauses) && b) (ap (λ (x : State). agreed_clauses x c.clauses ps) (sym q) ∙ g)
 
-      pub agree_differ : same_by t c.clauses zs ≡ false → refused s 24 ≡ agreed_on c s ps
+      pub agree_differ : same_by t c.clauses zs ≡ false → refused s ask.SameValues ≡ agreed_on c s ps
       unfolding agreed_on
       agree_differ h = sym (pick_false s.agreed _ _ e ∙ pick_true _ _ _ f ∙ pick_false _ _ _ (by_map ∙ h))
 

@@ -3,6 +3,7 @@ use Rattle.std.specs.Prelude.{ℕ, zero, suc, ◌*◌, ◌^◌, Bool, true, fals
 use Rattle.std.specs.Int.Bits.{bit_or}
 use Rattle.laws.specs.Choice.{pick}
 use Rattle.laws.specs.Bytes.{same_bytes}
+use Rattle.questions.specs.declared.Question.TheVariants as ask
 use Rattle.numbers.specs.Numbers.{eq_z}
 use Rattle.tokens.specs.Tokens.{between}
 use Rattle.contract.specs.Tree.{Word, Verb, ok, Clause, Contract}
@@ -124,13 +125,13 @@ same_map s ks ps = eqb (fields_of tree.set ks) (fields_of ok ks) && agreed_claus
 -- 21, 23, 24
 unfoldable pub agreed_on : Contract → State → List Part → Stepped
 agreed_on c s ps =
-    pick s.agreed (refused s 21)
+    pick s.agreed (refused s ask.NotAgreed)
     (pick (same_clauses c c.clauses ps)
     (pick (same_map s c.clauses ps)
     (answered (Accepted Agree) (opened (set_clauses s c.clauses ps) c.initial))
-    (refused s 24))
-    (refused s 23))
+    (refused s ask.SameValues))
+    (refused s ask.SameClauses))
 
 -- 3, then the agreement on the table's contract
 unfoldable pub agreed_in : List ℕ → State → List Part → Stepped
-agreed_in w s ps = pick (passes w) (agreed_on (contract_of w) s ps) (refused s 3)
+agreed_in w s ps = pick (passes w) (agreed_on (contract_of w) s ps) (refused s ask.TableCheck)

@@ -14,20 +14,14 @@ ghost use Rattle.agreements.specs.Private.{verb_of, part_at, set_part, set_by, a
 
 use contract::Contract;
 use outcomes::{Outcome, Rule, Stepped};
+use questions::Question;
 use state::State;
 
-// Number i, and 0 where there is none.
-fn number_at(s: &[usize], i: usize) -> usize
-    ensures { result ≡ get_or s.now i 0 }
+// Item i, or what stands past the end.
+fn item<T: Copy>(s: &[T], i: usize, none: T) -> T
+    ensures { result ≡ get_or s.now i none }
 {
-    if i < s.len() { s[i] } else { 0 }
-}
-
-// Integer i, and 0 where there is none.
-fn integer_at(s: &[i64], i: usize) -> i64
-    ensures { result ≡ get_or s.now i (pos 0) }
-{
-    if i < s.len() { s[i] } else { 0 }
+    s.get(i).copied().unwrap_or(none)
 }
 
 // Whether the name whose length stands at o is the part of the line from a up to, not including, e.
@@ -41,10 +35,7 @@ fn named(table: &[u64], o: usize, line: &[u8], a: usize, e: usize) -> bool
 fn same_verb(a: usize, b: usize) -> bool
     ensures { result ≡ same_verb (verb_of a) (verb_of b) }
 {
-    if a == 0 {
-        return b == 0;
-    }
-    b != 0
+    if a == 0 { b == 0 } else { b != 0 }
 }
 
 // Whether the fields of clause i are those that the line names from field `at` on.
@@ -54,19 +45,16 @@ fn same_fields(table: &[u64], i: usize, line: &[u8], spans: &[usize], at: usize)
 {
     let c = contract::clause_at(table, i);
     let n = c.fields;
-    let mut j: usize = 0;
-    while j < n {
+    for j in 0..n {
         let from = (at + j) * 2;
         let o = contract::FIELDS + contract::clause_field(table, i, j) * contract::NAME_WORDS;
-        if named(
+        if !named(
             table,
             o,
             line,
-            number_at(spans, from),
-            number_at(spans, from + 1),
+            item(spans, from, 0),
+            item(spans, from + 1, 0),
         ) {
-            j += 1;
-        } else {
             return false;
         }
     }
@@ -88,21 +76,21 @@ fn same_clause(
 {
     let c = contract::clause_at(table, i);
     let p = i * 4;
-    if number_at(parts, p + 3) != c.fields {
+    if item(parts, p + 3, 0) != c.fields {
         return false;
     }
     if values.len() < at + c.fields {
         return false;
     }
-    if !same_verb(c.verb, number_at(parts, p + 2)) {
+    if !same_verb(c.verb, item(parts, p + 2, 0)) {
         return false;
     }
     if named(
         table,
         contract::PARTIES + c.party * contract::NAME_WORDS,
         line,
-        number_at(parts, p),
-        number_at(parts, p + 1),
+        item(parts, p, 0),
+        item(parts, p + 1, 0),
     ) {
         return same_fields(table, i, line, spans, at);
     }
@@ -126,15 +114,12 @@ fn same_clauses(
         return false;
     }
     let mut at: usize = 0;
-    let mut i: usize = 0;
-    while i < count {
-        if same_clause(table, i, line, parts, spans, values, at) {
-            let c = contract::clause_at(table, i);
-            at += c.fields;
-            i += 1;
-        } else {
+    for i in 0..count {
+        if !same_clause(table, i, line, parts, spans, values, at) {
             return false;
         }
+        let c = contract::clause_at(table, i);
+        at += c.fields;
     }
     (parts.len() <= count * 4) & ((spans.len() <= at * 2) & (values.len() <= at))
 }
@@ -146,13 +131,9 @@ fn with_integer(s: State, x: usize, z: i64) -> State
     if Contract::FIELDS <= x {
         return s;
     }
-    let mut kinds = s.kinds;
-    kinds[x] = 1;
-    let mut numbers = s.numbers;
-    numbers[x] = z;
     let mut next = s;
-    next.kinds = kinds;
-    next.numbers = numbers;
+    next.kinds[x] = 1;
+    next.numbers[x] = z;
     next
 }
 
@@ -164,8 +145,7 @@ fn set_fields(table: &[u64], s: State, i: usize, values: &[i64], at: usize) -> S
     let c = contract::clause_at(table, i);
     let n = c.fields;
     let mut next = s;
-    let mut j: usize = 0;
-    while j < n {
+    for j in 0..n {
         let k = at + j;
         if values.len() <= k {
             return next;
@@ -173,9 +153,8 @@ fn set_fields(table: &[u64], s: State, i: usize, values: &[i64], at: usize) -> S
         next = with_integer(
             next,
             contract::clause_field(table, i, j),
-            integer_at(values, k),
+            item(values, k, 0),
         );
-        j += 1;
     }
     next
 }
@@ -200,20 +179,12 @@ fn set_clauses(table: &[u64], s: State, values: &[i64]) -> State
     let count = h.clauses;
     let mut next = s;
     let mut at: usize = 0;
-    let mut i: usize = 0;
-    while i < count {
+    for i in 0..count {
         next = set_clause(table, next, i, values, at);
         let c = contract::clause_at(table, i);
         at += c.fields;
-        i += 1;
     }
     next
-}
-
-fn same_integer(a: i64, b: i64) -> bool
-    ensures { result ≡ eq_z a b }
-{
-    a == b
 }
 
 // Whether field x has this integer.
@@ -228,7 +199,7 @@ fn has_integer(s: State, x: usize, z: i64) -> bool
         return false;
     }
     let numbers = s.numbers;
-    same_integer(integer_at(&numbers, x), z)
+    item(&numbers, x, 0) == z
 }
 
 // Whether the fields of clause i have the values from `at` on.
@@ -238,19 +209,12 @@ fn agreed_fields(table: &[u64], s: State, i: usize, values: &[i64], at: usize) -
 {
     let c = contract::clause_at(table, i);
     let n = c.fields;
-    let mut j: usize = 0;
-    while j < n {
+    for j in 0..n {
         let k = at + j;
         if values.len() <= k {
             return true;
         }
-        if has_integer(
-            s,
-            contract::clause_field(table, i, j),
-            integer_at(values, k),
-        ) {
-            j += 1;
-        } else {
+        if !has_integer(s, contract::clause_field(table, i, j), item(values, k, 0)) {
             return false;
         }
     }
@@ -276,15 +240,12 @@ fn agreed_clauses(table: &[u64], s: State, values: &[i64]) -> bool
     let h = contract::head(table);
     let count = h.clauses;
     let mut at: usize = 0;
-    let mut i: usize = 0;
-    while i < count {
-        if agreed_clause(table, s, i, values, at) {
-            let c = contract::clause_at(table, i);
-            at += c.fields;
-            i += 1;
-        } else {
+    for i in 0..count {
+        if !agreed_clause(table, s, i, values, at) {
             return false;
         }
+        let c = contract::clause_at(table, i);
+        at += c.fields;
     }
     true
 }
@@ -295,9 +256,7 @@ fn fields_in(table: &[u64], i: usize) -> u64
     ensures { result ≡ fields_in (clause_at table.now i).fields }
 {
     let mut mask: u64 = 0;
-    let mut j = contract::clause_at(table, i).fields;
-    while 0 < j {
-        j -= 1;
+    for j in (0..contract::clause_at(table, i).fields).rev() {
         mask = mask | (1 << contract::clause_field(table, i, j));
     }
     mask
@@ -309,9 +268,7 @@ fn fields_of(table: &[u64], verb: usize) -> u64
     ensures { result ≡ fields_of (verb_of verb) (contract_of table.now).clauses }
 {
     let mut mask: u64 = 0;
-    let mut i = contract::head(table).clauses;
-    while 0 < i {
-        i -= 1;
+    for i in (0..contract::head(table).clauses).rev() {
         let c = contract::clause_at(table, i);
         if !same_verb(verb, c.verb) {
             continue;
@@ -345,14 +302,14 @@ fn agree_on_contract(
     ensures { result ≡ agreed_on (contract_of table.now) s (parts_in line.now (length parts.now / 4) parts.now spans.now values.now) }
 {
     if s.agreed {
-        return outcomes::refuse(s, questions::NOT_AGREED);
+        return outcomes::refuse(s, Question::NotAgreed);
     }
     if !same_clauses(table, line, parts, spans, values) {
-        return outcomes::refuse(s, questions::SAME_CLAUSES);
+        return outcomes::refuse(s, Question::SameClauses);
     }
     let set = set_clauses(table, s, values);
     if !same_map(table, set, values) {
-        return outcomes::refuse(s, questions::SAME_VALUES);
+        return outcomes::refuse(s, Question::SameValues);
     }
     let h = contract::head(table);
     let mut next = set;
@@ -375,5 +332,5 @@ pub fn agree_on(
     if tables::table_passes(table) {
         return agree_on_contract(table, s, line, parts, spans, values);
     }
-    outcomes::refuse(s, questions::TABLE_CHECK)
+    outcomes::refuse(s, Question::TableCheck)
 }

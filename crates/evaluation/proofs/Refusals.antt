@@ -5,15 +5,14 @@ use mathlib.Core.Bool.{Bool, true, false, ◌&&◌}
 use mathlib.Core.Logic.{◌⊎◌, inl, inr}
 use Prim.Native.Nat.{ℕ}
 use lib.IntN.{ℤ}
+use Rattle.std.specs.Prelude.{Ok, Err}
 use Rattle.laws.proofs.Choice.{by_cases, true_false}
 use Rattle.laws.proofs.Truths.{both_left, both_right}
-use Rattle.numbers.specs.Numbers.{in_range, divided, arithmetic, applied, integers, strings, compared}
+use Rattle.questions.specs.declared.Question.{Question}
+use Rattle.questions.specs.declared.Question.TheVariants as ask
+use Rattle.numbers.specs.Numbers.{Answer, Truth, in_range, divided, arithmetic, applied, integers, strings, compared}
 use Rattle.numbers.specs.declared.Value.{Value}
 use Rattle.numbers.specs.declared.Value.TheVariants.{Integer, Text}
-use Rattle.numbers.specs.declared.Answer.{Answer}
-use Rattle.numbers.specs.declared.Answer.TheVariants as answer
-use Rattle.numbers.specs.declared.Truth.{Truth}
-use Rattle.numbers.specs.declared.Truth.TheVariants as truth
 use Rattle.numbers.specs.declared.Operator.{Operator}
 use Rattle.numbers.specs.declared.Operator.TheVariants.{Plus, Minus, Times, Over}
 use Rattle.numbers.specs.declared.Comparison.{Comparison}
@@ -24,15 +23,15 @@ use Rattle.contract.specs.Fits.{Scope, expression_in, condition_in}
 use Rattle.evaluation.specs.Memory.{Memory}
 use Rattle.evaluation.specs.Meaning.{field_value, joined, value_of, comparison, negated, conjunction, disjunction, truth_of}
 
-abbrev pub AnswerRefuses : (ℕ → Type 0) → Answer → Type 0
-AnswerRefuses P (answer.Is v) = Unit {0}
-AnswerRefuses P (answer.Refused n) = P n
+abbrev pub AnswerRefuses : (Question → Type 0) → Answer → Type 0
+AnswerRefuses P (Ok v) = Unit {0}
+AnswerRefuses P (Err q) = P q
 
-abbrev pub TruthRefuses : (ℕ → Type 0) → Truth → Type 0
-TruthRefuses P (truth.Holds b) = Unit {0}
-TruthRefuses P (truth.Refused n) = P n
+abbrev pub TruthRefuses : (Question → Type 0) → Truth → Type 0
+TruthRefuses P (Ok b) = Unit {0}
+TruthRefuses P (Err q) = P q
 
-module _ (P : ℕ → Type 0) (p30 : P 30) (p31 : P 31) (p32 : P 32) (p33 : P 33) where
+module _ (P : Question → Type 0) (p30 : P ask.FieldValue) (p31 : P ask.OperandKind) (p32 : P ask.ResultRange) (p33 : P ask.Divisor) where
   range : (z : ℤ) → AnswerRefuses P (in_range z)
   unfolding in_range
   range z = by_cases (AnswerRefuses P) _ _ _ (λ _. tt) (λ _. p32)
@@ -50,9 +49,9 @@ module _ (P : ℕ → Type 0) (p30 : P 30) (p31 : P 31) (p32 : P 32) (p33 : P 33
   both_values o (Text m) b = p31
 
   both_answers : (o : Operator) (a b : Answer) → AnswerRefuses P a → AnswerRefuses P b → AnswerRefuses P (joined o a b)
-  both_answers o (answer.Refused n) y g h = g
-  both_answers o (answer.Is a) (answer.Refused n) g h = h
-  both_answers o (answer.Is a) (answer.Is b) g h = both_values o a b
+  both_answers o (Err q) y g h = g
+  both_answers o (Ok a) (Err q) g h = h
+  both_answers o (Ok a) (Ok b) g h = both_values o a b
 
   integer_order : (c : Comparison) (a b : ℤ) → TruthRefuses P (integers c a b)
   integer_order Equal a b = tt
@@ -77,34 +76,34 @@ module _ (P : ℕ → Type 0) (p30 : P 30) (p31 : P 31) (p32 : P 32) (p33 : P 33
   value_order c (Text m) (Integer b) = p31
 
   answer_order : (c : Comparison) (a b : Answer) → AnswerRefuses P a → AnswerRefuses P b → TruthRefuses P (comparison c a b)
-  answer_order c (answer.Refused n) y g h = g
-  answer_order c (answer.Is a) (answer.Refused n) g h = h
-  answer_order c (answer.Is a) (answer.Is b) g h = value_order c a b
+  answer_order c (Err q) y g h = g
+  answer_order c (Ok a) (Err q) g h = h
+  answer_order c (Ok a) (Ok b) g h = value_order c a b
 
   turned : (a : Truth) → TruthRefuses P a → TruthRefuses P (negated a)
-  turned (truth.Holds a) g = tt
-  turned (truth.Refused n) g = g
+  turned (Ok a) g = tt
+  turned (Err q) g = g
 
   and : (a b : Truth) → TruthRefuses P a → TruthRefuses P b → TruthRefuses P (conjunction a b)
-  and (truth.Holds true) y g h = h
-  and (truth.Holds false) y g h = tt
-  and (truth.Refused n) y g h = g
+  and (Ok true) y g h = h
+  and (Ok false) y g h = tt
+  and (Err q) y g h = g
 
   or : (a b : Truth) → TruthRefuses P a → TruthRefuses P b → TruthRefuses P (disjunction a b)
-  or (truth.Holds true) y g h = tt
-  or (truth.Holds false) y g h = h
-  or (truth.Refused n) y g h = g
+  or (Ok true) y g h = tt
+  or (Ok false) y g h = h
+  or (Err q) y g h = g
 
-  left : (a b : Bool) → P 3 ⊎ ((a && b) ≡ true) → P 3 ⊎ (a ≡ true)
+  left : (a b : Bool) → P ask.TableCheck ⊎ ((a && b) ≡ true) → P ask.TableCheck ⊎ (a ≡ true)
   left a b (inl p) = inl p
   left a b (inr i) = inr (both_left a b i)
 
-  right : (a b : Bool) → P 3 ⊎ ((a && b) ≡ true) → P 3 ⊎ (b ≡ true)
+  right : (a b : Bool) → P ask.TableCheck ⊎ ((a && b) ≡ true) → P ask.TableCheck ⊎ (b ≡ true)
   right a b (inl p) = inl p
   right a b (inr i) = inr (both_right a b i)
 
   module _ (c : Scope) (m : Memory) where
-    pub value_refuses : (e : Expression) → P 3 ⊎ (expression_in c e ≡ true) → AnswerRefuses P (value_of m e)
+    pub value_refuses : (e : Expression) → P ask.TableCheck ⊎ (expression_in c e ≡ true) → AnswerRefuses P (value_of m e)
     unfolding value_of field_value expression_in
     value_refuses (tree.constant n) i = range _
     value_refuses (tree.string n) i = tt
@@ -118,7 +117,7 @@ module _ (P : ℕ → Type 0) (p30 : P 30) (p31 : P 31) (p32 : P 32) (p33 : P 33
     value_refuses tree.broken_expression (inl p) = p
     value_refuses tree.broken_expression (inr i) = true_false (sym i)
 
-    pub truth_refuses : (t : Condition) → P 3 ⊎ (condition_in c t ≡ true) → TruthRefuses P (truth_of m t)
+    pub truth_refuses : (t : Condition) → P ask.TableCheck ⊎ (condition_in c t ≡ true) → TruthRefuses P (truth_of m t)
     unfolding truth_of condition_in
     truth_refuses (tree.truth b) i = tt
     truth_refuses (tree.compare o a b) i =

@@ -1,11 +1,11 @@
--- A condition is refused by question n exactly if a comparison that is worked out in it is, or a broken part; else it is what plain logic
+-- A condition is refused by question q exactly if a comparison that is worked out in it is, or a broken part; else it is what plain logic
 -- says. Assumes nothing.
 use mathlib.Core.Path.{◌≡◌, refl, sym, ap, subst, ◌∙◌}
 use mathlib.Core.Logic.{◌↔◌}
 use mathlib.Core.Bool.{Bool, true, false, not, ◌&&◌, ◌||◌}
-use Prim.Native.Nat.{ℕ}
-use Rattle.numbers.specs.declared.Truth.{Truth}
-use Rattle.numbers.specs.declared.Truth.TheVariants.{Holds, Refused}
+use Rattle.std.specs.Prelude.{Ok, Err}
+use Rattle.questions.specs.declared.Question.{Question}
+use Rattle.numbers.specs.Numbers.{Truth}
 use Rattle.numbers.specs.declared.Comparison.{Comparison}
 use Rattle.numbers.proofs.Answers.{undecided}
 use Rattle.contract.specs.Tree.{Expression, Condition, truth, compare, negation, both, either, broken_condition}
@@ -15,7 +15,7 @@ use Rattle.evaluation.specs.Sides.{WorkedOut, itself, in_negation, left_of_and, 
 
 module _ (m : Memory) where
   -- what refuses a part that is worked out refuses the whole
-  refused_in : {d c : Condition} {n : ℕ} → WorkedOut m d c → truth_of m d ≡ Refused n → truth_of m c ≡ Refused n
+  refused_in : {d c : Condition} {q : Question} → WorkedOut m d c → truth_of m d ≡ Err q → truth_of m c ≡ Err q
   unfolding truth_of
   refused_in itself e = e
   refused_in (in_negation u) e = ap negated (refused_in u e)
@@ -24,44 +24,44 @@ module _ (m : Memory) where
   refused_in (left_of_or {b = b} u) e = ap (λ (t : Truth). disjunction t (truth_of m b)) (refused_in u e)
   refused_in (right_of_or {b = b} q u) e = ap (λ (t : Truth). disjunction t (truth_of m b)) q ∙ refused_in u e
 
-  refused_of : {c : Condition} {n : ℕ} → RefusedBy m c n → truth_of m c ≡ Refused n
+  refused_of : {c : Condition} {q : Question} → RefusedBy m c q → truth_of m c ≡ Err q
   unfolding truth_of
   refused_of (at_comparison u e) = refused_in u e
   refused_of (at_broken u) = refused_in u refl
 
   -- where all that is worked out in d is worked out in c, what refuses d refuses c
-  refused_through : {c d : Condition} {n : ℕ} → ((x : Condition) → WorkedOut m x d → WorkedOut m x c) → RefusedBy m d n → RefusedBy m c n
+  refused_through : {c d : Condition} {q : Question} → ((x : Condition) → WorkedOut m x d → WorkedOut m x c) → RefusedBy m d q → RefusedBy m c q
   refused_through f (at_comparison u e) = at_comparison (f _ u) e
   refused_through f (at_broken u) = at_broken (f _ u)
 
   -- how a condition comes out
   data Comes (c : Condition) : Truth → Type 0 where
-    refuses : {n : ℕ} → RefusedBy m c n → Comes c (Refused n)
-    gives : {h : Bool} → plainly m c ≡ h → Comes c (Holds h)
+    refuses : {q : Question} → RefusedBy m c q → Comes c (Err q)
+    gives : {h : Bool} → plainly m c ≡ h → Comes c (Ok h)
 
   of_comparison : (o : Comparison) (a b : Expression) (t : Truth) → comparison o (value_of m a) (value_of m b) ≡ t → Comes (compare o a b) t
   unfolding plainly
-  of_comparison o a b (Holds h) e = gives (ap is_true e)
-  of_comparison o a b (Refused n) e = refuses (at_comparison itself e)
+  of_comparison o a b (Ok h) e = gives (ap is_true e)
+  of_comparison o a b (Err q) e = refuses (at_comparison itself e)
 
   of_negation : (a : Condition) (t : Truth) → Comes a t → Comes (negation a) (negated t)
   unfolding plainly
-  of_negation a (Holds h) (gives p) = gives (ap not p)
-  of_negation a (Refused n) (refuses r) = refuses (refused_through (λ x u. in_negation u) r)
+  of_negation a (Ok h) (gives p) = gives (ap not p)
+  of_negation a (Err q) (refuses r) = refuses (refused_through (λ x u. in_negation u) r)
 
   of_and : (a b : Condition) (t u : Truth) → truth_of m a ≡ t → Comes a t → Comes b u → Comes (both a b) (conjunction t u)
   unfolding plainly
-  of_and a b (Holds true) (Holds h) q (gives p) (gives s) = gives (ap (λ (k : Bool). k && plainly m b) p ∙ s)
-  of_and a b (Holds true) (Refused n) q (gives p) (refuses r) = refuses (refused_through (λ x v. right_of_and q v) r)
-  of_and a b (Holds false) u q (gives p) y = gives (ap (λ (k : Bool). k && plainly m b) p)
-  of_and a b (Refused n) u q (refuses r) y = refuses (refused_through (λ x v. left_of_and v) r)
+  of_and a b (Ok true) (Ok h) q (gives p) (gives s) = gives (ap (λ (k : Bool). k && plainly m b) p ∙ s)
+  of_and a b (Ok true) (Err k) q (gives p) (refuses r) = refuses (refused_through (λ x v. right_of_and q v) r)
+  of_and a b (Ok false) u q (gives p) y = gives (ap (λ (k : Bool). k && plainly m b) p)
+  of_and a b (Err k) u q (refuses r) y = refuses (refused_through (λ x v. left_of_and v) r)
 
   of_or : (a b : Condition) (t u : Truth) → truth_of m a ≡ t → Comes a t → Comes b u → Comes (either a b) (disjunction t u)
   unfolding plainly
-  of_or a b (Holds true) u q (gives p) y = gives (ap (λ (k : Bool). k || plainly m b) p)
-  of_or a b (Holds false) (Holds h) q (gives p) (gives s) = gives (ap (λ (k : Bool). k || plainly m b) p ∙ s)
-  of_or a b (Holds false) (Refused n) q (gives p) (refuses r) = refuses (refused_through (λ x v. right_of_or q v) r)
-  of_or a b (Refused n) u q (refuses r) y = refuses (refused_through (λ x v. left_of_or v) r)
+  of_or a b (Ok true) u q (gives p) y = gives (ap (λ (k : Bool). k || plainly m b) p)
+  of_or a b (Ok false) (Ok h) q (gives p) (gives s) = gives (ap (λ (k : Bool). k || plainly m b) p ∙ s)
+  of_or a b (Ok false) (Err k) q (gives p) (refuses r) = refuses (refused_through (λ x v. right_of_or q v) r)
+  of_or a b (Err k) u q (refuses r) y = refuses (refused_through (λ x v. left_of_or v) r)
 
   comes : (c : Condition) → Comes c (truth_of m c)
   unfolding truth_of plainly
@@ -72,19 +72,19 @@ module _ (m : Memory) where
   comes (either a b) = of_or a b (truth_of m a) (truth_of m b) refl (comes a) (comes b)
   comes broken_condition = refuses (at_broken itself)
 
-  refusal : {c : Condition} {n : ℕ} → Comes c (Refused n) → RefusedBy m c n
+  refusal : {c : Condition} {q : Question} → Comes c (Err q) → RefusedBy m c q
   refusal (refuses r) = r
 
-  decision : {c : Condition} {h : Bool} → Comes c (Holds h) → plainly m c ≡ h
+  decision : {c : Condition} {h : Bool} → Comes c (Ok h) → plainly m c ≡ h
   decision (gives p) = p
 
-  undisputed : (c : Condition) {h : Bool} (t : Truth) → truth_of m c ≡ t → Comes c t → ((n : ℕ) → RefusedBy m c n → ⊥) → plainly m c ≡ h → truth_of m c ≡ Holds h
-  undisputed c (Holds k) q (gives p) f e = q ∙ ap Holds (sym p ∙ e)
-  undisputed c (Refused n) q (refuses r) f e = absurd (f n r)
+  undisputed : (c : Condition) {h : Bool} (t : Truth) → truth_of m c ≡ t → Comes c t → ((q : Question) → RefusedBy m c q → ⊥) → plainly m c ≡ h → truth_of m c ≡ Ok h
+  undisputed c (Ok k) q (gives p) f e = q ∙ ap Ok (sym p ∙ e)
+  undisputed c (Err k) q (refuses r) f e = absurd (f k r)
 
-  pub refused_exactly : (c : Condition) (n : ℕ) → (truth_of m c ≡ Refused n) ↔ RefusedBy m c n
-  refused_exactly c n = (λ e. refusal (subst (Comes c) e (comes c)), refused_of)
+  pub refused_exactly : (c : Condition) (q : Question) → (truth_of m c ≡ Err q) ↔ RefusedBy m c q
+  refused_exactly c q = (λ e. refusal (subst (Comes c) e (comes c)), refused_of)
 
-  pub decided_exactly : (c : Condition) (h : Bool) → (truth_of m c ≡ Holds h) ↔ (((n : ℕ) → RefusedBy m c n → ⊥) × (plainly m c ≡ h))
+  pub decided_exactly : (c : Condition) (h : Bool) → (truth_of m c ≡ Ok h) ↔ (((q : Question) → RefusedBy m c q → ⊥) × (plainly m c ≡ h))
   decided_exactly c h =
       (λ e. (λ n r. undecided (refused_of r) e, decision (subst (Comes c) e (comes c))), λ p. undisputed c (truth_of m c) refl (comes c) p.0 p.1)

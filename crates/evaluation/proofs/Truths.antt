@@ -2,58 +2,55 @@
 use mathlib.Core.Path.{◌≡◌, refl, sym, ap, subst, ◌∙◌}
 use mathlib.Core.Bool.{Bool, true, false, not}
 use mathlib.Core.List.{List}
-use Prim.Native.Nat.{ℕ, zero, suc, ◌+◌, ◌-◌, ◌<◌, ◌≤◌}
+use Prim.Native.Nat.{ℕ, zero, suc, ◌-◌, ◌<◌, ◌≤◌}
 use native.Mathlib.Omega.{arith}
 use native.Mathlib.Numerals.{sub-one}
 use lib.Dec.{eqb, ltb}
 use borrow.Author.Tests.{eqb-true, eqb-false, ltb-false, ne_eqb, eq-eqb, lt-ltb, le-ltb}
+use Rattle.std.specs.Prelude.{Ok, Err}
 use Rattle.laws.specs.Choice.{pick}
+use Rattle.questions.specs.declared.Question.{Question}
+use Rattle.questions.specs.declared.Question.TheVariants as ask
 use Rattle.laws.proofs.Choice.{pick_true, pick_false, by_cases, true_false}
-use Rattle.numbers.specs.Numbers.{compared}
+use Rattle.numbers.specs.Numbers.{Answer, Truth, compared}
 use Rattle.numbers.specs.declared.Value.{Value}
-use Rattle.numbers.specs.declared.Answer.{Answer}
-use Rattle.numbers.specs.declared.Answer.TheVariants as answer
-use Rattle.numbers.specs.declared.Truth.{Truth}
-use Rattle.numbers.specs.declared.Truth.TheVariants.{Holds, Refused}
 use Rattle.numbers.specs.declared.Comparison.{Comparison}
 use Rattle.contract.specs.declared.Node.{Node}
 use Rattle.contract.specs.Rows.{node_of}
 use Rattle.contract.specs.Tree.{Condition, compare, negation, both, either, broken_condition}
-use Rattle.contract.specs.Table.{kind_at, size_at}
+use Rattle.contract.specs.Table.{kind_at}
 use Rattle.contract.specs.Decode.{counts_two, counts_one, comparison_of, expression_at, condition_at}
 use Rattle.contract_laws.proofs.Levels.{one_some, condition_step}
 use Rattle.evaluation.specs.declared.Run.{Run}
 use Rattle.evaluation.specs.Memory.{Memory}
-use Rattle.evaluation.specs.Meaning.{refusal_of, value_of, comparison, negated, conjunction, disjunction, truth_of}
-use Rattle.evaluation.specs.Private.{left_at, left_from, compared_at, simple_at, negates_at, run_from, turned_by}
-use Rattle.evaluation.proofs.Values.{pick_ap, is_counted, is_uncounted}
+use Rattle.evaluation.specs.Meaning.{value_of, comparison, negated, conjunction, disjunction, truth_of}
+use Rattle.evaluation.specs.Private.{left_at, compared_at, simple_at, negates_at, run_from, turned_by}
+use Rattle.evaluation.proofs.Values.{pick_ap, Counted}
 
 -- ---- a comparison
 module _ (m : Memory) (w : List ℕ) (k : ℕ) (n : Node) (e : n ≡ node_of w k) where
-  pub compared_uncounted : (j : ℕ) → j ≡ left_from w k n.size → k ≤ j → Refused 3 ≡ compared_at m w k
+  pub compared_uncounted : counts_two w k ≡ false → Err ask.TableCheck ≡ compared_at m w k
   unfolding compared_at
-  compared_uncounted j q l = sym (pick_false _ _ _ (is_uncounted w k j n e q l))
+  compared_uncounted u = sym (pick_false _ _ _ u)
 
 -- whose left part ends at node j and gives x
-module _ (m : Memory) (w : List ℕ) (k : ℕ) (node : Node) (e : node ≡ node_of w k) (j : ℕ) (x : Answer) (ej : j ≡ left_from w k node.size) (l : j < k)
+module _ (m : Memory) (w : List ℕ) (k : ℕ) (node : Node) (e : node ≡ node_of w k) (j : ℕ) (x : Answer) (c : Counted w k j)
     (ex : x ≡ value_of m (expression_at w j)) where
   whole : (y : Answer) → y ≡ value_of m (expression_at w (k - 1)) → comparison (comparison_of (kind_at w k)) x y ≡ compared_at m w k
   unfolding compared_at
   whole y ey =
-      let c = is_counted w k j node e ej l in
       (λ i. comparison (comparison_of (kind_at w k)) ((ex ∙ ap (λ (q : ℕ). value_of m (expression_at w q)) c.left) i) (ey i)) ∙ sym (pick_true _ _ _ c.two)
 
-  pub compared_left : (n q : ℕ) → x ≡ answer.Refused n → q ≡ refusal_of x → Refused q ≡ compared_at m w k
-  compared_left n q ax h =
+  pub compared_left : (q : Question) → x ≡ Err q → Err q ≡ compared_at m w k
+  compared_left q ax =
       let y = value_of m (expression_at w (k - 1)) in
-      ap Refused (h ∙ ap refusal_of ax) ∙ sym (ap (λ (v : Answer). comparison (comparison_of (kind_at w k)) v y) ax) ∙ whole y refl
+      sym (ap (λ (v : Answer). comparison (comparison_of (kind_at w k)) v y) ax) ∙ whole y refl
 
-  pub compared_right : (y : Answer) (a : Value) (n q : ℕ) → x ≡ answer.Is a → y ≡ answer.Refused n → y ≡ value_of m (expression_at w (k - 1))
-      → q ≡ refusal_of y → Refused q ≡ compared_at m w k
-  compared_right y a n q ax ay ey h =
-      ap Refused (h ∙ ap refusal_of ay) ∙ sym (λ i. comparison (comparison_of (kind_at w k)) (ax i) (ay i)) ∙ whole y ey
+  pub compared_right : (y : Answer) (a : Value) (q : Question) → x ≡ Ok a → y ≡ Err q → y ≡ value_of m (expression_at w (k - 1))
+      → Err q ≡ compared_at m w k
+  compared_right y a q ax ay ey = sym (λ i. comparison (comparison_of (kind_at w k)) (ax i) (ay i)) ∙ whole y ey
 
-  pub compared_both : (y : Answer) (a b : Value) (o : Comparison) (r : Truth) → x ≡ answer.Is a → y ≡ answer.Is b
+  pub compared_both : (y : Answer) (a b : Value) (o : Comparison) (r : Truth) → x ≡ Ok a → y ≡ Ok b
       → y ≡ value_of m (expression_at w (k - 1)) → o ≡ comparison_of node.kind → r ≡ compared o a b → r ≡ compared_at m w k
   compared_both y a b o r ax ay ey eo er =
       er ∙ sym (λ i. comparison (sym (eo ∙ ap (λ (v : Node). comparison_of v.kind) e) i) (ax i) (ay i)) ∙ whole y ey
@@ -99,14 +96,14 @@ last_kind : (i : ℕ) → 21 ≤ i → i ≤ 22 → (i ≡ 21 → ⊥) → i ≡
 last_kind i h h' g = omega arith
 
 -- a left side that decides `&&` (b), else `||`, and one that doesn't
-alone : (b a : Bool) (y : Truth) → pick b (not a) a ≡ true → Holds a ≡ pick b (conjunction (Holds a) y) (disjunction (Holds a) y)
+alone : (b a : Bool) (y : Truth) → pick b (not a) a ≡ true → Ok a ≡ pick b (conjunction (Ok a) y) (disjunction (Ok a) y)
 unfolding pick
 alone true true y h = true_false (sym h)
 alone true false y h = refl
 alone false true y h = refl
 alone false false y h = true_false (sym h)
 
-passed_on : (b a : Bool) (y : Truth) → pick b (not a) a ≡ false → y ≡ pick b (conjunction (Holds a) y) (disjunction (Holds a) y)
+passed_on : (b a : Bool) (y : Truth) → pick b (not a) a ≡ false → y ≡ pick b (conjunction (Ok a) y) (disjunction (Ok a) y)
 unfolding pick
 passed_on true true y h = refl
 passed_on true false y h = true_false h
@@ -121,30 +118,13 @@ module _ (m : Memory) (w : List ℕ) (k : ℕ) (n : Node) (e : n ≡ node_of w k
   unfolding simple_at
   simple_is t h q = sym (pick_true _ _ _ (lt-ltb (kind_at w k) 20 h) ∙ q)
 
-  pub simple_true : n.kind ≡ 12 → Holds true ≡ simple_at m w k
-  unfolding truth_of
-  simple_true h =
-      let q : kind_at w k ≡ 12 = sym kind_is ∙ h in
-      simple_is (Holds true) (omega arith) (ap (truth_of m) (condition_step w k ∙ pick_true _ _ _ (eq-eqb _ _ q)))
-
-  pub simple_false : n.kind ≡ 13 → Holds false ≡ simple_at m w k
-  unfolding truth_of
-  simple_false h =
-      let q : kind_at w k ≡ 13 = sym kind_is ∙ h in
-      simple_is (Holds false) (omega arith)
-      (ap (truth_of m) (condition_step w k ∙ pick_false _ _ _ (ne_eqb (kind_at w k) 12 (λ z. omega arith)) ∙ pick_true _ _ _ (eq-eqb _ _ q)))
-
-  pub simple_low : (n.kind ≡ 12 → ⊥) → (n.kind ≡ 13 → ⊥) → n.kind < 14 → Refused 3 ≡ simple_at m w k
+  pub simple_low : (n.kind ≡ 12 → ⊥) → (n.kind ≡ 13 → ⊥) → n.kind < 14 → Err ask.TableCheck ≡ simple_at m w k
   unfolding truth_of
   simple_low f g h =
       let q = kind_is in
-      simple_is (Refused 3) (omega arith)
+      simple_is (Err ask.TableCheck) (omega arith)
       (ap (truth_of m) (broken_at w k (λ z. f (q ∙ z)) (λ z. g (q ∙ z)) (λ z. omega arith)
       (no_parts w k (λ z. omega arith) (λ z. omega arith) ∙ pick_true _ _ _ (lt-ltb (kind_at w k) 14 (omega arith)))))
-
-  pub simple_high : 19 < n.kind → Refused 3 ≡ simple_at m w k
-  unfolding simple_at
-  simple_high h = let q = kind_is in sym (pick_false _ _ _ (le-ltb (kind_at w k) 20 (omega arith)))
 
   pub simple_compared : (t : Truth) → 14 ≤ n.kind → n.kind ≤ 19 → t ≡ compared_at m w k → t ≡ simple_at m w k
   unfolding truth_of compared_at
@@ -165,21 +145,21 @@ module _ (m : Memory) (w : List ℕ) (k : ℕ) (n : Node) (e : n ≡ node_of w k
       let q : kind_at w k ≡ 20 = let i = kind_is in let l = ltb-false (kind_at w k) 20 z in omega arith in
       sym (ap (truth_of m) (at_not w k q ∙ pick_false _ _ _ (sym (pick_true _ _ _ (eq-eqb (kind_at w k) 20 q)) ∙ p)))
 
-  pub beyond_at : 22 < n.kind → Refused 3 ≡ truth_of m (condition_at w k)
+  pub beyond_at : 22 < n.kind → Err ask.TableCheck ≡ truth_of m (condition_at w k)
   unfolding truth_of
   beyond_at h =
       let q = kind_is in
       sym (ap (truth_of m) (broken_at w k (λ z. omega arith) (λ z. omega arith) (λ z. omega arith)
       (no_parts w k (λ z. omega arith) (λ z. omega arith) ∙ pick_false _ _ _ (le-ltb (kind_at w k) 14 (omega arith)) ∙ pick_true _ _ _ (lt-ltb 19 (kind_at w k) (omega arith)))))
 
-  pub uncounted_at : 21 ≤ n.kind → (j : ℕ) → j ≡ left_from w k n.size → k ≤ j → Refused 3 ≡ truth_of m (condition_at w k)
+  pub uncounted_at : 21 ≤ n.kind → counts_two w k ≡ false → Err ask.TableCheck ≡ truth_of m (condition_at w k)
   unfolding truth_of
-  uncounted_at h j ej l =
+  uncounted_at h u =
       let q = kind_is in
-      sym (ap (truth_of m) (past_others w k (λ y. omega arith) (λ y. omega arith) (λ y. omega arith) ∙ pick_false _ _ _ (is_uncounted w k j n e ej l)))
+      sym (ap (truth_of m) (past_others w k (λ y. omega arith) (λ y. omega arith) (λ y. omega arith) ∙ pick_false _ _ _ u))
 
   -- `&&` or `||`, whose left part ends at node j and gives x
-  module _ (j : ℕ) (x : Truth) (h : 21 ≤ n.kind) (h' : n.kind ≤ 22) (ej : j ≡ left_from w k n.size) (l : j < k) (ex : x ≡ truth_of m (condition_at w j)) where
+  module _ (j : ℕ) (x : Truth) (h : 21 ≤ n.kind) (h' : n.kind ≤ 22) (c : Counted w k j) (ex : x ≡ truth_of m (condition_at w j)) where
     -- the two truths, joined
     abbrev junction : Truth → Truth
     junction y = pick (eqb n.kind 21) (conjunction x y) (disjunction x y)
@@ -188,7 +168,6 @@ module _ (m : Memory) (w : List ℕ) (k : ℕ) (n : Node) (e : n ≡ node_of w k
     unfolding truth_of
     joined_at y ey =
         let q = kind_is in
-        let c = is_counted w k j n e ej l in
         let start = past_others w k (λ i. omega arith) (λ i. omega arith) (λ i. omega arith) ∙ pick_true _ _ _ c.two in
         let xs = ex ∙ ap (λ (i : ℕ). truth_of m (condition_at w i)) c.left in
         by_cases (λ (t : Truth). truth_of m (condition_at w k) ≡ t) (eqb n.kind 21) (conjunction x y) (disjunction x y)
@@ -203,47 +182,21 @@ module _ (m : Memory) (w : List ℕ) (k : ℕ) (n : Node) (e : n ≡ node_of w k
         → z ≡ truth_of m (condition_at w k)
     by_left v y z ev ey ez = ez ∙ sym (λ i. pick (eqb n.kind 21) (conjunction (ev i) y) (disjunction (ev i) y)) ∙ sym (joined_at y ey)
 
-    pub refused_left : (q : ℕ) → x ≡ Refused q → x ≡ truth_of m (condition_at w k)
-    refused_left q ax = ax ∙ by_left (Refused q) _ (Refused q) ax refl (sym (pick_same (eqb n.kind 21) (Refused q)))
+    pub refused_left : (q : Question) → x ≡ Err q → x ≡ truth_of m (condition_at w k)
+    refused_left q ax = ax ∙ by_left (Err q) _ (Err q) ax refl (sym (pick_same (eqb n.kind 21) (Err q)))
 
-    pub left_decides : (a d : Bool) → x ≡ Holds a → d ≡ pick (eqb n.kind 21) (not a) a → d ≡ true → Holds a ≡ truth_of m (condition_at w k)
-    left_decides a d ax ed t = by_left (Holds a) _ (Holds a) ax refl (alone (eqb n.kind 21) a _ (sym ed ∙ t))
+    pub left_decides : (a d : Bool) → x ≡ Ok a → d ≡ pick (eqb n.kind 21) (not a) a → d ≡ true → Ok a ≡ truth_of m (condition_at w k)
+    left_decides a d ax ed t = by_left (Ok a) _ (Ok a) ax refl (alone (eqb n.kind 21) a _ (sym ed ∙ t))
 
-    pub right_decides : (a d : Bool) (y : Truth) → x ≡ Holds a → d ≡ pick (eqb n.kind 21) (not a) a → d ≡ false → y ≡ truth_of m (condition_at w (k - 1))
+    pub right_decides : (a d : Bool) (y : Truth) → x ≡ Ok a → d ≡ pick (eqb n.kind 21) (not a) a → d ≡ false → y ≡ truth_of m (condition_at w (k - 1))
         → y ≡ truth_of m (condition_at w k)
-    right_decides a d y ax ed t ey = by_left (Holds a) y y ax ey (passed_on (eqb n.kind 21) a y (sym ed ∙ t))
+    right_decides a d y ax ed t ey = by_left (Ok a) y y ax ey (passed_on (eqb n.kind 21) a y (sym ed ∙ t))
 
 -- ---- `~`s in a row
-pub not_kind : (w : List ℕ) (k : ℕ) (n : Node) → n ≡ node_of w k → (n.kind ≡ 20 → ⊥) → false ≡ negates_at w k
-unfolding negates_at
-not_kind w k n e f = sym (pick_false _ _ _ (ne_eqb (kind_at w k) 20 (λ q. f (ap (λ (x : Node). x.kind) e ∙ q))))
-
-pub counts_part : (w : List ℕ) (k : ℕ) (n : Node) → n ≡ node_of w k → n.kind ≡ 20 → (p : Node) → p ≡ node_of w (k - 1) → (r : Bool)
-    → r ≡ eqb n.size (suc (0 + p.size)) → r ≡ negates_at w k
-unfolding negates_at counts_one
-counts_part w k n e q p g r h =
-    let z : suc (0 + p.size) ≡ suc (size_at w (k - 1)) = let y : p.size ≡ size_at w (k - 1) = ap (λ (x : Node). x.size) g in omega arith in
-    h ∙ (λ i. eqb (e i).size (z i)) ∙ sym (pick_true _ _ _ (eq-eqb (kind_at w k) 20 (sym (ap (λ (x : Node). x.kind) e) ∙ q)))
-
-pub run_on : (w : List ℕ) (k : ℕ) (odd r : Bool) → r ≡ negates_at w k → 0 < k → r ≡ true → run_from w k odd ≡ run_from w (k - 1) (not odd)
-unfolding run_from
-run_on w zero odd r e h q = absurd (omega arith)
-run_on w (suc k) odd r e h q = pick_true _ _ _ (sym e ∙ q) ∙ ap (λ (j : ℕ). run_from w j (not odd)) (sym (sub-one (suc k)))
-
-pub run_stops : (w : List ℕ) (k : ℕ) (odd r : Bool) → r ≡ negates_at w k → r ≡ false → record { end = k; odd = odd } ≡ run_from w k odd
-unfolding run_from
-run_stops w zero odd r e q = refl
-run_stops w (suc k) odd r e q = sym (pick_false _ _ _ (sym e ∙ q))
-
-pub run_first : (w : List ℕ) (k : ℕ) (odd : Bool) → k ≤ 0 → record { end = k; odd = odd } ≡ run_from w k odd
-unfolding run_from
-run_first w zero odd h = refl
-run_first w (suc k) odd h = absurd (omega arith)
-
 turn_twice : (odd : Bool) (t : Truth) → turned_by odd (negated t) ≡ turned_by (not odd) t
-turn_twice true (Holds true) = refl
-turn_twice true (Holds false) = refl
-turn_twice true (Refused n) = refl
+turn_twice true (Ok true) = refl
+turn_twice true (Ok false) = refl
+turn_twice true (Err n) = refl
 turn_twice false t = refl
 
 -- what a run says of the node where it starts
@@ -295,10 +248,10 @@ pub turned_below : (m : Memory) (w : List ℕ) (k : ℕ) (r : Run) → r ≡ run
 turned_below m w k r e s t q h = q ∙ ap (turned_by r.odd) h ∙ sym ((run_below w k r e).means m)
 
 -- a refusal stays
-pub stays : (odd : Bool) (t : Truth) (n : ℕ) → t ≡ Refused n → t ≡ turned_by odd t
+pub stays : (odd : Bool) (t : Truth) (n : Question) → t ≡ Err n → t ≡ turned_by odd t
 stays true t n q = q ∙ sym (ap negated q)
 stays false t n q = refl
 
-pub refused_below : (m : Memory) (w : List ℕ) (k : ℕ) (r : Run) → r ≡ run_from w k false → (t : Truth) (n : ℕ)
-    → t ≡ Refused n → t ≡ truth_of m (condition_at w r.end) → t ≡ truth_of m (condition_at w k)
+pub refused_below : (m : Memory) (w : List ℕ) (k : ℕ) (r : Run) → r ≡ run_from w k false → (t : Truth) (n : Question)
+    → t ≡ Err n → t ≡ truth_of m (condition_at w r.end) → t ≡ truth_of m (condition_at w k)
 refused_below m w k r e t n q h = turned_below m w k r e t t (stays r.odd t n q) h

@@ -1,8 +1,8 @@
 -- Nodes by their parts; conditions by their nodes: comparisons, nodes without conditions in them, and `~`s in a row.
-use Rattle.std.specs.Prelude.{ℕ, zero, suc, ◌+◌, ◌-◌, Bool, true, false, not, List, eqb, ltb}
+use Rattle.std.specs.Prelude.{ℕ, zero, suc, ◌-◌, Bool, true, false, not, List, eqb, ltb, Option, None, Some, Err}
 use Rattle.laws.specs.Choice.{pick}
-use Rattle.numbers.specs.declared.Truth.{Truth}
-use Rattle.numbers.specs.declared.Truth.TheVariants.{Refused}
+use Rattle.questions.specs.declared.Question.TheVariants as ask
+use Rattle.numbers.specs.Numbers.{Truth}
 use Rattle.contract.specs.Table.{kind_at, size_at, not_kind}
 use Rattle.contract.specs.Decode.{counts_two, counts_one, comparison_of, expression_at, condition_at}
 use Rattle.evaluation.specs.declared.Run.{Run}
@@ -13,20 +13,20 @@ use Rattle.evaluation.specs.Meaning.{value_of, comparison, negated, truth_of}
 abbrev pub left_at : List ℕ → ℕ → ℕ
 left_at w k = k - 1 - size_at w (k - 1)
 
--- the same where node k, of this size, counts itself and two parts, else k
-unfoldable pub left_from : List ℕ → ℕ → ℕ → ℕ
-left_from w k size = pick (eqb size (suc (size_at w (left_at w k) + size_at w (k - 1)))) (left_at w k) k
+-- the same where node k counts itself and two parts
+unfoldable pub left_from : List ℕ → ℕ → Option ℕ
+left_from w k = pick (counts_two w k) (Some (left_at w k)) None
 
 -- node k as a comparison
 unfoldable pub compared_at : Memory → List ℕ → ℕ → Truth
 compared_at m w k =
     pick (counts_two w k)
     (comparison (comparison_of (kind_at w k)) (value_of m (expression_at w (left_at w k))) (value_of m (expression_at w (k - 1))))
-    (Refused 3)
+    (Err ask.TableCheck)
 
 -- the truth of node k where it is no `~`, `&&` or `||`
 unfoldable pub simple_at : Memory → List ℕ → ℕ → Truth
-simple_at m w k = pick (ltb (kind_at w k) not_kind) (truth_of m (condition_at w k)) (Refused 3)
+simple_at m w k = pick (ltb (kind_at w k) not_kind) (truth_of m (condition_at w k)) (Err ask.TableCheck)
 
 -- node k is `~` and counts itself and its part
 unfoldable pub negates_at : List ℕ → ℕ → Bool

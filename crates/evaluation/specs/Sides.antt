@@ -1,7 +1,8 @@
 -- Which sides of `&&` and `||` are worked out (document 02, F-5), and what a condition gives by that.
-use Rattle.std.specs.Prelude.{ℕ, ◌≡◌, Bool, true, false, not, ◌&&◌, ◌||◌}
-use Rattle.numbers.specs.declared.Truth.{Truth}
-use Rattle.numbers.specs.declared.Truth.TheVariants.{Holds, Refused}
+use Rattle.std.specs.Prelude.{◌≡◌, Bool, true, false, not, ◌&&◌, ◌||◌, Ok, Err}
+use Rattle.questions.specs.declared.Question.{Question}
+use Rattle.questions.specs.declared.Question.TheVariants as ask
+use Rattle.numbers.specs.Numbers.{Truth}
 use Rattle.numbers.specs.declared.Comparison.{Comparison}
 use Rattle.contract.specs.Tree.{Expression, Condition, truth, compare, negation, both, either, broken_condition}
 use Rattle.evaluation.specs.Memory.{Memory}
@@ -13,23 +14,23 @@ pub data WorkedOut (m : Memory) (d : Condition) : Condition → Type 0 where
   in_negation : {a : Condition} → WorkedOut m d a → WorkedOut m d (negation a)
   left_of_and : {a b : Condition} → WorkedOut m d a → WorkedOut m d (both a b)
   -- only if the left is true
-  right_of_and : {a b : Condition} → truth_of m a ≡ Holds true → WorkedOut m d b → WorkedOut m d (both a b)
+  right_of_and : {a b : Condition} → truth_of m a ≡ Ok true → WorkedOut m d b → WorkedOut m d (both a b)
   left_of_or : {a b : Condition} → WorkedOut m d a → WorkedOut m d (either a b)
   -- only if the left is false
-  right_of_or : {a b : Condition} → truth_of m a ≡ Holds false → WorkedOut m d b → WorkedOut m d (either a b)
+  right_of_or : {a b : Condition} → truth_of m a ≡ Ok false → WorkedOut m d b → WorkedOut m d (either a b)
 
--- question n refuses condition c: it refuses a comparison that is worked out
-pub data RefusedBy (m : Memory) (c : Condition) : ℕ → Type 0 where
-  at_comparison : {o : Comparison} {a b : Expression} {n : ℕ}
+-- question q refuses condition c: it refuses a comparison that is worked out
+pub data RefusedBy (m : Memory) (c : Condition) : Question → Type 0 where
+  at_comparison : {o : Comparison} {a b : Expression} {q : Question}
       → WorkedOut m (compare o a b) c
-      → comparison o (value_of m a) (value_of m b) ≡ Refused n
-      → RefusedBy m c n
+      → comparison o (value_of m a) (value_of m b) ≡ Err q
+      → RefusedBy m c q
   -- of no contract that was read
-  at_broken : WorkedOut m broken_condition c → RefusedBy m c 3
+  at_broken : WorkedOut m broken_condition c → RefusedBy m c ask.TableCheck
 
 abbrev pub is_true : Truth → Bool
-is_true (Holds b) = b
-is_true (Refused n) = false
+is_true (Ok b) = b
+is_true (Err q) = false
 
 -- a condition by plain logic, where a comparison that is refused counts as false
 unfoldable pub plainly : Memory → Condition → Bool

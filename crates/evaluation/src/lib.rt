@@ -1,18 +1,22 @@
 // Works out expressions and conditions by recursion on their parts, which stand before the whole in a table.
 #![tactic(auto)]
 
-ghost use Rattle.std.specs.Prelude.{◌≡◌, false, not, suc, ◌+◌, ◌<◌, eqb, leb, ltb, pos, get_or};
+ghost use Rattle.std.specs.Prelude.{◌≡◌, false, not, suc, ◌+◌, ◌<◌, eqb, leb, ltb, pos, get_or, Ok, Err};
 ghost use Rattle.laws.specs.Choice.{pick};
+ghost use Rattle.questions.specs.declared.Question.TheVariants as ask;
+ghost use Rattle.numbers.specs.declared.Value.TheVariants.{Text};
 ghost use Rattle.numbers.specs.Numbers.{in_range};
 ghost use Rattle.contract.specs.Limits.{top, max_assets, max_strings};
-ghost use Rattle.contract.specs.Table.{and_kind};
+ghost use Rattle.contract.specs.Tree.{field};
+ghost use Rattle.contract.specs.Table.{and_kind, size_at};
 ghost use Rattle.contract.specs.Decode.{operator_of, comparison_of, leaf_of, expression_at, condition_at};
-ghost use Rattle.evaluation.specs.Memory.{memory_of};
-ghost use Rattle.evaluation.specs.Meaning.{refusal_of, field_value, value_of, truth_of};
+ghost use Rattle.evaluation.specs.Memory.{lent};
+ghost use Rattle.evaluation.specs.Meaning.{value_of, truth_of};
 ghost use Rattle.evaluation.specs.Private.{left_from, compared_at, simple_at, negates_at, run_from, turned_by};
 
 use contract::{Contract, Function, Node};
-use numbers::{Answer, Comparison, Operator, Truth, Value};
+use numbers::{Comparison, Operator, Value};
+use questions::Question;
 
 // The amounts that expressions read: those of the assets, then those of the asset parameters.
 #[derive(Clone, Copy)]
@@ -22,6 +26,20 @@ impl Holdings {
     pub const MOST: usize = Contract::ASSETS + Function::PARAMETERS;
 }
 
+// What expressions and conditions are worked out in.
+#[derive(Clone, Copy)]
+pub struct Memory<'a> {
+    // Of each field 0 nothing, 1 an integer, 2 a string; its integer, and its string's number.
+    pub kinds: &'a [u8; Contract::FIELDS],
+    pub numbers: &'a [i64; Contract::FIELDS],
+    pub texts: &'a [u8; Contract::FIELDS],
+    // The amounts of the assets, then of the asset parameters.
+    pub holdings: &'a [u64; Holdings::MOST],
+    // The value parameters.
+    pub values: &'a [i64],
+    pub clock: u64,
+}
+
 // `~`s in a row: the node below them, and whether their number is odd.
 #[derive(Clone, Copy)]
 struct Run {
@@ -29,16 +47,7 @@ struct Run {
     odd: bool,
 }
 
-// The number of the question that refused, and 0 of a value.
-pub fn refusal(a: Answer) -> u8
-    ensures { result ≡ refusal_of a }
-{
-    match a {
-        Answer::Is(_) => 0,
-        Answer::Refused(n) => n,
-    }
-}
-
+#[tactic(auto, unfolding(laws::specs::Choice::pick))]
 fn operator_of(kind: u64) -> Operator
     ensures { result ≡ operator_of kind }
 {
@@ -50,6 +59,7 @@ fn operator_of(kind: u64) -> Operator
     }
 }
 
+#[tactic(auto, unfolding(laws::specs::Choice::pick))]
 fn comparison_of(kind: u64) -> Comparison
     ensures { result ≡ comparison_of kind }
 {
@@ -64,91 +74,79 @@ fn comparison_of(kind: u64) -> Comparison
 }
 
 // A constant, broken past the top.
-fn constant(n: u64) -> Answer
-    ensures { result ≡ pick (leb n top) (in_range (pos n)) (Answer.Refused 3) }
+#[tactic(auto, unfolding(laws::specs::Choice::pick))]
+fn constant(n: u64) -> Result<Value, Question>
+    ensures { result ≡ pick (leb n top) (in_range (pos n)) (Err ask.TableCheck) }
 {
     if n <= Contract::TOP {
         return numbers::natural(n);
     }
-    Answer::Refused(questions::TABLE_CHECK)
+    Err(Question::TableCheck)
 }
 
 // A string by its number, broken where a contract has no such number.
-fn string(n: u64) -> Answer
-    ensures { result ≡ pick (ltb n max_strings) (Answer.Is (Value.Text n)) (Answer.Refused 3) }
+#[tactic(auto, unfolding(laws::specs::Choice::pick))]
+fn string(n: u64) -> Result<Value, Question>
+    ensures { result ≡ pick (ltb n max_strings) (Ok (Text n)) (Err ask.TableCheck) }
 {
     if (n as usize) < Contract::STRINGS {
-        return Answer::Is(Value::Text(n as u8));
+        return Ok(Value::Text(n as u8));
     }
-    Answer::Refused(questions::TABLE_CHECK)
+    Err(Question::TableCheck)
 }
 
-// The number at place i, and 0 past the end.
-fn byte_at(s: &[u8], i: usize) -> u8
-    ensures { result ≡ get_or s.now i 0 }
+// The item at place i, and `none` past the end.
+pub fn at<T: Copy + Drop>(items: &[T], i: usize, none: T) -> T
+    ensures { result ≡ get_or items.now i none }
 {
-    if i < s.len() { s[i] } else { 0 }
-}
-
-fn integer_at(s: &[i64], i: usize) -> i64
-    ensures { result ≡ get_or s.now i (pos 0) }
-{
-    if i < s.len() { s[i] } else { 0 }
-}
-
-fn amount_at(s: &[u64], i: usize) -> u64
-    ensures { result ≡ get_or s.now i 0 }
-{
-    if i < s.len() { s[i] } else { 0 }
+    items.get(i).copied().unwrap_or(none)
 }
 
 // The value of field i.
-fn field_value(kinds: &[u8], numbers: &[i64], texts: &[u8], i: usize) -> Answer
-    ensures { result ≡ field_value (get_or kinds.now i 0) (get_or numbers.now i (pos 0)) (get_or texts.now i 0) }
+#[tactic(auto, unfolding(laws::specs::Choice::pick, crate::specs::Meaning::field_value, crate::specs::Meaning::value_of))]
+fn field_value(memory: &Memory, i: usize) -> Result<Value, Question>
+    ensures { result ≡ value_of (lent memory.now) (field i) }
 {
-    let kind = byte_at(kinds, i);
-    if kind == 0 {
-        return Answer::Refused(questions::FIELD_VALUE);
+    let Memory {
+        kinds,
+        numbers,
+        texts,
+        ..
+    } = *memory;
+    match at(kinds, i, 0) {
+        0 => Err(Question::FieldValue),
+        1 => Ok(Value::Integer(at(numbers, i, 0))),
+        _ => Ok(Value::Text(at(texts, i, 0))),
     }
-    if kind == 1 {
-        return Answer::Is(Value::Integer(integer_at(numbers, i)));
-    }
-    Answer::Is(Value::Text(byte_at(texts, i)))
 }
 
 // The amount of asset parameter i: they stand after the assets.
-fn parameter_amount(holdings: &[u64], i: usize) -> u64
+fn parameter_amount(holdings: &[u64; Holdings::MOST], i: usize) -> u64
     ensures { result ≡ get_or holdings.now (max_assets + i) 0 }
 {
-    if holdings.len() <= i {
-        return 0;
-    }
-    amount_at(holdings, Contract::ASSETS + i)
+    at(&holdings[Contract::ASSETS..], i, 0)
 }
 
 // An expression of no parts.
-fn leaf(
-    kinds: &[u8; Contract::FIELDS],
-    numbers: &[i64; Contract::FIELDS],
-    texts: &[u8; Contract::FIELDS],
-    holdings: &[u64; Holdings::MOST],
-    values: &[i64],
-    clock: u64,
-    kind: u64,
-    n: u64,
-) -> Answer
-    ensures { result ≡ value_of (memory_of kinds.now numbers.now texts.now holdings.now values.now clock) (leaf_of kind n) }
+#[tactic(auto, unfolding(laws::specs::Choice::pick, contract::specs::Decode::leaf_of, crate::specs::Meaning::value_of))]
+fn leaf(memory: &Memory, kind: u64, n: u64) -> Result<Value, Question>
+    ensures { result ≡ value_of (lent memory.now) (leaf_of kind n) }
 {
+    let Memory {
+        holdings,
+        values,
+        ..
+    } = *memory;
     let i = n as usize;
     match kind {
         Node::CONSTANT => constant(n),
         Node::STRING => string(n),
-        Node::NOW => numbers::natural(clock),
-        Node::FIELD => field_value(kinds, numbers, texts, i),
-        Node::VALUE => Answer::Is(Value::Integer(integer_at(values, i))),
-        Node::ASSET => numbers::natural(amount_at(holdings, i)),
+        Node::NOW => numbers::natural(memory.clock),
+        Node::FIELD => field_value(memory, i),
+        Node::VALUE => Ok(Value::Integer(at(values, i, 0))),
+        Node::ASSET => numbers::natural(at(holdings, i, 0)),
         Node::PARAMETER => numbers::natural(parameter_amount(holdings, i)),
-        _ => Answer::Refused(questions::TABLE_CHECK),
+        _ => Err(Question::TableCheck),
     }
 }
 
@@ -156,127 +154,94 @@ fn leaf(
 fn counts(size: usize, left: usize, right: usize) -> bool
     ensures { result ≡ eqb size (suc (left + right)) }
 {
-    if size <= right {
-        return false;
-    }
-    size - right - 1 == left
+    right < size && size - right - 1 == left
 }
 
-// Where the left part of node k ends, or k where the node, of this size, doesn't count itself and two parts.
-fn left_of(table: &[u64], k: usize, size: usize) -> usize
-    ensures { result ≡ left_from table.now k size }
+// Where the left part of node k, of this size, ends; none where the node doesn't count itself and two parts.
+#[tactic(auto, unfolding(laws::specs::Choice::pick, contract::specs::Decode::counts_two, crate::specs::Private::left_from))]
+fn left_of(table: &[u64], k: usize, size: usize) -> Option<usize>
+    requires { size ≡ size_at table.now k }
+    ensures { result ≡ left_from table.now k }
 {
     if k == 0 {
-        return k;
+        return None;
     }
     let last = k - 1;
     let right = contract::node_at(table, last).size;
-    let left = if right < last { last - right } else { 0 };
+    let left = last.saturating_sub(right);
     if counts(size, contract::node_at(table, left).size, right) {
-        return left;
+        return Some(left);
     }
-    k
+    None
 }
 
 // The expression at node k.
-pub fn value(
-    table: &[u64],
-    kinds: &[u8; Contract::FIELDS],
-    numbers: &[i64; Contract::FIELDS],
-    texts: &[u8; Contract::FIELDS],
-    holdings: &[u64; Holdings::MOST],
-    values: &[i64],
-    clock: u64,
-    k: usize,
-) -> Answer
-    ensures { result ≡ value_of (memory_of kinds.now numbers.now texts.now holdings.now values.now clock) (expression_at table.now k) }
+pub fn value(table: &[u64], memory: &Memory, k: usize) -> Result<Value, Question>
+    ensures { result ≡ value_of (lent memory.now) (expression_at table.now k) }
 {
     let node = contract::node_at(table, k);
     let kind = node.kind;
     if kind < Node::PLUS {
         let n = node.argument;
-        return leaf(kinds, numbers, texts, holdings, values, clock, kind, n);
+        return leaf(memory, kind, n);
     }
     if Node::OVER < kind {
-        return Answer::Refused(questions::TABLE_CHECK);
+        return Err(Question::TableCheck);
     }
-    let left = left_of(table, k, node.size);
-    if k <= left {
-        return Answer::Refused(questions::TABLE_CHECK);
-    }
+    let Some(left) = left_of(table, k, node.size) else {
+        return Err(Question::TableCheck);
+    };
     let last = k - 1;
-    let first = value(table, kinds, numbers, texts, holdings, values, clock, left);
-    let Answer::Is(a) = first else {
+    let first = value(table, memory, left);
+    // Kept: document 01 opens an evaluation answer by let .. else.
+    let Ok(a) = first else {
         return first;
     };
-    let second = value(table, kinds, numbers, texts, holdings, values, clock, last);
-    let Answer::Is(b) = second else {
+    let second = value(table, memory, last);
+    let Ok(b) = second else {
         return second;
     };
     numbers::apply(operator_of(kind), a, b)
 }
 
 // A comparison at node k.
-fn compared_at(
-    table: &[u64],
-    kinds: &[u8; Contract::FIELDS],
-    numbers: &[i64; Contract::FIELDS],
-    texts: &[u8; Contract::FIELDS],
-    holdings: &[u64; Holdings::MOST],
-    values: &[i64],
-    clock: u64,
-    k: usize,
-) -> Truth
-    ensures { result ≡ compared_at (memory_of kinds.now numbers.now texts.now holdings.now values.now clock) table.now k }
+fn compared_at(table: &[u64], memory: &Memory, k: usize) -> Result<bool, Question>
+    ensures { result ≡ compared_at (lent memory.now) table.now k }
 {
     let node = contract::node_at(table, k);
-    let left = left_of(table, k, node.size);
-    if k <= left {
-        return Truth::Refused(questions::TABLE_CHECK);
-    }
-    let last = k - 1;
-    let x = value(table, kinds, numbers, texts, holdings, values, clock, left);
-    let Answer::Is(a) = x else {
-        return Truth::Refused(refusal(x));
+    let Some(left) = left_of(table, k, node.size) else {
+        return Err(Question::TableCheck);
     };
-    let y = value(table, kinds, numbers, texts, holdings, values, clock, last);
-    let Answer::Is(b) = y else {
-        return Truth::Refused(refusal(y));
+    let last = k - 1;
+    let x = value(table, memory, left);
+    // Kept: document 01 opens an evaluation answer by let .. else.
+    let Ok(a) = x else {
+        return Err(x.unwrap_err());
+    };
+    let y = value(table, memory, last);
+    let Ok(b) = y else {
+        return Err(y.unwrap_err());
     };
     numbers::compare(comparison_of(node.kind), a, b)
 }
 
 // A condition without conditions in it, true, false or a comparison, at node k; any other is refused.
-fn simple(
-    table: &[u64],
-    kinds: &[u8; Contract::FIELDS],
-    numbers: &[i64; Contract::FIELDS],
-    texts: &[u8; Contract::FIELDS],
-    holdings: &[u64; Holdings::MOST],
-    values: &[i64],
-    clock: u64,
-    k: usize,
-) -> Truth
-    ensures { result ≡ simple_at (memory_of kinds.now numbers.now texts.now holdings.now values.now clock) table.now k }
+#[tactic(auto, using(contract_laws::proofs::Levels::condition_step), unfolding(laws::specs::Choice::pick, crate::specs::Private::simple_at, crate::specs::Meaning::truth_of))]
+fn simple(table: &[u64], memory: &Memory, k: usize) -> Result<bool, Question>
+    ensures { result ≡ simple_at (lent memory.now) table.now k }
 {
     let node = contract::node_at(table, k);
     let kind = node.kind;
-    if kind == Node::TRUE {
-        return Truth::Holds(true);
+    match kind {
+        Node::TRUE => Ok(true),
+        Node::FALSE => Ok(false),
+        Node::EQUAL..=Node::AT_LEAST => { compared_at(table, memory, k) }
+        _ => Err(Question::TableCheck),
     }
-    if kind == Node::FALSE {
-        return Truth::Holds(false);
-    }
-    if kind < Node::EQUAL {
-        return Truth::Refused(questions::TABLE_CHECK);
-    }
-    if Node::AT_LEAST < kind {
-        return Truth::Refused(questions::TABLE_CHECK);
-    }
-    compared_at(table, kinds, numbers, texts, holdings, values, clock, k)
 }
 
 // Whether node k is `~` and counts itself and its part.
+#[tactic(auto, unfolding(laws::specs::Choice::pick, contract::specs::Decode::counts_one, crate::specs::Private::negates_at))]
 fn negates(table: &[u64], k: usize) -> bool
     requires { 0 < k }
     ensures { result ≡ negates_at table.now k }
@@ -289,82 +254,66 @@ fn negates(table: &[u64], k: usize) -> bool
 }
 
 // The node below the `~`s that stand in a row at node k, each counting its part, and whether their number is odd.
+#[tactic(auto, unfolding(laws::specs::Choice::pick, crate::specs::Private::run_from))]
 fn run_at(table: &[u64], k: usize) -> Run
     ensures { result ≡ run_from table.now k false }
 {
     let mut end = k;
     let mut odd = false;
-    while 0 < end {
-        if negates(table, end) {
-            end -= 1;
-            odd = !odd;
-        } else {
-            return Run { end, odd };
-        }
+    while 0 < end && negates(table, end) {
+        end -= 1;
+        odd = !odd;
     }
     Run { end, odd }
 }
 
 // A truth below a run of `~`s.
-fn turned(odd: bool, t: Truth) -> Truth
+fn turned(odd: bool, t: Result<bool, Question>) -> Result<bool, Question>
     ensures { result ≡ turned_by odd t }
 {
-    let Truth::Holds(a) = t else {
+    // Kept: document 01 opens an evaluation answer by let .. else.
+    let Ok(holds) = t else {
         return t;
     };
-    if odd {
-        return Truth::Holds(!a);
-    }
-    t
+    Ok(holds != odd)
 }
 
 // Whether the left side of `&&`, else of `||`, decides by its truth: false decides `&&`, true decides `||`.
+#[tactic(auto, unfolding(laws::specs::Choice::pick))]
 fn decides(kind: u64, holds: bool) -> bool
     ensures { result ≡ pick (eqb kind and_kind) (not holds) holds }
 {
-    if kind == Node::AND {
-        return !holds;
-    }
-    holds
+    if kind == Node::AND { !holds } else { holds }
 }
 
 // The condition at node k. Runs of `~` are counted, so that only `&&` and `||` call on: the left side, and the right one where the left is
 // not refused and does not decide.
-pub fn truth(
-    table: &[u64],
-    kinds: &[u8; Contract::FIELDS],
-    numbers: &[i64; Contract::FIELDS],
-    texts: &[u8; Contract::FIELDS],
-    holdings: &[u64; Holdings::MOST],
-    values: &[i64],
-    clock: u64,
-    k: usize,
-) -> Truth
-    ensures { result ≡ truth_of (memory_of kinds.now numbers.now texts.now holdings.now values.now clock) (condition_at table.now k) }
+pub fn truth(table: &[u64], memory: &Memory, k: usize) -> Result<bool, Question>
+    ensures { result ≡ truth_of (lent memory.now) (condition_at table.now k) }
 {
     let run = run_at(table, k);
     let end = run.end;
     let node = contract::node_at(table, end);
     let kind = node.kind;
     if kind < Node::AND {
-        let whole = simple(table, kinds, numbers, texts, holdings, values, clock, end);
+        let whole = simple(table, memory, end);
         return turned(run.odd, whole);
     }
     if Node::OR < kind {
-        return Truth::Refused(questions::TABLE_CHECK);
+        return Err(Question::TableCheck);
     }
-    let left = left_of(table, end, node.size);
-    if end <= left {
-        return Truth::Refused(questions::TABLE_CHECK);
-    }
+    let Some(left) = left_of(table, end, node.size) else {
+        return Err(Question::TableCheck);
+    };
     let last = end - 1;
-    let one = truth(table, kinds, numbers, texts, holdings, values, clock, left);
-    let Truth::Holds(a) = one else {
+    let one = truth(table, memory, left);
+    // Kept: document 01 opens an evaluation answer by let .. else.
+    let Ok(a) = one else {
         return one;
     };
     if decides(kind, a) {
         return turned(run.odd, one);
     }
-    let other = truth(table, kinds, numbers, texts, holdings, values, clock, last);
+    let other = truth(table, memory, last);
     turned(run.odd, other)
 }

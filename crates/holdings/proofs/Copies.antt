@@ -5,10 +5,12 @@ use Prim.Native.Nat.{ℕ, zero, suc, ◌+◌, ◌-◌, ◌<◌, ◌≤◌}
 use native.Mathlib.Numerals.{add-one}
 use native.Mathlib.Omega.{arith}
 use lib.ListN.{length, get_or, take, set, length-append, length-set, get_or-append}
-use lib.Seq.{take_all, take-suc, take-suc-set, get_or-take, get_or-append-add, length-take-le}
+use lib.Seq.{take-append-le, take_all, take-suc, take-suc-set, get_or-take, get_or-append-add, length-take-le}
 use lib.IntN.{ℤ, pos, nat_abs}
 use Rattle.laws.proofs.Members.{repeated_at}
-use Rattle.laws.specs.Lists.{repeated}
+use mathlib.Core.Bool.{Bool, ◌&&◌}
+use Rattle.std.specs.List.{list_all}
+use Rattle.laws.specs.Lists.{every, repeated}
 use Rattle.holdings.specs.Holdings.{amounts}
 use Rattle.holdings.specs.Holdings.{holdings_of}
 use Rattle.laws.proofs.Members.{repeated_length}
@@ -35,6 +37,12 @@ pub copied_all : {l out : List ℕ} {n i : ℕ} → Copied l out n i → n ≡ i
 copied_all {l} {out} {n} {i} c h =
     let r : length out ≤ i = omega (arith, c.room) in
     sym (take_all i out r) ∙ c.same ∙ ap (λ (k : ℕ). take k l) (sym h)
+
+-- ---- tests of each
+pub all_every : {A : Type 0} (p : A → Bool) (l : List A) → list_all p l ≡ every p l
+unfolding every
+all_every p [] = refl
+all_every p (x ∷ l) = ap (λ (b : Bool). p x && b) (all_every p l)
 
 -- ---- amounts
 pub amount_at : (zs : List ℤ) (j : ℕ) → nat_abs (get_or zs j (pos 0)) ≡ get_or (amounts zs) j 0
@@ -80,7 +88,22 @@ module _ (held : List ℕ) (zs : List ℤ) (full : length held ≡ 16) where
       ∙ get_or-take 4 (amounts zs ++ repeated 4 0) (i - 16) 0 j
       ∙ with_zeros (amounts zs) 4 (i - 16))
 
-  -- the assets' copied, and the four amounts set after them
+  -- the assets' copied
+  pub held_copied : (out rest : List ℕ) → out ≡ held ++ rest → length rest ≡ 4 → Copied (holdings_of held zs) out 20 16
+  unfolding holdings_of
+  held_copied out rest e l =
+      let b = take 4 (amounts zs ++ repeated 4 0) in
+      let f : length (take 16 held) ≤ 16 = omega (arith, front) in
+      let g : 16 ≤ length (take 16 held) = omega (arith, front) in
+      let h : 16 ≤ length held = omega arith in
+      record {
+        room = ap length e ∙ length-append held rest ∙ omega arith;
+        same =
+            ap (take 16) e ∙ take-append-le 16 held rest h
+            ∙ sym (take-append-le 16 (take 16 held) b g ∙ take_all 16 (take 16 held) f);
+      }
+
+  -- and the four amounts set after them
   pub holdings_made : {out : List ℕ} {i : ℕ} (a b c d : ℕ) → Copied (holdings_of held zs) out 20 i → i ≡ 16 → a ≡ get_or (amounts zs) 0 0
       → b ≡ get_or (amounts zs) 1 0 → c ≡ get_or (amounts zs) 2 0 → d ≡ get_or (amounts zs) 3 0
       → set (set (set (set out 16 a) 17 b) 18 c) 19 d ≡ holdings_of held zs

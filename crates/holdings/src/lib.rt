@@ -1,7 +1,7 @@
 // What statements begin with: amounts of the assets and of the asset parameters; and the state that they reach.
 #![tactic(auto)]
 
-ghost use Rattle.std.specs.Prelude.{◌≡◌, [], get_or, take, drop, pos, eqb};
+ghost use Rattle.std.specs.Prelude.{◌≡◌, [], None, get_or, take, drop, pos, eqb};
 ghost use Rattle.std.specs.Int.Signed.{le_z};
 ghost use Rattle.laws.specs.Lists.{every};
 ghost use Rattle.contract.specs.Limits.{max_assets};
@@ -25,7 +25,7 @@ const FOURTH: usize = THIRD + 1;
 fn integer_at(s: &[i64], i: usize) -> i64
     ensures { result ≡ get_or s.now i (pos 0) }
 {
-    if i < s.len() { s[i] } else { 0 }
+    s.get(i).copied().unwrap_or(0)
 }
 
 // The amount of asset argument j, and 0 where there is none.
@@ -40,11 +40,7 @@ fn assets_of(holdings: [u64; Holdings::MOST]) -> [u64; Contract::ASSETS]
     ensures { result ≡ take max_assets holdings }
 {
     let mut out = [0u64; Contract::ASSETS];
-    let mut i: usize = 0;
-    while i < Contract::ASSETS {
-        out[i] = holdings[i];
-        i += 1;
-    }
+    out.copy_from_slice(&holdings[..Contract::ASSETS]);
     out
 }
 
@@ -53,11 +49,7 @@ pub fn holdings_of(held: [u64; Contract::ASSETS], assets: &[i64]) -> [u64; Holdi
     ensures { result ≡ holdings_of held assets.now }
 {
     let mut out = [0u64; Holdings::MOST];
-    let mut i: usize = 0;
-    while i < Contract::ASSETS {
-        out[i] = held[i];
-        i += 1;
-    }
+    out[..Contract::ASSETS].copy_from_slice(&held);
     out[FIRST] = amount_of(assets, 0);
     out[SECOND] = amount_of(assets, 1);
     out[THIRD] = amount_of(assets, 2);
@@ -74,10 +66,9 @@ pub fn reach(
     holdings: &[u64; Holdings::MOST],
     q: usize,
 ) -> State
-    ensures { result ≡ reached s (work_from kinds.now numbers.now texts.now holdings.now [] 0 0) q }
+    ensures { result ≡ reached s (work_from kinds.now numbers.now texts.now holdings.now [] 0 None) q }
 {
-    let held = *holdings;
-    let assets = assets_of(held);
+    let assets = assets_of(*holdings);
     let fields = *kinds;
     let integers = *numbers;
     let strings = *texts;
@@ -100,28 +91,12 @@ fn not_negative(z: i64) -> bool
 pub fn none_negative(assets: &[i64]) -> bool
     ensures { result ≡ every (le_z (pos 0)) assets.now }
 {
-    let mut i: usize = 0;
-    while i < assets.len() {
-        if not_negative(integer_at(assets, i)) {
-            i += 1;
-        } else {
-            return false;
-        }
-    }
-    true
+    assets.iter().all(|z| not_negative(*z))
 }
 
 // Whether the asset parameters hold nothing.
 pub fn parameters_empty(holdings: [u64; Holdings::MOST]) -> bool
     ensures { result ≡ every (λ a. eqb a 0) (drop max_assets holdings) }
 {
-    let mut i: usize = Contract::ASSETS;
-    while i < Holdings::MOST {
-        if holdings[i] == 0 {
-            i += 1;
-        } else {
-            return false;
-        }
-    }
-    true
+    holdings[Contract::ASSETS..].iter().all(|a| *a == 0)
 }

@@ -1,13 +1,14 @@
--- An agreement's parts: their sizes, what was read and stored, and the loop over them. Assumes nothing.
+-- An agreement's parts: their sizes, and what was read and stored. Assumes nothing.
 use mathlib.Core.Path.{◌≡◌, refl, sym, ap, subst, ◌∙◌}
 use mathlib.Core.Bool.{Bool, true, false}
 use mathlib.Core.List.{List, [], ◌∷◌, ◌++◌, append-nil}
 use Prim.Native.Nat.{ℕ, suc, ◌+◌, ◌-◌, ◌*◌, ◌<◌, ◌≤◌}
 use native.Mathlib.Omega.{arith}
-use lib.ListN.{length, get_or, drop, length-take, length-append}
-use lib.Seq.{sets, get_or-drop, length-sets}
+use Rattle.std.specs.Prelude.{Option, Some}
+use lib.ListN.{length, get_or, drop, replicate, length-take, length-append}
+use lib.Seq.{sets, get_or-drop}
 use lib.Dec.{ltb}
-use lib.IntN.{ℤ}
+use lib.IntN.{pos}
 use borrow.Author.Tests.{ltb-true, ltb-false}
 use Rattle.laws.specs.Choice.{pick}
 use Rattle.laws.specs.Bytes.{bytes, same_bytes}
@@ -16,16 +17,16 @@ use Rattle.laws.proofs.Bytes.{same_equal}
 use Rattle.words.specs.Words.{spelled}
 use Rattle.tokens.specs.Classes.{within as in_range, is_letter, is_digit, is_name_byte, run}
 use Rattle.tokens.specs.Tokens.{between}
-use Rattle.lines.specs.Lines.{Span, Verb, set, ok, Field, Part, Parsed, done, no, and_then, give, skipped, mark, end, name_from, name, is_word, verb, field, list, part, parts}
-use Rattle.lines.specs.Answers.{verb_number, fields_of, heads_of, spans_of, values_of}
-use Rattle.lines.specs.Private.{is_done, verb_of, StoredFields, StoredPart, StoredParts}
+use Rattle.lines.specs.Lines.{Span, Verb, set, ok, Field, Part, Parsed, done, no, and_then, give, skipped, name, is_word, verb, field, list, part}
+use Rattle.lines.specs.Answers.{verb_number, fields_of, heads_of, spans_of, values_of, agreement_of}
+use Rattle.lines.specs.Private.{read_of, Added, verb_in, verb_word, with_fields, with_head, with_part}
+use Rattle.lines.specs.declared.Agreement.{Agreement}
 use Rattle.lines.specs.declared.Found.{Found}
-use Rattle.lines.specs.declared.Found.TheVariants as found
-use Rattle.lines.proofs.Got.{end_yes, end_no}
-use Rattle.lines.proofs.Ahead.{taken, Then, then_done, skipped_on, name_ahead, letter_name, field_size, mark_ahead}
+use Rattle.lines.specs.declared.Verb as declared
+use Rattle.lines.proofs.Got.{Gave, added_done}
+use Rattle.lines.proofs.Ahead.{Then, then_done, skipped_on, name_span, name_ahead, letter_name, field_size}
 use Rattle.lines.proofs.Flat.{spans_more, values_more, heads_more, fields_append}
 use Rattle.lines.proofs.Size.{list_size, total_six}
-use Rattle.lines.proofs.Turns.{Reached, begin, missing, turn, last, unclosed}
 
 -- ---- sizes
 
@@ -51,16 +52,6 @@ length_between s a e =
     (λ h. omega arith)
 
 module _ (s : List ℕ) where
-  pub name_span : {x : Span} {n : ℕ} (at : ℕ) → name s at ≡ done x n → (x.start ≡ skipped s at) × (x.end ≡ n) × (n ≡ skipped s at + run is_name_byte (drop (skipped s at) s)) × (is_letter (get_or s (skipped s at) 0) ≡ true)
-  unfolding name name_from
-  name_span {x} {n} at e =
-      let i = skipped s at in
-      let j = i + run is_name_byte (drop i s) in
-      let t = taken (is_letter (get_or s i 0)) (done (record { start = i; end = j }) j) e in
-      let q : record { start = i; end = j } ≡ x = cc in
-      let p : j ≡ n = cc in
-      (sym (ap (λ (y : Span). y.start) q), sym (ap (λ (y : Span). y.end) q) ∙ p, sym p, t.0)
-
   -- a space stands between two names
   names_apart : {x y : Span} {n m : ℕ} (at : ℕ) → name s at ≡ done x n → name s n ≡ done y m → n < skipped s n
   names_apart {x} {y} {n} {m} at e f = go (ltb n (skipped s n)) refl
@@ -71,8 +62,8 @@ module _ (s : List ℕ) where
           let i = skipped s at in
           let h : skipped s n ≤ n = ltb-false n (skipped s n) q in
           let r : skipped s n ≡ n = omega (arith, skipped_on s n) in
-          let a : is_letter (get_or s n 0) ≡ true = subst (λ (k : ℕ). is_letter (get_or s k 0) ≡ true) r (name_span n f).3 in
-          let b : is_name_byte (get_or s n 0) ≡ false = ap (λ (k : ℕ). is_name_byte (get_or s k 0)) (name_span at e).2 ∙ ap is_name_byte (sym (get_or-drop i s (run is_name_byte (drop i s)) 0)) ∙ run_stops is_name_byte name_zero (drop i s) in
+          let a : is_letter (get_or s n 0) ≡ true = subst (λ (k : ℕ). is_letter (get_or s k 0) ≡ true) r (name_span s n f).3 in
+          let b : is_name_byte (get_or s n 0) ≡ false = ap (λ (k : ℕ). is_name_byte (get_or s k 0)) (name_span s at e).2 ∙ ap is_name_byte (sym (get_or-drop i s (run is_name_byte (drop i s)) 0)) ∙ run_stops is_name_byte name_zero (drop i s) in
           true_false (sym (letter_name (get_or s n 0) a) ∙ b)
 
   word_size : (a e k : ℕ) → same_bytes (between s a e) (spelled k) ≡ true → length (spelled k) ≤ e - a
@@ -83,7 +74,7 @@ module _ (s : List ℕ) where
   unfolding verb is_word spelled
   verb_size {v} {n} at e =
       let a = then_done (name s at) (λ x i. pick (is_word s x 37) (done set i) (pick (is_word s x 38) (done ok i) no)) e in
-      let p = name_span at a.first in
+      let p = name_span s at a.first in
       let w = go a.got a.place (is_word s a.got 37) (is_word s a.got 38) refl refl a.rest in (
         omega (arith, p.0, p.1, w.1),
         omega (arith, (name_ahead s at a.first).inside, w.0),
@@ -137,221 +128,100 @@ module _ (s : List ℕ) where
         inside = omega (arith, t.inside);
       }
 
--- ---- fields stored
+-- ---- a verb
 
-pub record FieldsGave (p : Parsed (List Field)) (from : ℕ) (spans : List ℕ) (values : List ℤ) (spans' : List ℕ) (values' : List ℤ) (k n : ℕ) : Type 0 where
-  pub read : List Field
-  pub parsed : p ≡ done read n
-  pub count : k ≡ from + length read
-  pub stored_spans : spans' ≡ sets spans (2 * from) (spans_of read)
-  pub stored_values : values' ≡ sets values from (values_of read)
-
-pub fields_got : {r : Found} {k n : ℕ} (p : Parsed (List Field)) (from : ℕ) (spans : List ℕ) (values : List ℤ) (spans' : List ℕ) (values' : List ℤ) → StoredFields p from spans values r spans' values' → r ≡ found.At k n → FieldsGave p from spans values spans' values' k n
-unfolding StoredFields
-fields_got {r} {k} {n} (done fs m) from spans values spans' values' w g =
-    let h : found.At (from + length fs) m ≡ found.At k n = sym w.0 ∙ g in
-    let a : from + length fs ≡ k = cc in
-    let b : m ≡ n = cc in
-    record { read = fs; parsed = ap (done fs) b; count = sym a; stored_spans = w.1; stored_values = w.2 }
-fields_got no from spans values spans' values' w g = let z : ◌≡◌ {A = ℕ} 0 1 = cc in absurd (omega arith)
-
-pub fields_missed : {r : Found} (p : Parsed (List Field)) (from : ℕ) (spans : List ℕ) (values : List ℤ) (spans' : List ℕ) (values' : List ℤ) → StoredFields p from spans values r spans' values' → r ≡ found.Nothing → p ≡ no
-unfolding StoredFields
-fields_missed (done fs m) from spans values spans' values' w g = let h = w.0 in let z : ◌≡◌ {A = ℕ} 0 1 = cc in absurd (omega arith)
-fields_missed no from spans values spans' values' w g = refl
-
--- ---- a verb by its number
-
-pub record VerbGave (s : List ℕ) (at k n : ℕ) : Type 0 where
+pub record VerbGave (s : List ℕ) (at : ℕ) (x : Found declared.Verb) : Type 0 where
   pub read : Verb
-  pub parsed : verb s at ≡ done read n
-  pub number : k ≡ verb_number read
+  pub parsed : verb s at ≡ done read x.next
+  pub kept : verb_in read ≡ x.value
 
-pub verb_got : {r : Found} {k n : ℕ} (s : List ℕ) (at : ℕ) → r ≡ verb_of (verb s at) → r ≡ found.At k n → VerbGave s at k n
-verb_got {r} {k} {n} s at q g = go (verb s at) refl q
+pub verb_got : {x : Found declared.Verb} (s : List ℕ) (at : ℕ) → Some x ≡ read_of verb_in (verb s at) → VerbGave s at x
+verb_got {x} s at q = go (verb s at) refl q
   where
-    go : (p : Parsed Verb) → verb s at ≡ p → r ≡ verb_of p → VerbGave s at k n
+    go : (p : Parsed Verb) → verb s at ≡ p → Some x ≡ read_of verb_in p → VerbGave s at x
     go (done v m) e h =
-        let a : verb_number v ≡ k = cc in
-        let b : m ≡ n = cc in
-        record { read = v; parsed = e ∙ ap (done v) b; number = sym a }
-    go no e h = let z : ◌≡◌ {A = ℕ} 0 1 = cc in absurd (omega arith)
+        let k : ◌≡◌ {A = Found declared.Verb} (record { value = verb_in v; next = m }) x = cc in
+        record { read = v; parsed = e ∙ ap (λ (y : Found declared.Verb). done v y.next) k; kept = ap (λ (y : Found declared.Verb). y.value) k }
+    go no e h = cc
 
--- ---- a part stored
+verb_word_is : (v : Verb) → verb_word (verb_in v) ≡ verb_number v
+verb_word_is set = refl
+verb_word_is ok = refl
+
+-- ---- a part
 
 module _ (s : List ℕ) (at : ℕ) {x : Span} {e : ℕ} (n : name s at ≡ done x e) where
   pub party_on : at < length s
   party_on = omega (arith, (name_ahead s at n).more, (name_ahead s at n).inside)
 
-  pub verb_on : {k i : ℕ} → VerbGave s e k i → at < i
+  pub verb_on : {y : Found declared.Verb} → VerbGave s e y → at < y.next
   verb_on v = omega (arith, (name_ahead s at n).more, (verb_size s e v.parsed).0, skipped_on s e)
 
-pub part_after : {p : Parsed (List Field)} {from : ℕ} {spans : List ℕ} {values : List ℤ} {spans' : List ℕ} {values' : List ℤ} {k n : ℕ} → FieldsGave p from spans values spans' values' k n → from ≤ k
-part_after f = omega (arith, f.count)
-
-part_no : (p from : ℕ) (heads spans : List ℕ) (values : List ℤ) (heads' spans' : List ℕ) (values' : List ℤ) {q : Parsed Part} {r : Found} → q ≡ no → r ≡ found.Nothing → StoredPart q p from heads spans values r heads' spans' values'
-unfolding StoredPart
-part_no p from heads spans values heads' spans' values' e q = rw e q
-
-module _ (s : List ℕ) (at p from : ℕ) (heads spans : List ℕ) (values : List ℤ) where
-  pub party_missing : (heads' spans' : List ℕ) (values' : List ℤ) {r : Found} → name s at ≡ no → r ≡ found.Nothing → StoredPart (part s at) p from heads spans values r heads' spans' values'
+module _ (s : List ℕ) (at : ℕ) where
+  pub party_missing : name s at ≡ no → part s at ≡ no
   unfolding part
-  party_missing heads' spans' values' e q = part_no p from heads spans values heads' spans' values' (rw e) q
+  party_missing e = rw e
 
-  module _ {a e : ℕ} (n : name s at ≡ done (record { start = a; end = e }) e) where
-    pub verb_missing : (heads' spans' : List ℕ) (values' : List ℤ) {r : Found} → verb s e ≡ no → r ≡ found.Nothing → StoredPart (part s at) p from heads spans values r heads' spans' values'
+  module _ {x : Span} {e : ℕ} (n : name s at ≡ done x e) where
+    pub verb_missing : verb s e ≡ no → part s at ≡ no
     unfolding part
-    verb_missing heads' spans' values' f q = part_no p from heads spans values heads' spans' values' (rw (n, f)) q
+    verb_missing f = rw (n, f)
 
-    module _ {k i : ℕ} (v : VerbGave s e k i) where
-      pub fields_missing : (heads' spans' : List ℕ) (values' : List ℤ) {r : Found} → list s (91 ∷ []) (field s) (93 ∷ []) i ≡ no → r ≡ found.Nothing → StoredPart (part s at) p from heads spans values r heads' spans' values'
+    module _ {y : Found declared.Verb} (v : VerbGave s e y) where
+      pub fields_missing : list s (91 ∷ []) (field s) (93 ∷ []) y.next ≡ no → part s at ≡ no
       unfolding part
-      fields_missing heads' spans' values' f q = part_no p from heads spans values heads' spans' values' (rw (n, v.parsed, f)) q
+      fields_missing f = rw (n, v.parsed, f)
 
-      module _ {spans' : List ℕ} {values' : List ℤ} {all j : ℕ} (f : FieldsGave (list s (91 ∷ []) (field s) (93 ∷ []) i) from spans values spans' values' all j) where
-        pub part_stored : {heads' : List ℕ} {r : Found} → heads' ≡ sets heads (4 * p) (a ∷ e ∷ k ∷ (all - from) ∷ []) → r ≡ found.At all j → StoredPart (part s at) p from heads spans values r heads' spans' values'
-        unfolding part StoredPart heads_of
-        part_stored {heads'} {r} h q =
-            let c : all - from ≡ length f.read = omega (arith, f.count) in
-            rw (n, v.parsed, f.parsed)
-            (q ∙ ap (λ (t : ℕ). found.At t j) f.count, h ∙ (λ t. sets heads (4 * p) (a ∷ e ∷ v.number t ∷ c t ∷ [])), f.stored_spans, f.stored_values)
+      -- its fields are added, then its head
+      pub part_added : (old : Agreement) {middle new : Agreement} {count j : ℕ} {r : Option ℕ} → Gave (with_fields old) (list s (91 ∷ []) (field s) (93 ∷ []) y.next) middle j → count ≡ middle.fields - old.fields → new ≡ with_head middle (x.start ∷ x.end ∷ verb_word y.value ∷ count ∷ []) → r ≡ Some j → Added (with_part old) (part s at) r new
+      unfolding part
+      part_added old {middle} {new} {count} {j} {r} f k w q =
+          let c : count ≡ length f.read = omega (arith, ap (λ (a : Agreement). a.fields) f.stored) in
+          let u : verb_word y.value ≡ verb_number v.read = ap verb_word (sym v.kept) ∙ verb_word_is v.read in
+          let p : part s at ≡ done (record { party = x; verb = v.read; fields = f.read }) j = rw (n, v.parsed, f.parsed) in
+          added_done (with_part old) p q (w ∙ (λ t. with_head (f.stored t) (x.start ∷ x.end ∷ u t ∷ c t ∷ [])))
 
--- ---- the loop over the parts
+-- ---- the parts stored so far, from nothing on
 
-pub record PartGave (q : Parsed Part) (p from : ℕ) (heads spans : List ℕ) (values : List ℤ) (heads' spans' : List ℕ) (values' : List ℤ) (k n : ℕ) : Type 0 where
-  pub read : Part
-  pub parsed : q ≡ done read n
-  pub count : k ≡ from + length read.fields
-  pub stored_heads : heads' ≡ sets heads (4 * p) (heads_of (read ∷ []))
-  pub stored_spans : spans' ≡ sets spans (2 * from) (spans_of read.fields)
-  pub stored_values : values' ≡ sets values from (values_of read.fields)
-
-pub part_got : {r : Found} {k n : ℕ} (q : Parsed Part) (p from : ℕ) (heads spans : List ℕ) (values : List ℤ) (heads' spans' : List ℕ) (values' : List ℤ) → StoredPart q p from heads spans values r heads' spans' values' → r ≡ found.At k n → PartGave q p from heads spans values heads' spans' values' k n
-unfolding StoredPart
-part_got {r} {k} {n} (done x m) p from heads spans values heads' spans' values' w g =
-    let h : found.At (from + length x.fields) m ≡ found.At k n = sym w.0 ∙ g in
-    let a : from + length x.fields ≡ k = cc in
-    let b : m ≡ n = cc in
-    record { read = x; parsed = ap (done x) b; count = sym a; stored_heads = w.1; stored_spans = w.2; stored_values = w.3 }
-part_got no p from heads spans values heads' spans' values' w g = let z : ◌≡◌ {A = ℕ} 0 1 = cc in absurd (omega arith)
-
-pub part_missed : {r : Found} (q : Parsed Part) (p from : ℕ) (heads spans : List ℕ) (values : List ℤ) (heads' spans' : List ℕ) (values' : List ℤ) → StoredPart q p from heads spans values r heads' spans' values' → r ≡ found.Nothing → q ≡ no
-unfolding StoredPart
-part_missed (done x m) p from heads spans values heads' spans' values' w g = let h = w.0 in let z : ◌≡◌ {A = ℕ} 0 1 = cc in absurd (omega arith)
-part_missed no p from heads spans values heads' spans' values' w g = refl
-
-parts_no : (heads spans : List ℕ) (values : List ℤ) (heads' spans' : List ℕ) (values' : List ℤ) {q : Parsed (List Part)} {r : Found} → q ≡ no → r ≡ found.Nothing → StoredParts q heads spans values r heads' spans' values'
-unfolding StoredParts
-parts_no heads spans values heads' spans' values' e q = rw e q
-
-pub record Turned (s : List ℕ) (heads₀ spans₀ : List ℕ) (values₀ : List ℤ) (heads spans : List ℕ) (values : List ℤ) (p k i : ℕ) : Type 0 where
-  pub read : List Part
-  pub reached : Reached s (part s) (124 ∷ 124 ∷ []) (end s) 0 i read
-  pub count : p ≡ length read
-  pub fields : k ≡ length (fields_of read)
-  pub stored_heads : heads ≡ sets heads₀ 0 (heads_of read)
-  pub stored_spans : spans ≡ sets spans₀ 0 (spans_of (fields_of read))
-  pub stored_values : values ≡ sets values₀ 0 (values_of (fields_of read))
-  pub behind : p ≤ i
-  pub few : k ≤ i
-
-pub parts_begin : (s heads spans : List ℕ) (values : List ℤ) → Turned s heads spans values heads spans values 0 0 0
-unfolding heads_of spans_of values_of fields_of
-parts_begin s heads spans values =
+abbrev pub placed : List Part → Agreement
+placed ps =
     record {
-      read = [];
-      reached = begin s (part s) (124 ∷ 124 ∷ []) (end s) 0;
-      count = refl;
-      fields = refl;
-      stored_heads = refl;
-      stored_spans = refl;
-      stored_values = refl;
-      behind = omega arith;
-      few = omega arith;
+      parts = length ps;
+      fields = length (fields_of ps);
+      heads = sets (replicate 256 0) 0 (heads_of ps);
+      spans = sets (replicate 172 0) 0 (spans_of (fields_of ps));
+      values = sets (replicate 86 (pos 0)) 0 (values_of (fields_of ps));
     }
+
+pub placed_none : agreement_of [] ≡ placed []
+unfolding agreement_of fields_of heads_of spans_of values_of
+placed_none = refl
+
+pub placed_few : (placed []).fields ≡ 0
+unfolding fields_of
+placed_few = refl
 
 one_part : (x : Part) → fields_of (x ∷ []) ≡ x.fields
 unfolding fields_of
 one_part x = append-nil x.fields
 
-module _ {s heads₀ spans₀ : List ℕ} {values₀ : List ℤ} {heads spans : List ℕ} {values : List ℤ} {p k i : ℕ} (v : Turned s heads₀ spans₀ values₀ heads spans values p k i) where
-  pub heads_same : length heads ≡ length heads₀
-  heads_same = ap length v.stored_heads ∙ length-sets heads₀ 0 (heads_of v.read)
+fields_now : (ps : List Part) (x : Part) → fields_of (ps ++ (x ∷ [])) ≡ fields_of ps ++ x.fields
+fields_now ps x = fields_append ps (x ∷ []) ∙ ap (λ (l : List Field). fields_of ps ++ l) (one_part x)
 
-  pub spans_same : length spans ≡ length spans₀
-  spans_same = ap length v.stored_spans ∙ length-sets spans₀ 0 (spans_of (fields_of v.read))
-
-  pub values_same : length values ≡ length values₀
-  values_same = ap length v.stored_values ∙ length-sets values₀ 0 (values_of (fields_of v.read))
-
-  pub parts_missing : (heads' spans' : List ℕ) (values' : List ℤ) {r : Found} → part s i ≡ no → r ≡ found.Nothing → StoredParts (parts s 0) heads₀ spans₀ values₀ r heads' spans' values'
-  unfolding parts
-  parts_missing heads' spans' values' e q = parts_no heads₀ spans₀ values₀ heads' spans' values' (missing s (part s) (124 ∷ 124 ∷ []) (end s) v.reached e) q
-
-  module _ {heads' spans' : List ℕ} {values' : List ℤ} {all n : ℕ} (g : PartGave (part s i) p k heads spans values heads' spans' values' all n) where
-    pub part_inside : i < length s
-    part_inside = omega (arith, (part_size s i g.parsed).least, (part_size s i g.parsed).inside)
-
-    pub part_on : {m : ℕ} → mark s (124 ∷ 124 ∷ []) n ≡ done tt m → i + 1 < m
-    part_on e = omega (arith, (part_size s i g.parsed).least, (mark_ahead s 124 (124 ∷ []) n e).more)
-
-    part_few : {m : ℕ} → mark s (124 ∷ 124 ∷ []) n ≡ done tt m → all ≤ m
-    part_few e = omega (arith, g.count, v.few, (part_size s i g.parsed).each, (mark_ahead s 124 (124 ∷ []) n e).more)
-
-    read' : List Part
-    read' = v.read ++ (g.read ∷ [])
-
-    fields_now : fields_of read' ≡ fields_of v.read ++ g.read.fields
-    unfolding read'
-    fields_now = fields_append v.read (g.read ∷ []) ∙ ap (λ (l : List Field). fields_of v.read ++ l) (one_part g.read)
-
-    count_now : p + 1 ≡ length read'
-    unfolding read'
-    count_now = omega (arith, v.count, length-append v.read (g.read ∷ []))
-
-    all_now : all ≡ length (fields_of read')
-    all_now = omega (arith, v.fields, g.count, ap length fields_now, length-append (fields_of v.read) g.read.fields)
-
-    heads_now : heads' ≡ sets heads₀ 0 (heads_of read')
-    unfolding read'
-    heads_now =
-        g.stored_heads
-        ∙ (λ t. sets (v.stored_heads t) (4 * v.count t) (heads_of (g.read ∷ [])))
-        ∙ sym (heads_more heads₀ v.read (g.read ∷ []))
-
-    spans_now : spans' ≡ sets spans₀ 0 (spans_of (fields_of read'))
-    spans_now =
-        g.stored_spans
-        ∙ (λ t. sets (v.stored_spans t) (2 * v.fields t) (spans_of g.read.fields))
-        ∙ sym (ap (λ (l : List Field). sets spans₀ 0 (spans_of l)) fields_now ∙ spans_more spans₀ 0 (fields_of v.read) g.read.fields ∙ ap (λ (j : ℕ). sets (sets spans₀ 0 (spans_of (fields_of v.read))) j (spans_of g.read.fields)) (omega arith))
-
-    values_now : values' ≡ sets values₀ 0 (values_of (fields_of read'))
-    values_now =
-        g.stored_values
-        ∙ (λ t. sets (v.stored_values t) (v.fields t) (values_of g.read.fields))
-        ∙ sym (ap (λ (l : List Field). sets values₀ 0 (values_of l)) fields_now ∙ values_more values₀ 0 (fields_of v.read) g.read.fields ∙ ap (λ (j : ℕ). sets (sets values₀ 0 (values_of (fields_of v.read))) j (values_of g.read.fields)) (omega arith))
-
-    pub parts_turn : {m : ℕ} → mark s (124 ∷ 124 ∷ []) n ≡ done tt m → Turned s heads₀ spans₀ values₀ heads' spans' values' (p + 1) all m
-    unfolding read'
-    parts_turn {m} e =
-        record {
-          read = v.read ++ (g.read ∷ []);
-          reached = turn s (part s) (124 ∷ 124 ∷ []) (end s) v.reached g.parsed part_inside e (omega (arith, part_on e));
-          count = count_now;
-          fields = all_now;
-          stored_heads = heads_now;
-          stored_spans = spans_now;
-          stored_values = values_now;
-          behind = omega (arith, v.behind, part_on e);
-          few = part_few e;
-        }
-
-    pub parts_last : {r : Found} → mark s (124 ∷ 124 ∷ []) n ≡ no → is_done (end s n) ≡ true → r ≡ found.At (p + 1) all → StoredParts (parts s 0) heads₀ spans₀ values₀ r heads' spans' values'
-    unfolding parts StoredParts read'
-    parts_last {r} e f q =
-        rw (last s (part s) (124 ∷ 124 ∷ []) (end s) v.reached g.parsed part_inside e (end_yes s n f))
-        (q ∙ (λ t. found.At (count_now t) (all_now t)), heads_now, spans_now, values_now)
-
-    pub parts_unclosed : {r : Found} → mark s (124 ∷ 124 ∷ []) n ≡ no → is_done (end s n) ≡ false → r ≡ found.Nothing → StoredParts (parts s 0) heads₀ spans₀ values₀ r heads' spans' values'
-    unfolding parts
-    parts_unclosed {r} e f q = parts_no heads₀ spans₀ values₀ heads' spans' values' (unclosed s (part s) (124 ∷ 124 ∷ []) (end s) v.reached g.parsed part_inside e (end_no s n f)) q
+pub part_more : (ps : List Part) (x : Part) {out new : Agreement} → out ≡ placed ps → new ≡ with_part out x → new ≡ placed (ps ++ (x ∷ []))
+unfolding heads_of
+part_more ps x {out} {new} e q =
+    let f = fields_now ps x in
+    let n : length ps + 1 ≡ length (ps ++ (x ∷ [])) = omega (arith, length-append ps (x ∷ [])) in
+    let k : length (fields_of ps) + length x.fields ≡ length (fields_of (ps ++ (x ∷ []))) = omega (arith, ap length f, length-append (fields_of ps) x.fields) in
+    let z : 0 + length (fields_of ps) ≡ length (fields_of ps) = omega arith in
+    let h : sets (sets (replicate 256 0) 0 (heads_of ps)) (4 * length ps) (heads_of (x ∷ [])) ≡ sets (replicate 256 0) 0 (heads_of (ps ++ (x ∷ []))) = sym (heads_more (replicate 256 0) ps (x ∷ [])) in
+    let t : sets (sets (replicate 172 0) 0 (spans_of (fields_of ps))) (2 * length (fields_of ps)) (spans_of x.fields) ≡ sets (replicate 172 0) 0 (spans_of (fields_of (ps ++ (x ∷ [])))) =
+    ap (λ (j : ℕ). sets (sets (replicate 172 0) 0 (spans_of (fields_of ps))) (2 * j) (spans_of x.fields)) (sym z)
+    ∙ sym (spans_more (replicate 172 0) 0 (fields_of ps) x.fields)
+    ∙ ap (λ (l : List Field). sets (replicate 172 0) 0 (spans_of l)) (sym f) in
+    let v : sets (sets (replicate 86 (pos 0)) 0 (values_of (fields_of ps))) (length (fields_of ps)) (values_of x.fields) ≡ sets (replicate 86 (pos 0)) 0 (values_of (fields_of (ps ++ (x ∷ [])))) =
+    ap (λ (j : ℕ). sets (sets (replicate 86 (pos 0)) 0 (values_of (fields_of ps))) j (values_of x.fields)) (sym z)
+    ∙ sym (values_more (replicate 86 (pos 0)) 0 (fields_of ps) x.fields)
+    ∙ ap (λ (l : List Field). sets (replicate 86 (pos 0)) 0 (values_of l)) (sym f) in
+    q ∙ ap (λ (a : Agreement). with_part a x) e ∙ (λ j. record { parts = n j; fields = k j; heads = h j; spans = t j; values = v j })

@@ -107,6 +107,17 @@ module _ (s : List ℕ) where
         inside = omega (arith, run_within is_name_byte s i (omega arith));
       }
 
+module _ (s : List ℕ) where
+  pub name_span : {x : Span} {n : ℕ} (at : ℕ) → name s at ≡ done x n → (x.start ≡ skipped s at) × (x.end ≡ n) × (n ≡ skipped s at + run is_name_byte (drop (skipped s at) s)) × (is_letter (get_or s (skipped s at) 0) ≡ true)
+  unfolding name name_from
+  name_span {x} {n} at e =
+      let i = skipped s at in
+      let j = i + run is_name_byte (drop i s) in
+      let t = taken (is_letter (get_or s i 0)) (done (record { start = i; end = j }) j) e in
+      let q : record { start = i; end = j } ≡ x = cc in
+      let p : j ≡ n = cc in
+      (sym (ap (λ (y : Span). y.start) q), sym (ap (λ (y : Span). y.end) q) ∙ p, sym p, t.0)
+
 -- ---- one parser after the other
 
 pub record Then {A B : Type 0} (p : Parsed A) (f : A → ℕ → Parsed B) (b : B) (n : ℕ) : Type 0 where

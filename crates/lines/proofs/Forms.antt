@@ -8,22 +8,30 @@ use native.Mathlib.Omega.{arith}
 use lib.ListN.{length, get_or, drop, replicate, length-replicate, length-append}
 use lib.Seq.{sets, sets-eq, get_or-drop}
 use lib.Dec.{eqb, leb}
+use lib.IntN.{ℤ, pos}
 use borrow.Author.Tests.{eqb-true, le-leb, lt-leb}
+use Rattle.questions.specs.declared.Question.TheVariants as ask
 use Rattle.laws.specs.Choice.{pick}
 use Rattle.laws.specs.Bytes.{bytes, starts_with}
 use Rattle.laws.proofs.Choice.{true_false, pick_true, pick_false}
 use Rattle.tokens.specs.Classes.{within as in_range, is_letter}
-use Rattle.lines.specs.Lines.{Span, Part, Names, Lists, Asked, refused, call, Parsed, done, no, and_then, give, otherwise, skipped, is_next, mark, end, name_from, name, verb, integer, list, names, lists, part, parts, tick_line, call_line, agreement_line, or_refused, asked}
-use Rattle.lines.specs.Answers.{padded, plain, line_of, parts_of, fields_of}
-use Rattle.lines.specs.Private.{time_of, request_of}
-use Rattle.lines.specs.declared.Time.{Time}
-use Rattle.lines.specs.declared.Time.TheVariants as time
+use Rattle.lines.specs.Lines.{Span, Part, Names, Lists, Asked, refused, call, agreement, Parsed, done, no, and_then, give, otherwise, skipped, is_next, mark, end, name_from, name, verb, integer, list, names, lists, part, parts, tick_line, call_line, agreement_line, or_refused, asked}
+use Rattle.lines.specs.Answers.{padded, plain, line_of, parts_of, fields_of, heads_of, spans_of, values_of, agreement_of}
+use Rattle.std.specs.Prelude.{Option, Some, None}
+use Rattle.lines.specs.Private.{given, request_in, names_from, with_integers}
+use Rattle.lines.specs.declared.Integers.{Integers}
+use Rattle.lines.specs.declared.Names as declared
+use Rattle.lines.specs.declared.Request.{Request}
+use Rattle.lines.specs.declared.Request.TheVariants as request
+use Rattle.lines.specs.declared.Line.{Line}
+use Rattle.lines.specs.declared.Agreement.{Agreement}
+use Rattle.lines.proofs.Got.{Gave, given_missed}
 use Rattle.lines.proofs.Ahead.{then_done, taken, mark_size}
+use Rattle.lines.proofs.Flat.{sets_append, spans_length, values_length, heads_length}
 use Rattle.lines.proofs.Turns.{begin, missing, next_yes}
-use Rattle.lines.proofs.Size.{total, items_size, items_some, total_eight}
-use Rattle.lines.proofs.Times.{Timed, timed_parts, or_else, untimed, timed_told, tick_gives}
-use Rattle.lines.proofs.Calls.{integers_size}
-use Rattle.lines.proofs.Agreed.{part_size}
+use Rattle.lines.proofs.Size.{total, items_size, total_eight, integers_size}
+use Rattle.lines.proofs.Times.{Timed, ticks, jumps, timed_parts, tick_gives}
+use Rattle.lines.proofs.Agreed.{part_size, placed}
 
 -- ---- arrays
 
@@ -89,11 +97,6 @@ module _ (s : List ℕ) (short : length s ≤ 512) where
         integers_size s 91 93 a.place b.got b.place b.first,
       )
 
--- an agreement has a part
-pub some_part : (s : List ℕ) (n : ℕ) → parts s 0 ≡ done [] n → ⊥
-unfolding parts
-some_part s n e = let h = items_some s (part s) (bytes "||") (end s) (length s) 0 [] n e in omega arith
-
 -- ---- the first tokens tell the forms apart
 
 starts_byte : (t : List ℕ) (b : ℕ) → starts_with t (b ∷ []) ≡ true → get_or t 0 0 ≡ b
@@ -152,7 +155,7 @@ module _ (s : List ℕ) where
 
 -- ---- what a line asks for
 
-pub asked_long : (s : List ℕ) → 512 < length s → asked s ≡ refused 50
+pub asked_long : (s : List ℕ) → 512 < length s → asked s ≡ refused ask.LineLength
 unfolding asked
 asked_long s h = pick_false _ _ _ (lt-leb (length s) 512 h)
 
@@ -161,23 +164,22 @@ module _ (s : List ℕ) (short : length s ≤ 512) where
   unfolding asked
   asked_short = pick_true _ _ _ (le-leb (length s) 512 short)
 
-  -- by what `time_line` answers
-  pub asked_time : {t u : Time} → t ≡ time_of (tick_line s 0) → t ≡ u → asked s ≡ or_else u (untimed s)
-  asked_time {t} {u} told e =
-      asked_short
-      ∙ go (tick_line s 0) refl
-      ∙ ap (λ (x : Time). or_else x (untimed s)) (sym told ∙ e)
-    where
-      go : (p : Parsed Asked) → tick_line s 0 ≡ p → or_refused (otherwise p (otherwise (call_line s 0) (agreement_line s 0))) ≡ or_else (time_of p) (untimed s)
-      go (done a n) q = timed_told n (untimed s) (tick_alone s q).0
-      go no q = refl
+  -- by the first form that reads it
+  pub asked_timed : {a : Asked} {n : ℕ} → tick_line s 0 ≡ done a n → asked s ≡ a
+  asked_timed e = asked_short ∙ rw e
 
-  -- a line that is one of those
-  pub asked_timed : (t : Time) → t ≡ time_of (tick_line s 0) → (t ≡ time.Nothing → ⊥) → plain (request_of t) ≡ line_of (asked s)
-  unfolding line_of
-  asked_timed time.Tick told k = sym (ap line_of (asked_time told refl))
-  asked_timed (time.Jump T) told k = sym (ap line_of (asked_time told refl))
-  asked_timed time.Nothing told k = absurd (k refl)
+  module _ (t : tick_line s 0 ≡ no) where
+    pub asked_called : {a : Asked} {n : ℕ} → call_line s 0 ≡ done a n → asked s ≡ a
+    asked_called e = asked_short ∙ rw (t, e)
+
+    module _ (c : call_line s 0 ≡ no) where
+      pub asked_agreed : {ps : List Part} {n : ℕ} → parts s 0 ≡ done ps n → asked s ≡ agreement ps
+      unfolding agreement_line
+      asked_agreed e = asked_short ∙ rw (t, c, e)
+
+      pub asked_none : parts s 0 ≡ no → asked s ≡ refused ask.LineForm
+      unfolding agreement_line
+      asked_none e = asked_short ∙ rw (t, c, e)
 
   -- the parts of any line are those of an agreement
   pub asked_parts : parts_of (or_refused (agreement_line s 0)) ≡ parts_of (asked s)
@@ -187,3 +189,108 @@ module _ (s : List ℕ) (short : length s ≤ 512) where
       go (done a n) q e f = ap (λ (x : Parsed Asked). parts_of (or_refused x)) (tick_alone s e).1 ∙ sym (timed_parts (tick_alone s e).0)
       go no (done a n) e f = ap (λ (x : Parsed Asked). parts_of (or_refused x)) (call_alone s f).1 ∙ sym (call_alone s f).0
       go no no e f = refl
+
+  module _ {n : ℕ} {ps : List Part} (e : parts s 0 ≡ done ps n) where
+    pub parts_read : ps ≡ parts_of (asked s)
+    unfolding agreement_line
+    parts_read = (rw e) ∙ asked_parts
+
+    -- what was stored
+    pub parts_made : placed ps ≡ agreement_of ps
+    unfolding agreement_of
+    parts_made =
+        let a : length (heads_of ps) ≤ 256 = omega (arith, heads_length ps, parts_fit s short ps n e) in
+        let b : length (spans_of (fields_of ps)) ≤ 172 = omega (arith, spans_length (fields_of ps), fields_fit s short ps n e) in
+        let c : length (values_of (fields_of ps)) ≤ 86 = omega (arith, values_length (fields_of ps), fields_fit s short ps n e) in
+        λ j. record { parts = length ps; fields = length (fields_of ps); heads = padded_by 0 256 (heads_of ps) a j; spans = padded_by 0 172 (spans_of (fields_of ps)) b j; values = padded_by (pos 0) 86 (values_of (fields_of ps)) c j }
+
+  pub no_parts_read : parts s 0 ≡ no → [] ≡ parts_of (asked s)
+  unfolding agreement_line
+  no_parts_read e = (rw e) ∙ asked_parts
+
+  pub agreement_told : {x : Agreement} → Some x ≡ given agreement_of (parts s 0) → x ≡ agreement_of (parts_of (asked s))
+  agreement_told {x} q = go (parts s 0) refl q
+    where
+      go : (p : Parsed (List Part)) → parts s 0 ≡ p → Some x ≡ given agreement_of p → x ≡ agreement_of (parts_of (asked s))
+      go (done ps n) e h = let k : agreement_of ps ≡ x = cc in sym k ∙ ap agreement_of (parts_read e)
+      go no e h = cc
+
+-- a tick or a jump asks for nothing else
+pub timed_plain : {a : Asked} → Timed a → plain (line_of a).request ≡ line_of a
+unfolding line_of
+timed_plain ticks = refl
+timed_plain (jumps z) = refl
+
+-- ---- what a line asks for, told by the first form that reads it
+
+module _ (s : List ℕ) (short : length s ≤ 512) where
+  pub time_told : {x : Request} → Some x ≡ given request_in (tick_line s 0) → plain x ≡ line_of (asked s)
+  time_told {x} q = go (tick_line s 0) refl q
+    where
+      go : (p : Parsed Asked) → tick_line s 0 ≡ p → Some x ≡ given request_in p → plain x ≡ line_of (asked s)
+      go (done a n) e h =
+          let k : request_in a ≡ x = cc in
+          ap plain (sym k) ∙ timed_plain (tick_alone s e).0 ∙ sym (ap line_of (asked_timed s short e))
+      go no e h = cc
+
+  module _ (t : tick_line s 0 ≡ no) where
+    pub call_told : {x : Line} → Some x ≡ given line_of (call_line s 0) → x ≡ line_of (asked s)
+    call_told {x} q = go (call_line s 0) refl q
+      where
+        go : (p : Parsed Asked) → call_line s 0 ≡ p → Some x ≡ given line_of p → x ≡ line_of (asked s)
+        go (done a n) e h = let k : line_of a ≡ x = cc in sym k ∙ sym (ap line_of (asked_called s short t e))
+        go no e h = cc
+
+    module _ (c : call_line s 0 ≡ no) where
+      pub parts_told : {x : Agreement} → Some x ≡ given agreement_of (parts s 0) → plain request.Agreement ≡ line_of (asked s)
+      unfolding line_of
+      parts_told {x} q = go (parts s 0) refl q
+        where
+          go : (p : Parsed (List Part)) → parts s 0 ≡ p → Some x ≡ given agreement_of p → plain request.Agreement ≡ line_of (asked s)
+          go (done ps n) e h = sym (ap line_of (asked_agreed s short t c e))
+          go no e h = cc
+
+      pub nothing_told : None ≡ given agreement_of (parts s 0) → plain (request.Refused ask.LineForm) ≡ line_of (asked s)
+      unfolding line_of
+      nothing_told q = sym (ap line_of (asked_none s short t c (given_missed agreement_of (parts s 0) q)))
+
+-- ---- a call
+
+module _ (s : List ℕ) {m : Names} {d : ℕ} (e : names s 0 ≡ done m d) where
+  pub no_values : list s (40 ∷ []) (integer s) (41 ∷ []) d ≡ no → call_line s 0 ≡ no
+  unfolding call_line lists
+  no_values f = rw (e, f)
+
+  module _ {vs : List ℤ} {i : ℕ} (v : list s (40 ∷ []) (integer s) (41 ∷ []) d ≡ done vs i) where
+    pub no_assets : list s (91 ∷ []) (integer s) (93 ∷ []) i ≡ no → call_line s 0 ≡ no
+    unfolding call_line lists
+    no_assets f = rw (e, v, f)
+
+    module _ {hs : List ℤ} {j : ℕ} (w : list s (91 ∷ []) (integer s) (93 ∷ []) i ≡ done hs j) where
+      pub call_more : end s j ≡ no → call_line s 0 ≡ no
+      unfolding call_line lists
+      call_more f = rw (e, v, w, f)
+
+      module _ (f : end s j ≡ done tt j) where
+        call_whole : call_line s 0 ≡ done (call (record { names = m; lists = record { values = vs; assets = hs } })) j
+        unfolding call_line lists
+        call_whole = rw (e, v, w, f)
+
+        call_fits : length s ≤ 512 → sets (replicate 256 (pos 0)) 0 (vs ++ hs) ≡ padded (pos 0) 256 (vs ++ hs)
+        unfolding lists
+        call_fits short = padded_by (pos 0) 256 (vs ++ hs) (omega (arith, lists_fit s short d (record { values = vs; assets = hs }) j (rw (v, w, f))))
+
+abbrev pub no_integer : Integers
+no_integer = record { count = 0; all = replicate 256 (pos 0) }
+
+pub call_made : {x : declared.Names} {d : ℕ} {first second : Integers} {i j : ℕ} (s : List ℕ) → length s ≤ 512 → names s 0 ≡ done (names_from x) d → Gave (with_integers no_integer) (list s (40 ∷ []) (integer s) (41 ∷ []) d) first i → Gave (with_integers first) (list s (91 ∷ []) (integer s) (93 ∷ []) i) second j → end s j ≡ done tt j → ◌≡◌ {A = Option Line} (Some (record { request = request.Call; party_start = x.party.start; party_end = x.party.end; function_start = x.function.start; function_end = x.function.end; values = first.count; assets = second.count - first.count; numbers = second.all })) (given line_of (call_line s 0))
+unfolding line_of
+call_made {x} {d} {first} {second} {i} {j} s short e v w f =
+    let a : first.count ≡ length v.read = ap (λ (y : Integers). y.count) v.stored ∙ (let z : 0 + length v.read ≡ length v.read = omega arith in z) in
+    let b : second.count - first.count ≡ length w.read = omega (arith, ap (λ (y : Integers). y.count) w.stored) in
+    let n : second.all ≡ padded (pos 0) 256 (v.read ++ w.read) =
+    ap (λ (y : Integers). y.all) (w.stored ∙ ap (λ (y : Integers). with_integers y w.read) v.stored)
+    ∙ sym (sets_append (replicate 256 (pos 0)) 0 v.read w.read)
+    ∙ call_fits s e v.parsed w.parsed f short in
+    (λ t. Some (record { request = request.Call; party_start = x.party.start; party_end = x.party.end; function_start = x.function.start; function_end = x.function.end; values = a t; assets = b t; numbers = n t }))
+    ∙ sym (ap (given line_of) (call_whole s e v.parsed w.parsed f))

@@ -1,101 +1,116 @@
 -- From a callee's answer back to what its parser gave. Assumes nothing.
-use mathlib.Core.Path.{◌≡◌, refl, sym, ap, ◌∙◌}
+use mathlib.Core.Path.{◌≡◌, refl, sym, ap, subst, ◌∙◌}
 use mathlib.Core.Bool.{Bool, true, false}
 use mathlib.Core.List.{List}
 use Prim.Native.Nat.{ℕ, ◌+◌}
-use native.Mathlib.Omega.{arith}
+use Rattle.std.specs.Prelude.{Option, Some, None}
 use lib.ListN.{length, get_or, drop}
 use lib.IntN.{ℤ}
 use lib.Dec.{leb}
 use Rattle.laws.specs.Choice.{pick}
+use Rattle.laws.specs.Bytes.{bytes}
 use Rattle.laws.proofs.Choice.{true_false}
 use Rattle.tokens.specs.Classes.{is_letter, is_name_byte, run}
-use Rattle.lines.specs.Lines.{Span, Verb, Field, Parsed, done, no, skipped, end, name_from, name, mark, integer, verb, field}
-use Rattle.lines.specs.Private.{place_of, is_done, name_of, verb_of, whole_of, pair_of}
-use Rattle.lines.specs.declared.Place.{Place}
-use Rattle.lines.specs.declared.Place.TheVariants as place
+use Rattle.lines.specs.Lines as lines
+use Rattle.lines.specs.Lines.{Parsed, done, no, and_then, give, skipped, mark, end, name_from, name, names, integer, field}
+use Rattle.lines.specs.Private.{place_of, is_done, given, read_of, Added, span_in, span_from, field_in, field_from, names_in, names_from}
+use Rattle.lines.specs.declared.Span.{Span}
 use Rattle.lines.specs.declared.Found.{Found}
-use Rattle.lines.specs.declared.Found.TheVariants as found
-use Rattle.lines.specs.declared.Whole.{Whole}
-use Rattle.lines.specs.declared.Whole.TheVariants as whole
-use Rattle.lines.specs.declared.Pair.{Pair}
-use Rattle.lines.specs.declared.Pair.TheVariants as pair
+use Rattle.lines.specs.declared.Field.{Field}
+use Rattle.lines.specs.declared.Names.{Names}
+use Rattle.lines.proofs.Ahead.{then_done, name_span}
 
-place_got : {r : Place} {n : ℕ} (p : Parsed Unit) → r ≡ place_of p → r ≡ place.At n → p ≡ done tt n
-place_got {r} {n} (done u m) q g = let h : m ≡ n = cc in ap (λ (k : ℕ). done tt k) h
-place_got no q g = let z : ◌≡◌ {A = ℕ} 0 1 = cc in absurd (omega arith)
+pub place_got : {n : ℕ} (p : Parsed Unit) → Some n ≡ place_of p → p ≡ done tt n
+place_got {n} (done u m) q = let h : m ≡ n = cc in ap (λ (k : ℕ). done tt k) h
+place_got no q = cc
 
-place_missed : {r : Place} (p : Parsed Unit) → r ≡ place_of p → r ≡ place.Nothing → p ≡ no
-place_missed (done u m) q g = let z : ◌≡◌ {A = ℕ} 0 1 = cc in absurd (omega arith)
-place_missed no q g = refl
+pub place_missed : {A : Type 0} (p : Parsed A) → None ≡ place_of p → p ≡ no
+place_missed (done a m) q = cc
+place_missed no q = refl
 
-whole_got : {r : Whole} {x : ℤ} {n : ℕ} (p : Parsed ℤ) → r ≡ whole_of p → r ≡ whole.Is x n → p ≡ done x n
-whole_got (done y m) q g = cc
-whole_got no q g = let z : ◌≡◌ {A = ℕ} 0 1 = cc in absurd (omega arith)
+module _ {A B : Type 0} (f : A → B) where
+  pub given_missed : (p : Parsed A) → None ≡ given f p → p ≡ no
+  given_missed (done a m) q = cc
+  given_missed no q = refl
 
-whole_missed : {r : Whole} (p : Parsed ℤ) → r ≡ whole_of p → r ≡ whole.Nothing → p ≡ no
-whole_missed (done u m) q g = let z : ◌≡◌ {A = ℕ} 0 1 = cc in absurd (omega arith)
-whole_missed no q g = refl
+  pub read_missed : (p : Parsed A) → None ≡ read_of f p → p ≡ no
+  read_missed (done a m) q = cc
+  read_missed no q = refl
 
-name_none : {r : Found} (p : Parsed Span) → r ≡ name_of p → r ≡ found.Nothing → p ≡ no
-name_none (done u m) q g = let z : ◌≡◌ {A = ℕ} 0 1 = cc in absurd (omega arith)
-name_none no q g = refl
+-- what was read and stored
+pub record Gave {A B : Type 0} (add : A → B) (p : Parsed A) (new : B) (n : ℕ) : Type 0 where
+  pub read : A
+  pub parsed : p ≡ done read n
+  pub stored : new ≡ add read
 
-verb_none : {r : Found} (p : Parsed Verb) → r ≡ verb_of p → r ≡ found.Nothing → p ≡ no
-verb_none (done u m) q g = let z : ◌≡◌ {A = ℕ} 0 1 = cc in absurd (omega arith)
-verb_none no q g = refl
+module _ {A B : Type 0} (add : A → B) where
+  pub added_got : {n : ℕ} {new : B} (p : Parsed A) → Added add p (Some n) new → Gave add p new n
+  added_got {n} {new} (done a m) w = let h : m ≡ n = cc in record { read = a; parsed = ap (done a) h; stored = w.1 }
+  added_got no w = cc
 
-pair_got : {r : Pair} {a e n : ℕ} {x : ℤ} (p : Parsed Field) → r ≡ pair_of p → r ≡ pair.Of a e x n → p ≡ done (record { name = record { start = a; end = e }; value = x }) n
-pair_got {r} {a} {e} {n} {x} (done f m) q g =
-    let h1 : f.name.start ≡ a = cc in
-    let h2 : f.name.end ≡ e = cc in
-    let h3 : f.value ≡ x = cc in
-    let h4 : m ≡ n = cc in
-    λ i. done (record { name = record { start = h1 i; end = h2 i }; value = h3 i }) (h4 i)
-pair_got no q g = let z : ◌≡◌ {A = ℕ} 0 1 = cc in absurd (omega arith)
+  pub added_missed : (new : B) (p : Parsed A) → Added add p None new → p ≡ no
+  added_missed new (done a m) w = let h = w.0 in cc
+  added_missed new no w = refl
 
-pair_missed : {r : Pair} (p : Parsed Field) → r ≡ pair_of p → r ≡ pair.Nothing → p ≡ no
-pair_missed (done u m) q g = let z : ◌≡◌ {A = ℕ} 0 1 = cc in absurd (omega arith)
-pair_missed no q g = refl
+  pub added_no : {p : Parsed A} {r : Option ℕ} (new : B) → p ≡ no → r ≡ None → Added add p r new
+  added_no new e q = rw e q
 
--- a name ends where the parser stands after it
-pub name_got : {r : Found} {a e : ℕ} (s : List ℕ) (at : ℕ) → r ≡ name_of (name s at) → r ≡ found.At a e → name s at ≡ done (record { start = a; end = e }) e
+  pub added_done : {p : Parsed A} {r : Option ℕ} {new : B} {a : A} {n : ℕ} → p ≡ done a n → r ≡ Some n → new ≡ add a → Added add p r new
+  added_done e q w = rw e (q, w)
+
+  pub added_as : (r : Option ℕ) (new : B) {p q : Parsed A} → p ≡ q → Added add q r new → Added add p r new
+  added_as r new e w = subst (λ (x : Parsed A). Added add x r new) (sym e) w
+
+-- the parser stands at the end of the function's name
+names_end : {x : lines.Names} {n : ℕ} (s : List ℕ) → names s 0 ≡ done x n → x.function.end ≡ n
+unfolding names
+names_end {x} {n} s e =
+    let a = then_done (name s 0) (λ p i. and_then (mark s (bytes ":") i) (λ u j. and_then (name s j) (λ f. give (record { party = p; function = f })))) e in
+    let b = then_done (mark s (bytes ":") a.place) (λ u j. and_then (name s j) (λ f. give (record { party = a.got; function = f }))) a.rest in
+    let d = then_done (name s b.place) (λ f. give (record { party = a.got; function = f })) b.rest in
+    let q : record { party = a.got; function = d.got } ≡ x = cc in
+    let p : d.place ≡ n = cc in
+    sym (ap (λ (y : lines.Names). y.function.end) q) ∙ (name_span s b.place d.first).1 ∙ p
+
+pub name_got : {x : Span} (s : List ℕ) (at : ℕ) → Some x ≡ given span_in (name s at) → name s at ≡ done (span_from x) x.end
 unfolding name name_from pick
-name_got {r} {a} {e} s at q g = go (is_letter (get_or s (skipped s at) 0)) (skipped s at) (skipped s at + run is_name_byte (drop (skipped s at) s)) q
+name_got {x} s at q = go (is_letter (get_or s (skipped s at) 0)) (skipped s at) (skipped s at + run is_name_byte (drop (skipped s at) s)) q
   where
-    go : (b : Bool) (i j : ℕ) → r ≡ name_of (pick {A = Parsed Span} b (done (record { start = i; end = j }) j) no) → pick {A = Parsed Span} b (done (record { start = i; end = j }) j) no ≡ done (record { start = a; end = e }) e
+    go : (b : Bool) (i j : ℕ) → Some x ≡ given span_in (pick {A = Parsed lines.Span} b (done (record { start = i; end = j }) j) no) → pick {A = Parsed lines.Span} b (done (record { start = i; end = j }) j) no ≡ done (span_from x) x.end
     go true i j h =
-        let h0 : found.At i j ≡ found.At a e = sym h ∙ g in
-        let h1 : i ≡ a = cc in
-        let h2 : j ≡ e = cc in
-        λ t. done (record { start = h1 t; end = h2 t }) (h2 t)
-    go false i j h = let z : ◌≡◌ {A = ℕ} 0 1 = cc in absurd (omega arith)
+        let k : ◌≡◌ {A = Span} (record { start = i; end = j }) x = cc in
+        ap (λ (y : Span). done (span_from y) y.end) k
+    go false i j h = cc
+
+pub names_got : {x : Names} (s : List ℕ) → Some x ≡ given names_in (names s 0) → names s 0 ≡ done (names_from x) x.function.end
+names_got {x} s q = go (names s 0) refl q
+  where
+    go : (p : Parsed lines.Names) → names s 0 ≡ p → Some x ≡ given names_in p → p ≡ done (names_from x) x.function.end
+    go (done m n) e h =
+        let k : ◌≡◌ {A = Names} (names_in m) x = cc in
+        let l : n ≡ x.function.end = sym (names_end s e) ∙ ap (λ (y : Names). y.function.end) k in
+        λ j. done (names_from (k j)) (l j)
+    go no e h = cc
+
+pub integer_got : {x : Found ℤ} (s : List ℕ) (at : ℕ) → Some x ≡ read_of (λ (z : ℤ). z) (integer s at) → integer s at ≡ done x.value x.next
+integer_got {x} s at q = go (integer s at) q
+  where
+    go : (p : Parsed ℤ) → Some x ≡ read_of (λ (z : ℤ). z) p → p ≡ done x.value x.next
+    go (done z n) h =
+        let k : ◌≡◌ {A = Found ℤ} (record { value = z; next = n }) x = cc in
+        ap (λ (y : Found ℤ). done y.value y.next) k
+    go no h = cc
+
+pub field_got : {x : Found Field} (s : List ℕ) (at : ℕ) → Some x ≡ read_of field_in (field s at) → field s at ≡ done (field_from x.value) x.next
+field_got {x} s at q = go (field s at) q
+  where
+    go : (p : Parsed lines.Field) → Some x ≡ read_of field_in p → p ≡ done (field_from x.value) x.next
+    go (done f n) h =
+        let k : ◌≡◌ {A = Found Field} (record { value = field_in f; next = n }) x = cc in
+        ap (λ (y : Found Field). done (field_from y.value) y.next) k
+    go no h = cc
 
 module _ (s : List ℕ) where
-  pub name_missed : {r : Found} (at : ℕ) → r ≡ name_of (name s at) → r ≡ found.Nothing → name s at ≡ no
-  name_missed at = name_none (name s at)
-
-  pub mark_got : {r : Place} {n : ℕ} (m : List ℕ) (at : ℕ) → r ≡ place_of (mark s m at) → r ≡ place.At n → mark s m at ≡ done tt n
-  mark_got m at = place_got (mark s m at)
-
-  pub mark_missed : {r : Place} (m : List ℕ) (at : ℕ) → r ≡ place_of (mark s m at) → r ≡ place.Nothing → mark s m at ≡ no
-  mark_missed m at = place_missed (mark s m at)
-
-  pub integer_got : {r : Whole} {x : ℤ} {n : ℕ} (at : ℕ) → r ≡ whole_of (integer s at) → r ≡ whole.Is x n → integer s at ≡ done x n
-  integer_got at = whole_got (integer s at)
-
-  pub integer_missed : {r : Whole} (at : ℕ) → r ≡ whole_of (integer s at) → r ≡ whole.Nothing → integer s at ≡ no
-  integer_missed at = whole_missed (integer s at)
-
-  pub verb_missed : {r : Found} (at : ℕ) → r ≡ verb_of (verb s at) → r ≡ found.Nothing → verb s at ≡ no
-  verb_missed at = verb_none (verb s at)
-
-  pub field_got : {r : Pair} {a e n : ℕ} {x : ℤ} (at : ℕ) → r ≡ pair_of (field s at) → r ≡ pair.Of a e x n → field s at ≡ done (record { name = record { start = a; end = e }; value = x }) n
-  field_got at = pair_got (field s at)
-
-  pub field_missed : {r : Pair} (at : ℕ) → r ≡ pair_of (field s at) → r ≡ pair.Nothing → field s at ≡ no
-  field_missed at = pair_missed (field s at)
-
   pub end_yes : (at : ℕ) → is_done (end s at) ≡ true → end s at ≡ done tt at
   unfolding end pick
   end_yes at e = go (leb (length s) (skipped s at)) e

@@ -1,5 +1,4 @@
 -- Laws that the proofs share.
-pub mod Range
 pub mod Parse
 pub mod Got
 pub mod Ahead
@@ -8,9 +7,7 @@ pub mod Turns
 pub mod Loops
 pub mod Size
 pub mod Times
-pub mod Calls
 pub mod Agreed
 pub mod Forms
-pub mod Structs
 pub mod Told
 pub mod Worked

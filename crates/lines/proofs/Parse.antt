@@ -5,23 +5,23 @@ use mathlib.Core.List.{List, [], ◌∷◌}
 use Prim.Native.Nat.{ℕ, zero, suc, ◌+◌, ◌^◌, ◌<◌, ◌≤◌, min}
 use native.Mathlib.Omega.{arith}
 use lib.ListN.{length, get_or, drop, get_or-eq_default}
-use lib.Dec.{leb}
+use lib.Dec.{ltb, eqb, leb}
 use lib.IntN.{ℤ, pos, neg_ℤ}
-use borrow.Author.Tests.{le-ltb, eq-eqb, ne_eqb, leb-true, leb-false}
+use borrow.Author.Tests.{le-ltb, eq-eqb, ne_eqb, eqb-true, eqb-false, ltb-true, ltb-false, leb-true, leb-false}
+use Rattle.std.specs.List.{between, starts_with as within_text}
+use Rattle.std.proofs.lemmas.Slice.{between_to_end}
 use Rattle.laws.specs.Choice.{pick}
 use Rattle.laws.specs.Bytes.{starts_with}
 use Rattle.laws.proofs.Choice.{pick_true, pick_false}
 use Rattle.laws.proofs.Lists.{cons_at, past}
 use Rattle.numbers.specs.Numbers.{within}
-use Rattle.tokens.specs.Classes.{within as in_range, is_letter, is_digit, is_name_byte, run, decimal}
+use Rattle.tokens.specs.Classes.{is_letter, is_digit, is_name_byte, run, decimal}
 use Rattle.tokens.specs.Tokens.{digits_at}
 use Rattle.tokens.specs.declared.Digits.{Digits}
 use Rattle.lines.specs.Lines.{Parsed, done, no, skipped, is_next, mark, end, name_from, name, digits, integer}
-use Rattle.lines.specs.Private.{place_of, is_done, whole_of}
-use Rattle.lines.specs.declared.Place.TheVariants as place
-use Rattle.lines.specs.declared.Whole.{Whole}
-use Rattle.lines.specs.declared.Whole.TheVariants as whole
-use Rattle.lines.proofs.Range.{ranged}
+use Rattle.std.specs.Prelude.{Option, Some, None}
+use Rattle.lines.specs.Private.{place_of, is_done, read_of, ranged, sign_of}
+use Rattle.lines.specs.declared.Found.{Found}
 
 -- ---- marks
 
@@ -46,6 +46,20 @@ module _ (s : List ℕ) (at : ℕ) where
   unfolding mark
   mark_not m e = pick_false _ _ _ e
 
+-- the library compares from the other side
+starts_same : (t m : List ℕ) → within_text eqb t m ≡ starts_with t m
+unfolding starts_with pick
+starts_same t [] = refl
+starts_same [] (y ∷ ys) = refl
+starts_same (x ∷ t) (y ∷ m) = go (eqb x y) refl (starts_same t m)
+  where
+    go : (b : Bool) → eqb x y ≡ b → within_text eqb t m ≡ starts_with t m → within_text eqb (x ∷ t) (y ∷ m) ≡ pick b (starts_with t m) false
+    go true e q = rw (eq-eqb y x (sym (eqb-true x y e))) q
+    go false e q = rw (ne_eqb y x (λ h. eqb-false x y e (sym h)))
+
+pub starts_at : (s m : List ℕ) (i : ℕ) {t : List ℕ} {b : Bool} → t ≡ between i (length s) s → b ≡ within_text eqb t m → b ≡ starts_with (drop i s) m
+starts_at s m i e q = q ∙ ap (λ (x : List ℕ). within_text eqb x m) (e ∙ between_to_end s i (length s) (omega arith)) ∙ starts_same (drop i s) m
+
 -- the same by a place i that code found
 module _ (s : List ℕ) (at : ℕ) {i : ℕ} (skip : i ≡ skipped s at) where
   here_is : (b : ℕ) → i < length s → get_or s i 0 ≡ b → is_next s (b ∷ []) at ≡ true
@@ -57,30 +71,21 @@ module _ (s : List ℕ) (at : ℕ) {i : ℕ} (skip : i ≡ skipped s at) where
   here_past : (b : ℕ) (m : List ℕ) → length s ≤ i → is_next s (b ∷ m) at ≡ false
   here_past b m h = next_past s at b m (subst (λ (k : ℕ). length s ≤ k) skip h)
 
-  pub mark_found : (b : ℕ) → i < length s → get_or s i 0 ≡ b → place.At (i + 1) ≡ place_of (mark s (b ∷ []) at)
-  mark_found b h q = ap (λ (k : ℕ). place.At (k + 1)) skip ∙ sym (ap place_of (mark_is s at (b ∷ []) (here_is b h q)))
-
-  pub mark_other : (b : ℕ) → i < length s → (get_or s i 0 ≡ b → ⊥) → place.Nothing ≡ place_of (mark s (b ∷ []) at)
-  mark_other b h q = sym (ap place_of (mark_not s at (b ∷ []) (here_not b [] h q)))
-
-  pub mark_past : (b : ℕ) → length s ≤ i → place.Nothing ≡ place_of (mark s (b ∷ []) at)
-  mark_past b h = sym (ap place_of (mark_not s at (b ∷ []) (here_past b [] h)))
-
-  -- a mark of several bytes
+  -- a mark, by the bytes that stand there
   module _ (m : List ℕ) where
     goes : {t : Bool} → t ≡ starts_with (drop i s) m → is_next s m at ≡ t
     unfolding is_next
     goes e = sym (e ∙ ap (λ (k : ℕ). starts_with (drop k s) m) skip)
 
-    pub long_found : {t : Bool} {n : ℕ} → t ≡ starts_with (drop i s) m → t ≡ true → n ≡ length m → place.At (i + n) ≡ place_of (mark s m at)
-    long_found e q l = (λ j. place.At (skip j + l j)) ∙ sym (ap place_of (mark_is s at m (goes e ∙ q)))
+    pub mark_found : {t : Bool} → t ≡ starts_with (drop i s) m → t ≡ true → Some (i + length m) ≡ place_of (mark s m at)
+    mark_found e q = ap (λ (k : ℕ). Some (k + length m)) skip ∙ sym (ap place_of (mark_is s at m (goes e ∙ q)))
 
-    pub long_other : {t : Bool} → t ≡ starts_with (drop i s) m → t ≡ false → place.Nothing ≡ place_of (mark s m at)
-    long_other e q = sym (ap place_of (mark_not s at m (goes e ∙ q)))
+    pub mark_other : {t : Bool} → t ≡ starts_with (drop i s) m → t ≡ false → None ≡ place_of (mark s m at)
+    mark_other e q = sym (ap place_of (mark_not s at m (goes e ∙ q)))
 
-  pub long_past : (m : List ℕ) → 0 < length m → length s ≤ i → place.Nothing ≡ place_of (mark s m at)
-  long_past [] n h = absurd (omega arith)
-  long_past (b ∷ m) n h = sym (ap place_of (mark_not s at (b ∷ m) (here_past b m h)))
+  pub mark_past : (m : List ℕ) → 0 < length m → length s ≤ i → None ≡ place_of (mark s m at)
+  mark_past [] n h = absurd (omega arith)
+  mark_past (b ∷ m) n h = sym (ap place_of (mark_not s at (b ∷ m) (here_past b m h)))
 
   pub end_is : leb (length s) i ≡ is_done (end s at)
   unfolding end pick
@@ -92,69 +97,70 @@ module _ (s : List ℕ) (at : ℕ) {i : ℕ} (skip : i ≡ skipped s at) where
 
 -- ---- integers
 
--- a choice under `whole_of`
-ranged_done : (z : ℤ) (n : ℕ) → ranged z n ≡ whole_of (pick (within z) (done z n) no)
+-- a number that was read up to this place
+abbrev pub read_at : Option ℤ → ℕ → Option (Found ℤ)
+read_at (Some z) n = Some (record { value = z; next = n })
+read_at None n = None
+
+-- a choice under `read_of`
+ranged_done : (z : ℤ) (n : ℕ) → read_at (ranged z) n ≡ read_of (λ (y : ℤ). y) (pick (within z) (done z n) no)
 unfolding pick
 ranged_done z n = go (within z)
   where
-    go : (b : Bool) → pick b (whole.Is z n) whole.Nothing ≡ whole_of (pick b (done z n) no)
+    go : (b : Bool) → read_at (pick b (Some z) None) n ≡ read_of (λ (y : ℤ). y) (pick b (done z n) no)
     go true = refl
     go false = refl
 
 module _ (sign : ℤ → ℤ) (far : (m : ℕ) → 2 ^ 63 < m → within (sign (pos m)) ≡ false) where
   -- a magnitude that is kept up to 2 ^ 63 + 1
-  capped : (d n : ℕ) → ranged (sign (pos (min d 9223372036854775809))) n ≡ whole_of (pick (within (sign (pos d))) (done (sign (pos d)) n) no)
+  capped : (d n : ℕ) → read_at (ranged (sign (pos (min d 9223372036854775809)))) n ≡ read_of (λ (y : ℤ). y) (pick (within (sign (pos d))) (done (sign (pos d)) n) no)
   capped d n = go (leb d 9223372036854775809) refl
     where
-      go : (b : Bool) → leb d 9223372036854775809 ≡ b → ranged (sign (pos (min d 9223372036854775809))) n ≡ whole_of (pick (within (sign (pos d))) (done (sign (pos d)) n) no)
+      go : (b : Bool) → leb d 9223372036854775809 ≡ b → read_at (ranged (sign (pos (min d 9223372036854775809)))) n ≡ read_of (λ (y : ℤ). y) (pick (within (sign (pos d))) (done (sign (pos d)) n) no)
       go true e =
           let h : d ≤ 9223372036854775809 = leb-true d 9223372036854775809 e in
           let q : min d 9223372036854775809 ≡ d = omega arith in
-          ap (λ (m : ℕ). ranged (sign (pos m)) n) q ∙ ranged_done (sign (pos d)) n
+          ap (λ (m : ℕ). read_at (ranged (sign (pos m))) n) q ∙ ranged_done (sign (pos d)) n
       go false e =
           let h : 9223372036854775809 < d = leb-false d 9223372036854775809 e in
-          pick_false _ _ _ (far (min d 9223372036854775809) (omega arith)) ∙ sym (ap whole_of (pick_false _ _ _ (far d (omega arith))))
+          ap (λ (o : Option ℤ). read_at o n) (pick_false _ _ _ (far (min d 9223372036854775809) (omega arith))) ∙ sym (ap (read_of (λ (y : ℤ). y)) (pick_false _ _ _ (far d (omega arith))))
 
   module _ (s : List ℕ) (i : ℕ) where
-    pub digits_some : {r : Whole} {d : Digits} → is_digit (get_or s i 0) ≡ true → r ≡ ranged (sign (pos d.value)) d.end → d ≡ digits_at s i
-        → r ≡ whole_of (digits s sign i)
+    pub digits_some : {d : Digits} → is_digit (get_or s i 0) ≡ true → d ≡ digits_at s i → read_at (ranged (sign (pos d.value))) d.end ≡ read_of (λ (y : ℤ). y) (digits s sign i)
     unfolding digits
-    digits_some {r} {d} t q f =
-        q
-        ∙ ap (λ (x : Digits). ranged (sign (pos x.value)) x.end) f
+    digits_some {d} t f =
+        ap (λ (x : Digits). read_at (ranged (sign (pos x.value))) x.end) f
         ∙ capped (decimal 0 (drop i s)) (i + run is_digit (drop i s))
-        ∙ sym (ap whole_of (pick_true _ _ _ t))
+        ∙ sym (ap (read_of (λ (y : ℤ). y)) (pick_true _ _ _ t))
 
     pub digits_none : is_digit (get_or s i 0) ≡ false → digits s sign i ≡ no
     unfolding digits
     digits_none d = pick_false _ _ _ d
 
-pub far_up : (m : ℕ) → 2 ^ 63 < m → within (pos m) ≡ false
-far_up m h = le-ltb m (2 ^ 63) (omega arith)
-
-pub far_down : (m : ℕ) → 2 ^ 63 < m → within (neg_ℤ (pos m)) ≡ false
-far_down zero h = absurd (omega arith)
-far_down (suc m) h = le-ltb m (2 ^ 63) (omega arith)
-
-no_digit : is_digit 0 ≡ false
-unfolding is_digit in_range pick
-no_digit = refl
+pub far_signed : (minus : Bool) (m : ℕ) → 2 ^ 63 < m → within (sign_of minus (pos m)) ≡ false
+far_signed false m h = le-ltb m (2 ^ 63) (omega arith)
+far_signed true zero h = absurd (omega arith)
+far_signed true (suc m) h = le-ltb m (2 ^ 63) (omega arith)
 
 module _ (s : List ℕ) (at : ℕ) {i : ℕ} (skip : i ≡ skipped s at) where
-  pub integer_minus : i < length s → get_or s i 0 ≡ 45 → integer s at ≡ digits s neg_ℤ (i + 1)
-  unfolding integer
-  integer_minus h q = pick_true _ _ _ (here_is s at skip 45 h q) ∙ ap (λ (k : ℕ). digits s neg_ℤ (k + 1)) (sym skip)
+  pub minus_within : get_or s i 0 ≡ 45 → i < length s
+  minus_within q = go (ltb i (length s)) refl
+    where
+      go : (b : Bool) → ltb i (length s) ≡ b → i < length s
+      go true e = ltb-true i (length s) e
+      go false e = let z = get_or-eq_default s 0 (ltb-false i (length s) e) in absurd (omega arith)
 
-  pub integer_plain : i < length s → (get_or s i 0 ≡ 45 → ⊥) → integer s at ≡ digits s (λ z. z) i
+  pub integer_minus : get_or s i 0 ≡ 45 → integer s at ≡ digits s (sign_of true) (i + 1)
   unfolding integer
-  integer_plain h q = pick_false _ _ _ (here_not s at skip 45 [] h q) ∙ ap (digits s (λ z. z)) (sym skip)
+  integer_minus q = pick_true _ _ _ (here_is s at skip 45 (minus_within q) q) ∙ ap (λ (k : ℕ). digits s neg_ℤ (k + 1)) (sym skip)
 
-  pub integer_past : length s ≤ i → integer s at ≡ no
+  pub integer_plain : (get_or s i 0 ≡ 45 → ⊥) → integer s at ≡ digits s (sign_of false) i
   unfolding integer
-  integer_past h =
-      pick_false _ _ _ (here_past s at skip 45 [] h)
-      ∙ ap (digits s (λ z. z)) (sym skip)
-      ∙ digits_none (λ z. z) far_up s i (ap is_digit (get_or-eq_default s 0 h) ∙ no_digit)
+  integer_plain q = pick_false _ _ _ (go (ltb i (length s)) refl) ∙ ap (digits s (λ z. z)) (sym skip)
+    where
+      go : (b : Bool) → ltb i (length s) ≡ b → is_next s (45 ∷ []) at ≡ false
+      go true e = here_not s at skip 45 [] (ltb-true i (length s) e) q
+      go false e = here_past s at skip 45 [] (ltb-false i (length s) e)
 
   -- ---- names
 

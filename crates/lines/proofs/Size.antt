@@ -7,8 +7,9 @@ use native.Mathlib.Omega.{arith}
 use lib.ListN.{length}
 use Rattle.laws.specs.Choice.{pick}
 use Rattle.laws.proofs.Choice.{pick_true, pick_false}
-use Rattle.lines.specs.Lines.{Parsed, done, Parser, and_then, give, is_next, mark, items, list}
-use Rattle.lines.proofs.Ahead.{then_done, mark_ahead, mark_size}
+use lib.IntN.{ℤ}
+use Rattle.lines.specs.Lines.{Parsed, done, Parser, and_then, give, is_next, mark, integer, items, list}
+use Rattle.lines.proofs.Ahead.{then_done, mark_ahead, mark_size, integer_ahead}
 
 -- the sum of the items' sizes
 abbrev pub total : {A : Type 0} → (A → ℕ) → List A → ℕ
@@ -150,3 +151,12 @@ module _ {A : Type 0} (s : List ℕ) (o c : ℕ) (item : Parser A) (w : ℕ) (bi
       go : (i : ℕ) → at + 1 ≤ i → (b : Bool) → pick b (empty i) (whole i) ≡ done xs n → Took at xs n
       go i h true q = empty_size at i xs n h (sym (pick_true _ _ _ refl) ∙ q)
       go i h false q = whole_size at i xs n h (sym (pick_false _ _ _ refl) ∙ q)
+
+integer_each : (s : List ℕ) (at n : ℕ) (x : ℤ) → integer s at ≡ done x n → (at + 2 ≤ n + 1) × (n ≤ length s)
+integer_each s at n x e = (omega (arith, (integer_ahead s at e).more), (integer_ahead s at e).inside)
+
+-- integers in brackets take two bytes each, and one more
+pub integers_size : (s : List ℕ) (o c at : ℕ) (xs : List ℤ) (n : ℕ) → list s (o ∷ []) (integer s) (c ∷ []) at ≡ done xs n → (at + 1 + 2 * length xs ≤ n) × (n ≤ length s)
+integers_size s o c at xs n e =
+    let a = list_size s o c (integer s) 2 (omega arith) (integer_each s) at xs n e in
+    (omega (arith, a.bytes, total_two xs), a.inside)

@@ -6,13 +6,14 @@ use native.Mathlib.Omega.{arith}
 use lib.ListN.{length, take, drop, replicate, length-append}
 use lib.IntN.{ℤ}
 use lib.Seq.{take-append_seam, drop-append_seam}
+use Rattle.questions.specs.declared.Question.{Question}
 use Rattle.lines.specs.Lines.{Part, Call, Asked, refused, tick, jump, call, agreement}
 use Rattle.lines.specs.Answers.{padded, line_of}
 use Rattle.lines.specs.declared.Request.TheVariants as request
 
 -- ---- by the request
 
-pub told_refused : {q : ℕ} (a : Asked) → (line_of a).request ≡ request.Refused q → a ≡ refused q
+pub told_refused : {q : Question} (a : Asked) → (line_of a).request ≡ request.Refused q → a ≡ refused q
 unfolding line_of
 told_refused {q} (refused p) e = let h : p ≡ q = cc in ap refused h
 told_refused tick e = let z : ◌≡◌ {A = ℕ} 0 1 = cc in absurd (omega arith)

@@ -4,6 +4,7 @@ use mathlib.Core.List.{List, [], ◌∷◌, map}
 use Prim.Native.Nat.{ℕ}
 use Prim.Native.String.{String}
 use lib.IntN.{ℤ, pos, negsuc}
+use Rattle.questions.specs.declared.Question.TheVariants as ask
 use Rattle.laws.specs.Choice.{pick}
 use Rattle.laws.specs.Bytes.{bytes, same_bytes, starts_with}
 use Rattle.words.specs.Words.{spelled}
@@ -34,6 +35,6 @@ pub worked :
     ∷ jump (pos 5)
     ∷ jump (negsuc 4)
     ∷ call_of (span 0 1) (span 2 3) (pos 0 ∷ pos 7 ∷ []) (negsuc 0 ∷ [])
-    ∷ refused 51 ∷ refused 51 ∷ refused 51 ∷ refused 51 ∷ refused 51 ∷ []
+    ∷ refused ask.LineForm ∷ refused ask.LineForm ∷ refused ask.LineForm ∷ refused ask.LineForm ∷ refused ask.LineForm ∷ []
 unfolding pick same_bytes starts_with spelled within is_letter is_digit is_name_byte run decimal between is_space skipped is_next mark end name_from name digits integer is_word word items list closed jump_end tick_line names lists call_line verb field part parts agreement_line asked
 worked = refl

@@ -2,6 +2,8 @@
 -- reads; it is done with what it read and the place after it, or says no, which is question 51.
 use Rattle.std.specs.Prelude.{ℕ, zero, suc, ◌+◌, Bool, List, [], ◌∷◌, length, get_or, drop, eqb, leb, ℤ, pos, neg_ℤ}
 use Prim.Native.Char.{code}
+use Rattle.questions.specs.declared.Question.{Question}
+use Rattle.questions.specs.declared.Question.TheVariants as ask
 use Rattle.laws.specs.Choice.{pick}
 use Rattle.laws.specs.Bytes.{bytes, same_bytes, starts_with}
 use Rattle.words.specs.Words.{spelled, set_verb, ok_verb, tick as tickWord}
@@ -44,7 +46,7 @@ pub record Call : Type 0 where
   pub lists : Lists
 
 pub data Asked : Type 0 where
-  refused : ℕ → Asked
+  refused : Question → Asked
   tick : Asked
   jump : ℤ → Asked
   call : Call → Asked
@@ -234,11 +236,11 @@ module _ (s : List ℕ) where
 -- what was read, or question 51
 abbrev pub or_refused : Parsed Asked → Asked
 or_refused (done a n) = a
-or_refused no = refused 51
+or_refused no = refused ask.LineForm
 
 -- questions 50 and 51
 unfoldable pub asked : List ℕ → Asked
 asked s =
     pick (leb (length s) 512)
     (or_refused (otherwise (tick_line s 0) (otherwise (call_line s 0) (agreement_line s 0))))
-    (refused 50)
+    (refused ask.LineLength)

@@ -1,99 +1,117 @@
 -- What private functions answer: serves their contracts only.
-use Rattle.std.specs.Prelude.{ℕ, ◌+◌, ◌*◌, ◌≡◌, Bool, true, false, List, [], ◌∷◌, ◌++◌, length, ℤ}
+use Rattle.std.specs.Prelude.{ℕ, ◌+◌, ◌*◌, ◌≡◌, Bool, true, false, List, [], ◌∷◌, length, ℤ, neg_ℤ, Option, Some, None}
 use Rattle.std.proofs.lemmas.List.Edits.{sets}
-use Rattle.lines.specs.Lines.{Span, Verb, Field, Part, Asked, refused, tick, jump, call, agreement, Parsed, done, no}
+use Rattle.laws.specs.Choice.{pick}
+use Rattle.numbers.specs.Numbers.{within}
 use Rattle.lines.specs.Lines as lines
-use Rattle.lines.specs.Answers.{verb_number, fields_of, heads_of, spans_of, values_of}
-use Rattle.lines.specs.declared.Request as declared
-use Rattle.lines.specs.declared.Request.TheVariants as request
-use Rattle.lines.specs.declared.Place.{Place}
-use Rattle.lines.specs.declared.Place.TheVariants as place
+use Rattle.lines.specs.Lines.{Part, Asked, Parsed, done, no}
+use Rattle.lines.specs.Answers.{line_of, verb_number, spans_of, values_of}
+use Rattle.lines.specs.declared.Request.{Request}
+use Rattle.lines.specs.declared.Agreement.{Agreement}
+use Rattle.lines.specs.declared.Span.{Span}
 use Rattle.lines.specs.declared.Found.{Found}
-use Rattle.lines.specs.declared.Found.TheVariants as found
-use Rattle.lines.specs.declared.Whole.{Whole}
-use Rattle.lines.specs.declared.Whole.TheVariants as whole
-use Rattle.lines.specs.declared.Pair.{Pair}
-use Rattle.lines.specs.declared.Pair.TheVariants as pair
-use Rattle.lines.specs.declared.Time.{Time}
-use Rattle.lines.specs.declared.Time.TheVariants as time
+use Rattle.lines.specs.declared.Verb.{Verb}
+use Rattle.lines.specs.declared.Verb.TheVariants as verb
+use Rattle.lines.specs.declared.Field.{Field}
 use Rattle.lines.specs.declared.Names.{Names}
-use Rattle.lines.specs.declared.Names.TheVariants as names
+use Rattle.lines.specs.declared.Integers.{Integers}
 
--- the place after a mark
-abbrev pub place_of : Parsed Unit → Place
-place_of (done u n) = place.At n
-place_of no = place.Nothing
+-- ---- what a parser gave
 
--- whether a parser is done
+-- whether it is done
 abbrev pub is_done : {A : Type 0} → Parsed A → Bool
 is_done (done a n) = true
 is_done no = false
 
-abbrev pub name_of : Parsed Span → Found
-name_of (done x n) = found.At x.start x.end
-name_of no = found.Nothing
+-- the place after what it read
+abbrev pub place_of : {A : Type 0} → Parsed A → Option ℕ
+place_of (done a n) = Some n
+place_of no = None
 
-abbrev pub verb_of : Parsed Verb → Found
-verb_of (done v n) = found.At (verb_number v) n
-verb_of no = found.Nothing
+-- what it read
+abbrev pub given : {A B : Type 0} → (A → B) → Parsed A → Option B
+given f (done a n) = Some (f a)
+given f no = None
 
-abbrev pub whole_of : Parsed ℤ → Whole
-whole_of (done z n) = whole.Is z n
-whole_of no = whole.Nothing
+-- both
+abbrev pub read_of : {A B : Type 0} → (A → B) → Parsed A → Option (Found B)
+read_of f (done a n) = Some (record { value = f a; next = n })
+read_of f no = None
 
-abbrev pub pair_of : Parsed Field → Pair
-pair_of (done f n) = pair.Of f.name.start f.name.end f.value n
-pair_of no = pair.Nothing
+-- what it read is added to what was lent, and the place after it answered; after a no what was lent is free
+abbrev pub Added : {A B : Type 0} → (A → B) → Parsed A → Option ℕ → B → Type 0
+Added add (done a n) r new = (r ≡ Some n) × (new ≡ add a)
+Added add no r new = r ≡ None
 
--- the last three don't occur
-abbrev pub time_of : Parsed Asked → Time
-time_of (done tick n) = time.Tick
-time_of (done (jump z) n) = time.Jump z
-time_of no = time.Nothing
-time_of (done (refused q) n) = time.Nothing
-time_of (done (call c) n) = time.Nothing
-time_of (done (agreement ps) n) = time.Nothing
+-- ---- what is read, as code has it
 
-abbrev pub names_of : Parsed lines.Names → Names
-names_of (done n e) = names.At n.party.start n.party.end n.function.start n.function.end
-names_of no = names.Nothing
+abbrev pub span_in : lines.Span → Span
+span_in x = record { start = x.start; end = x.end }
 
--- what a tick or a jump asks for; what is neither does not occur there
-abbrev pub request_of : Time → declared.Request
-request_of time.Tick = request.Tick
-request_of (time.Jump T) = request.Jump T
-request_of time.Nothing = request.Refused 51
+abbrev pub span_from : Span → lines.Span
+span_from x = record { start = x.start; end = x.end }
 
--- Integers that were read, stored from a place on: the place after them in the lent slice, and in the line. After a no the slice is free.
-unfoldable pub Stored : Parsed (List ℤ) → ℕ → List ℤ → Found → List ℤ → Type 0
-Stored (done zs n) from old r new = (r ≡ found.At (from + length zs) n) × (new ≡ sets old from zs)
-Stored no from old r new = r ≡ found.Nothing
+abbrev pub verb_in : lines.Verb → Verb
+verb_in lines.set = verb.Set
+verb_in lines.ok = verb.Ok
 
--- A call's values, then its assets, stored from 0 on; how many there are of each.
-unfoldable pub StoredCall : Parsed lines.Lists → List ℤ → Found → List ℤ → Type 0
-StoredCall (done l n) old r new = (r ≡ found.At (length l.values) (length l.assets)) × (new ≡ sets old 0 (l.values ++ l.assets))
-StoredCall no old r new = r ≡ found.Nothing
+abbrev pub verb_word : Verb → ℕ
+verb_word verb.Set = 0
+verb_word verb.Ok = 1
 
--- Fields that were read, stored from a place on: two numbers and a value each.
-unfoldable pub StoredFields : Parsed (List Field) → ℕ → List ℕ → List ℤ → Found → List ℕ → List ℤ → Type 0
-StoredFields (done fs n) from spans values r spans' values' =
-    (r ≡ found.At (from + length fs) n) × (spans' ≡ sets spans (2 * from) (spans_of fs)) × (values' ≡ sets values from (values_of fs))
-StoredFields no from spans values r spans' values' = r ≡ found.Nothing
+abbrev pub field_in : lines.Field → Field
+field_in f = record { name = span_in f.name; value = f.value }
 
--- A part by its number: four numbers, and its fields from a place on.
-unfoldable pub StoredPart : Parsed Part → ℕ → ℕ → List ℕ → List ℕ → List ℤ → Found → List ℕ → List ℕ → List ℤ → Type 0
-StoredPart (done x n) p from heads spans values r heads' spans' values' =
-    (r ≡ found.At (from + length x.fields) n)
-    × (heads' ≡ sets heads (4 * p) (heads_of (x ∷ [])))
-    × (spans' ≡ sets spans (2 * from) (spans_of x.fields))
-    × (values' ≡ sets values from (values_of x.fields))
-StoredPart no p from heads spans values r heads' spans' values' = r ≡ found.Nothing
+abbrev pub field_from : Field → lines.Field
+field_from f = record { name = span_from f.name; value = f.value }
 
--- All parts; how many there are, and how many fields.
-unfoldable pub StoredParts : Parsed (List Part) → List ℕ → List ℕ → List ℤ → Found → List ℕ → List ℕ → List ℤ → Type 0
-StoredParts (done ps n) heads spans values r heads' spans' values' =
-    (r ≡ found.At (length ps) (length (fields_of ps)))
-    × (heads' ≡ sets heads 0 (heads_of ps))
-    × (spans' ≡ sets spans 0 (spans_of (fields_of ps)))
-    × (values' ≡ sets values 0 (values_of (fields_of ps)))
-StoredParts no heads spans values r heads' spans' values' = r ≡ found.Nothing
+abbrev pub names_in : lines.Names → Names
+names_in n = record { party = span_in n.party; function = span_in n.function }
+
+abbrev pub names_from : Names → lines.Names
+names_from n = record { party = span_from n.party; function = span_from n.function }
+
+abbrev pub request_in : Asked → Request
+request_in a = (line_of a).request
+
+-- an integer, if it is within 64 bits
+abbrev pub ranged : ℤ → Option ℤ
+ranged z = pick (within z) (Some z) None
+
+-- with a minus sign before it, or none
+abbrev pub sign_of : Bool → ℤ → ℤ
+sign_of true z = neg_ℤ z
+sign_of false z = z
+
+-- ---- what was read so far
+
+-- integers more
+abbrev pub with_integers : Integers → List ℤ → Integers
+with_integers a zs = record { count = a.count + length zs; all = sets a.all a.count zs }
+
+-- fields more
+abbrev pub with_fields : Agreement → List lines.Field → Agreement
+with_fields a fs =
+    record {
+      parts = a.parts;
+      fields = a.fields + length fs;
+      heads = a.heads;
+      spans = sets a.spans (2 * a.fields) (spans_of fs);
+      values = sets a.values a.fields (values_of fs);
+    }
+
+-- four numbers of a part more
+abbrev pub with_head : Agreement → List ℕ → Agreement
+with_head a ns =
+    record {
+      parts = a.parts + 1;
+      fields = a.fields;
+      heads = sets a.heads (4 * a.parts) ns;
+      spans = a.spans;
+      values = a.values;
+    }
+
+-- a part more
+abbrev pub with_part : Agreement → Part → Agreement
+with_part a x =
+    with_head (with_fields a x.fields) (x.party.start ∷ x.party.end ∷ verb_number x.verb ∷ length x.fields ∷ [])

@@ -1,18 +1,15 @@
 // A reader of one session line, the bytes before its LF: an agreement, a call, a tick or a jump, or the question that refuses it.
 #![tactic(auto)]
 
-ghost use Rattle.std.specs.Prelude.{◌≡◌, [], ◌∷◌, ◌+◌, ◌*◌, ◌≤◌, ◌<◌, length, set, pos, neg_ℤ};
-ghost use Rattle.std.proofs.lemmas.List.Edits.{sets};
-ghost use Rattle.laws.specs.Choice.{pick};
+ghost use Rattle.std.specs.Prelude.{◌≡◌, [], ◌∷◌, ◌≤◌, ◌<◌, ◌^◌, length, set, pos};
 ghost use Rattle.laws.specs.Bytes.{same_bytes};
-ghost use Rattle.numbers.specs.Numbers.{within as inside};
 ghost use Rattle.words.specs.Words.{spelled};
 ghost use Rattle.tokens.specs.Tokens.{between};
-ghost use Rattle.lines.specs.Lines.{asked, skipped, mark, end, name, digits, integer, verb, field, list, items, names, lists, part, parts, jump_end, tick_line, agreement_line, or_refused};
+ghost use Rattle.lines.specs.Lines.{asked, skipped, mark, end, name, digits, integer, verb, field, list, items, names, part, parts, jump_end, tick_line, call_line};
 ghost use Rattle.lines.specs.Answers.{plain, line_of, agreement_of, parts_of};
-ghost use Rattle.lines.specs.Private.{place_of, is_done, name_of, verb_of, whole_of, pair_of, time_of, request_of, names_of, Stored, StoredCall, StoredFields, StoredPart, StoredParts};
+ghost use Rattle.lines.specs.Private.{place_of, is_done, given, read_of, span_in, sign_of, ranged, verb_in, verb_word, field_in, field_from, request_in, names_in, Added, with_integers, with_fields, with_head, with_part};
 
-use numbers::Value;
+use questions::Question;
 
 // What a session line asks for.
 #[derive(Clone, Copy)]
@@ -22,9 +19,10 @@ pub enum Request {
     Tick,
     // To this clock.
     Jump(i64),
-    Refused(u8),
+    Refused(Question),
 }
 
+// Kept: a call's fields stand beside the request, so that one struct is written in place; inside `Request::Call` each request would be as large.
 #[derive(Clone, Copy)]
 pub struct Line {
     pub request: Request,
@@ -47,6 +45,7 @@ impl Line {
 }
 
 // The parts of an agreement; nothing for any other line. A line has at most 64 parts and 85 fields.
+// Kept: fixed memory, and `agreements::agree_on` takes the numbers as lent slices.
 #[derive(Clone, Copy)]
 pub struct Agreement {
     pub parts: usize,
@@ -71,95 +70,80 @@ impl Agreement {
     pub const SPANS: usize = 2 * Agreement::FIELDS;
 }
 
-// The place after a mark.
+// Where a name stands in the line: its first byte, and the place after its last.
 #[derive(Clone, Copy)]
-enum Place {
-    At(usize),
-    Nothing,
+struct Span {
+    start: usize,
+    end: usize,
 }
 
-// Two numbers: a name's start and end, a verb's number and its end, or the place after what was stored and the place after what was read.
+// What was read, and the place after it.
 #[derive(Clone, Copy)]
-enum Found {
-    At(usize, usize),
-    Nothing,
+struct Found<T> {
+    value: T,
+    next: usize,
 }
 
-// An integer, and the place after it.
 #[derive(Clone, Copy)]
-enum Whole {
-    Is(i64, usize),
-    Nothing,
+enum Verb {
+    Set,
+    Ok,
 }
 
-// A field: its name's start and end, its value, and the place after it.
 #[derive(Clone, Copy)]
-enum Pair {
-    Of(usize, usize, i64, usize),
-    Nothing,
+struct Field {
+    name: Span,
+    value: i64,
 }
 
-// A tick, or a jump to this clock.
+// A call's names.
 #[derive(Clone, Copy)]
-enum Time {
-    Tick,
-    Jump(i64),
-    Nothing,
+struct Names {
+    party: Span,
+    function: Span,
 }
 
-// A call's names: the party's start and end, the function's start and end.
+// A call's integers, so many, then zeros.
 #[derive(Clone, Copy)]
-enum Names {
-    At(usize, usize, usize, usize),
-    Nothing,
+struct Integers {
+    count: usize,
+    all: [i64; Line::NUMBERS],
 }
 
-// ---- bytes
+// ---- tokens
 
 // The place of the next byte that is no space.
 fn skip(line: &[u8], at: usize) -> usize
     ensures { result ≡ skipped line.now at }
 {
-    let mut i = at;
-    while i < line.len() {
-        if line[i] == b' ' {
-            i += 1;
-        } else {
+    for i in at..line.len() {
+        if line[i] != b' ' {
             return i;
         }
     }
-    i
+    at.max(line.len())
 }
 
-// ---- tokens
-
-// A mark of one byte.
-fn mark(line: &[u8], at: usize, b: u8) -> Place
-    ensures { result ≡ place_of (mark line.now (b ∷ []) at) }
+// The place after a mark.
+fn mark(line: &[u8], at: usize, m: &[u8]) -> Option<usize>
+    requires { 0 < length m.now }
+    ensures { result ≡ place_of (mark line.now m.now at) }
 {
     let i = skip(line, at);
-    if i < line.len() {
-        if line[i] == b {
-            return Place::At(i + 1);
-        }
-        return Place::Nothing;
+    let rest = line.get(i..)?;
+    if rest.starts_with(m) {
+        Some(i + m.len())
+    } else {
+        None
     }
-    Place::Nothing
 }
 
-// A mark of several bytes, by the number of its word.
-fn long_mark(line: &[u8], at: usize, which: u8) -> Place
-    requires { (0 < length (spelled which)) × (length (spelled which) < 256) }
+// The place after a fixed word.
+fn word_mark(line: &[u8], at: usize, which: u8) -> Option<usize>
+    requires { 0 < length (spelled which) }
     ensures { result ≡ place_of (mark line.now (spelled which) at) }
 {
-    let i = skip(line, at);
-    if i < line.len() {
-        if words::continues(line, i, which) {
-            return Place::At(i + words::word_length(which));
-        }
-        return Place::Nothing;
-    }
-    Place::Nothing
+    mark(line, at, words::spelling(which))
 }
 
 // Whether nothing but spaces is left.
@@ -169,384 +153,313 @@ fn ends(line: &[u8], at: usize) -> bool
     line.len() <= skip(line, at)
 }
 
-fn name(line: &[u8], at: usize) -> Found
-    ensures { result ≡ name_of (name line.now at) }
+fn name(line: &[u8], at: usize) -> Option<Span>
+    ensures { result ≡ given span_in (name line.now at) }
 {
-    let i = skip(line, at);
-    if tokens::is_letter(tokens::byte_at(line, i)) {
-        return Found::At(i, tokens::name_end(line, i));
+    let start = skip(line, at);
+    if tokens::is_letter(tokens::byte_at(line, start)) {
+        return Some(Span {
+            start,
+            end: tokens::name_end(line, start),
+        });
     }
-    Found::Nothing
+    None
 }
 
-// A number from 0 on that ends at `end`, if it is below 2 ^ 63.
-fn natural(n: u64, end: usize) -> Whole
-    ensures { result ≡ pick (inside (pos n)) (Whole.Is (pos n) end) Whole.Nothing }
+// A number with a minus sign or none before it, within 64 bits.
+fn signed(minus: bool, n: u64) -> Option<i64>
+    ensures { result ≡ ranged (sign_of minus (pos n)) }
 {
-    let past_top = Value::LIMIT <= n;
-    if past_top {
-        return Whole::Nothing;
+    if minus {
+        0i64.checked_sub_unsigned(n)
+    } else {
+        0i64.checked_add_unsigned(n)
     }
-    Whole::Is(n as i64, end)
-}
-
-// A number up to 0 by its distance from zero, if that is at most 2 ^ 63.
-fn negative(n: u64, end: usize) -> Whole
-    ensures { result ≡ pick (inside (neg_ℤ (pos n))) (Whole.Is (neg_ℤ (pos n)) end) Whole.Nothing }
-{
-    if n == 0 {
-        return Whole::Is(0, end);
-    }
-    if Value::LIMIT < n {
-        return Whole::Nothing;
-    }
-    Whole::Is(-1 - ((n - 1) as i64), end)
 }
 
 // The integer whose digits start at i.
-fn positive_at(line: &[u8], i: usize) -> Whole
-    ensures { result ≡ whole_of (digits line.now (λ z. z) i) }
+fn digits(line: &[u8], i: usize, minus: bool) -> Option<Found<i64>>
+    ensures { result ≡ read_of (λ z. z) (digits line.now (sign_of minus) i) }
 {
     if tokens::is_digit(tokens::byte_at(line, i)) {
-        let d = tokens::read_digits(line, i);
-        return natural(d.value, d.end);
+        let run = tokens::read_digits(line, i);
+        let value = signed(minus, run.value)?;
+        return Some(Found {
+            value,
+            next: run.end,
+        });
     }
-    Whole::Nothing
+    None
 }
 
-// The same after a minus sign.
-fn negative_at(line: &[u8], i: usize) -> Whole
-    ensures { result ≡ whole_of (digits line.now neg_ℤ i) }
-{
-    if tokens::is_digit(tokens::byte_at(line, i)) {
-        let d = tokens::read_digits(line, i);
-        return negative(d.value, d.end);
-    }
-    Whole::Nothing
-}
-
-fn integer(line: &[u8], at: usize) -> Whole
-    ensures { result ≡ whole_of (integer line.now at) }
+fn integer(line: &[u8], at: usize) -> Option<Found<i64>>
+    ensures { result ≡ read_of (λ z. z) (integer line.now at) }
 {
     let i = skip(line, at);
-    if i < line.len() {
-        if line[i] == b'-' {
-            return negative_at(line, i + 1);
-        }
-        return positive_at(line, i);
+    let minus = tokens::byte_at(line, i) == b'-';
+    if minus {
+        return digits(line, i + 1, true);
     }
-    Whole::Nothing
+    digits(line, i, false)
 }
 
 // Whether a name is this fixed word, byte by byte.
-fn is_word(line: &[u8], start: usize, end: usize, which: u8) -> bool
-    ensures { result ≡ same_bytes (between line.now start end) (spelled which) }
+fn is_word(line: &[u8], name: Span, which: u8) -> bool
+    ensures { result ≡ same_bytes (between line.now name.start name.end) (spelled which) }
 {
-    words::is_word(tokens::between(line, start, end), which)
+    words::is_word(tokens::between(line, name.start, name.end), which)
 }
 
-// A verb: 0 for SET, 1 for OK, and its end.
-fn verb(line: &[u8], at: usize) -> Found
-    ensures { result ≡ verb_of (verb line.now at) }
+// Any other verb is none.
+fn verb_at(line: &[u8], at: usize) -> Option<Found<Verb>>
+    ensures { result ≡ read_of verb_in (verb line.now at) }
 {
-    let Found::At(start, end) = name(line, at) else {
-        return Found::Nothing;
-    };
-    if is_word(line, start, end, words::SET) {
-        return Found::At(0, end);
+    let word = name(line, at)?;
+    if is_word(line, word, words::SET) {
+        return Some(Found {
+            value: Verb::Set,
+            next: word.end,
+        });
     }
-    if is_word(line, start, end, words::OK) {
-        return Found::At(1, end);
+    if is_word(line, word, words::OK) {
+        return Some(Found {
+            value: Verb::Ok,
+            next: word.end,
+        });
     }
-    Found::Nothing
+    None
 }
 
-fn field(line: &[u8], at: usize) -> Pair
-    ensures { result ≡ pair_of (field line.now at) }
+fn field_at(line: &[u8], at: usize) -> Option<Found<Field>>
+    ensures { result ≡ read_of field_in (field line.now at) }
 {
-    let Found::At(start, end) = name(line, at) else {
-        return Pair::Nothing;
-    };
-    let Place::At(i) = long_mark(line, end, words::MAPS_TO) else {
-        return Pair::Nothing;
-    };
-    let Whole::Is(z, next) = integer(line, i) else {
-        return Pair::Nothing;
-    };
-    Pair::Of(start, end, z, next)
+    let word = name(line, at)?;
+    let i = word_mark(line, word.end, words::MAPS_TO)?;
+    let read = integer(line, i)?;
+    Some(Found {
+        value: Field {
+            name: word,
+            value: read.value,
+        },
+        next: read.next,
+    })
 }
 
 // ---- a tick or a jump
 
 // `T]` and the line's end, after `[TICK`.
-fn jump_end(line: &[u8], at: usize) -> Time
-    ensures { result ≡ time_of (jump_end line.now at) }
+fn jump_end(line: &[u8], at: usize) -> Option<Request>
+    ensures { result ≡ given request_in (jump_end line.now at) }
 {
-    let Whole::Is(z, i) = integer(line, at) else {
-        return Time::Nothing;
-    };
-    let Place::At(j) = mark(line, i, b']') else {
-        return Time::Nothing;
-    };
-    if ends(line, j) {
-        return Time::Jump(z);
+    let clock = integer(line, at)?;
+    let i = mark(line, clock.next, b"]")?;
+    if ends(line, i) {
+        return Some(Request::Jump(clock.value));
     }
-    Time::Nothing
+    None
 }
 
 // `[TICK]` or `[TICK T]`
-fn time_line(line: &[u8]) -> Time
-    ensures { result ≡ time_of (tick_line line.now 0) }
+fn time_line(line: &[u8]) -> Option<Request>
+    ensures { result ≡ given request_in (tick_line line.now 0) }
 {
-    let Place::At(i) = mark(line, 0, b'[') else {
-        return Time::Nothing;
-    };
-    let Found::At(start, end) = name(line, i) else {
-        return Time::Nothing;
-    };
-    if is_word(line, start, end, words::TICK) {
-        let Place::At(j) = mark(line, end, b']') else {
-            return jump_end(line, end);
+    let i = mark(line, 0, b"[")?;
+    let word = name(line, i)?;
+    if is_word(line, word, words::TICK) {
+        let Some(j) = mark(line, word.end, b"]") else {
+            return jump_end(line, word.end);
         };
         if ends(line, j) {
-            return Time::Tick;
+            return Some(Request::Tick);
         }
-        return Time::Nothing;
     }
-    Time::Nothing
+    None
 }
 
 // ---- a call
 
 // `Party : function`
-fn call_names(line: &[u8]) -> Names
-    ensures { result ≡ names_of (names line.now 0) }
+fn call_names(line: &[u8]) -> Option<Names>
+    ensures { result ≡ given names_in (names line.now 0) }
 {
-    let Found::At(party, party_end) = name(line, 0) else {
-        return Names::Nothing;
-    };
-    let Place::At(i) = mark(line, party_end, b':') else {
-        return Names::Nothing;
-    };
-    let Found::At(function, function_end) = name(line, i) else {
-        return Names::Nothing;
-    };
-    Names::At(party, party_end, function, function_end)
+    let party = name(line, 0)?;
+    let i = mark(line, party.end, b":")?;
+    let function = name(line, i)?;
+    Some(Names { party, function })
 }
 
-// Stores an integer, where there is room.
-fn store(out: &mut [i64], k: usize, z: i64)
-    ensures { out.new ≡ set out.old k z }
+// One integer more; without room it is counted alone.
+fn add_integer(out: &mut Integers, z: i64)
+    requires { out.old.count < 2 ^ 63 }
+    ensures { out.new ≡ with_integers out.old (z ∷ []) }
 {
-    if k < out.len() {
-        out[k] = z;
-    }
+    items::set(&mut out.all, out.count, z);
+    out.count += 1;
 }
 
-// Stores a place, where there is room.
-fn store_place(out: &mut [usize], k: usize, n: usize)
-    ensures { out.new ≡ set out.old k n }
+// One integer or more with commas between them, then the closing mark. Each takes a byte, so as many turns as the line has are enough.
+fn integers_from(line: &[u8], at: usize, close: &[u8], out: &mut Integers) -> Option<usize>
+    requires { (out.old.count ≤ at) × (0 < length close.now) }
+    ensures { Added (with_integers out.old) (items line.now (integer line.now) (44 ∷ []) (mark line.now close.now) (length line.now) at) result out.new }
 {
-    if k < out.len() {
-        out[k] = n;
-    }
-}
-
-// One integer or more with commas between them, then the closing mark; stored from `from` on.
-fn integers_from(line: &[u8], at: usize, close: u8, out: &mut [i64], from: usize) -> Found
-    requires { from ≤ at }
-    ensures { Stored (items line.now (integer line.now) (44 ∷ []) (mark line.now (close ∷ [])) (length line.now) at) from out.old result out.new }
-{
-    let mut k = from;
     let mut i = at;
-    loop {
-        let Whole::Is(z, next) = integer(line, i) else {
-            return Found::Nothing;
-        };
-        store(out, k, z);
-        k += 1;
-        let Place::At(after) = mark(line, next, b',') else {
-            let Place::At(end) = mark(line, next, close) else {
-                return Found::Nothing;
-            };
-            return Found::At(k, end);
+    for turn in 0..line.len() {
+        let read = integer(line, i)?;
+        add_integer(out, read.value);
+        let Some(after) = mark(line, read.next, b",") else {
+            return mark(line, read.next, close);
         };
         i = after;
     }
+    None
 }
 
-// A list of integers between two marks, maybe empty; stored from `from` on.
-fn integers(line: &[u8], at: usize, opening: u8, close: u8, out: &mut [i64], from: usize) -> Found
-    requires { from ≤ at }
-    ensures { Stored (list line.now (opening ∷ []) (integer line.now) (close ∷ []) at) from out.old result out.new }
+// A list of integers between two marks, maybe empty.
+fn integer_list(
+    line: &[u8],
+    at: usize,
+    opening: &[u8],
+    close: &[u8],
+    out: &mut Integers,
+) -> Option<usize>
+    requires { (out.old.count ≤ at) × (0 < length opening.now) × (0 < length close.now) }
+    ensures { Added (with_integers out.old) (list line.now opening.now (integer line.now) close.now at) result out.new }
 {
-    let Place::At(i) = mark(line, at, opening) else {
-        return Found::Nothing;
+    let i = mark(line, at, opening)?;
+    let Some(end) = mark(line, i, close) else {
+        return integers_from(line, i, close, out);
     };
-    let Place::At(j) = mark(line, i, close) else {
-        return integers_from(line, i, close, out, from);
-    };
-    Found::At(from, j)
+    Some(end)
 }
 
-// A call's two lists and the line's end: how many values and how many assets there are.
-fn arguments(line: &[u8], at: usize, out: &mut [i64]) -> Found
-    ensures { StoredCall (lists line.now at) out.old result out.new }
+// A call: its names, its two lists and the line's end.
+fn call_line(line: &[u8]) -> Option<Line>
+    requires { length line.now ≤ 512 }
+    ensures { result ≡ given line_of (call_line line.now 0) }
 {
-    let Found::At(values, i) = integers(line, at, b'(', b')', out, 0) else {
-        return Found::Nothing;
+    let names = call_names(line)?;
+    let mut read = Integers {
+        count: 0,
+        all: [0; Line::NUMBERS],
     };
-    let Found::At(all, j) = integers(line, i, b'[', b']', out, values) else {
-        return Found::Nothing;
-    };
-    if ends(line, j) {
-        return Found::At(values, all - values);
+    let i = integer_list(line, names.function.end, b"(", b")", &mut read)?;
+    let values = read.count;
+    let j = integer_list(line, i, b"[", b"]", &mut read)?;
+    if !ends(line, j) {
+        return None;
     }
-    Found::Nothing
+    Some(Line {
+        request: Request::Call,
+        party_start: names.party.start,
+        party_end: names.party.end,
+        function_start: names.function.start,
+        function_end: names.function.end,
+        values,
+        assets: read.count - values,
+        numbers: read.all,
+    })
 }
 
 // ---- an agreement
 
-// One field or more with commas between them, then `]`; stored from `from` on.
-fn fields_from(
-    line: &[u8],
-    at: usize,
-    spans: &mut [usize],
-    values: &mut [i64],
-    from: usize,
-) -> Found
-    requires { from ≤ at }
-    ensures { StoredFields (items line.now (field line.now) (44 ∷ []) (mark line.now (93 ∷ [])) (length line.now) at) from spans.old values.old result spans.new values.new }
+// One field more; without room it is counted alone.
+fn add_field(out: &mut Agreement, field: Field)
+    requires { out.old.fields < 2 ^ 63 }
+    ensures { out.new ≡ with_fields out.old (field_from field ∷ []) }
 {
-    let mut k = from;
+    items::set(&mut out.spans, 2 * out.fields, field.name.start);
+    items::set(&mut out.spans, 2 * out.fields + 1, field.name.end);
+    items::set(&mut out.values, out.fields, field.value);
+    out.fields += 1;
+}
+
+// One field or more with commas between them, then `]`.
+// Kept: this loop, `integers_from` and `parts` read other items, add them elsewhere and close otherwise; one loop would take a closure for each.
+fn fields_from(line: &[u8], at: usize, out: &mut Agreement) -> Option<usize>
+    requires { out.old.fields ≤ at }
+    ensures { Added (with_fields out.old) (items line.now (field line.now) (44 ∷ []) (mark line.now (93 ∷ [])) (length line.now) at) result out.new }
+{
     let mut i = at;
-    loop {
-        let Pair::Of(start, end, z, next) = field(line, i) else {
-            return Found::Nothing;
-        };
-        store_place(spans, 2 * k, start);
-        store_place(spans, 2 * k + 1, end);
-        store(values, k, z);
-        k += 1;
-        let Place::At(after) = mark(line, next, b',') else {
-            let Place::At(close) = mark(line, next, b']') else {
-                return Found::Nothing;
-            };
-            return Found::At(k, close);
+    for turn in 0..line.len() {
+        let read = field_at(line, i)?;
+        add_field(out, read.value);
+        let Some(after) = mark(line, read.next, b",") else {
+            return mark(line, read.next, b"]");
         };
         i = after;
     }
+    None
 }
 
 // A part's fields in brackets, maybe none.
-fn fields(line: &[u8], at: usize, spans: &mut [usize], values: &mut [i64], from: usize) -> Found
-    requires { from ≤ at }
-    ensures { StoredFields (list line.now (91 ∷ []) (field line.now) (93 ∷ []) at) from spans.old values.old result spans.new values.new }
+fn field_list(line: &[u8], at: usize, out: &mut Agreement) -> Option<usize>
+    requires { out.old.fields ≤ at }
+    ensures { Added (with_fields out.old) (list line.now (91 ∷ []) (field line.now) (93 ∷ []) at) result out.new }
 {
-    let Place::At(i) = mark(line, at, b'[') else {
-        return Found::Nothing;
+    let i = mark(line, at, b"[")?;
+    let Some(end) = mark(line, i, b"]") else {
+        return fields_from(line, i, out);
     };
-    let Place::At(j) = mark(line, i, b']') else {
-        return fields_from(line, i, spans, values, from);
-    };
-    Found::At(from, j)
+    Some(end)
 }
 
-// Stores the four numbers of part p.
-fn store_head(heads: &mut [usize], p: usize, start: usize, end: usize, which: usize, count: usize)
-    requires { p ≤ 512 }
-    ensures { heads.new ≡ sets heads.old (4 * p) (start ∷ end ∷ which ∷ count ∷ []) }
+// The four numbers of one part more.
+fn add_head(out: &mut Agreement, party: Span, verb: Verb, count: usize)
+    requires { out.old.parts ≤ 512 }
+    ensures { out.new ≡ with_head out.old (party.start ∷ party.end ∷ verb_word verb ∷ count ∷ []) }
 {
-    store_place(heads, 4 * p, start);
-    store_place(heads, 4 * p + 1, end);
-    store_place(heads, 4 * p + 2, which);
-    store_place(heads, 4 * p + 3, count);
+    let at = 4 * out.parts;
+    items::set(&mut out.heads, at, party.start);
+    items::set(&mut out.heads, at + 1, party.end);
+    items::set(&mut out.heads, at + 2, verb as usize);
+    items::set(&mut out.heads, at + 3, count);
+    out.parts += 1;
 }
 
-// Part p, its fields stored from `from` on.
-fn part(
-    line: &[u8],
-    at: usize,
-    heads: &mut [usize],
-    spans: &mut [usize],
-    values: &mut [i64],
-    p: usize,
-    from: usize,
-) -> Found
-    requires { (length line.now ≤ 512) × (p ≤ at) × (from ≤ at) }
-    ensures { StoredPart (part line.now at) p from heads.old spans.old values.old result heads.new spans.new values.new }
+// One part more.
+fn part(line: &[u8], at: usize, out: &mut Agreement) -> Option<usize>
+    requires { (length line.now ≤ 512) × (out.old.parts ≤ at) × (out.old.fields ≤ at) }
+    ensures { Added (with_part out.old) (part line.now at) result out.new }
 {
-    let Found::At(start, end) = name(line, at) else {
-        return Found::Nothing;
-    };
-    let Found::At(which, i) = verb(line, end) else {
-        return Found::Nothing;
-    };
-    let Found::At(all, j) = fields(line, i, spans, values, from) else {
-        return Found::Nothing;
-    };
-    store_head(heads, p, start, end, which, all - from);
-    Found::At(all, j)
-}
-
-// All parts, up to the line's end: how many parts, and how many fields.
-fn parts(line: &[u8], heads: &mut [usize], spans: &mut [usize], values: &mut [i64]) -> Found
-    requires { length line.now ≤ 512 }
-    ensures { StoredParts (parts line.now 0) heads.old spans.old values.old result heads.new spans.new values.new }
-{
-    let mut p = 0;
-    let mut k = 0;
-    let mut i = 0;
-    loop {
-        let Found::At(all, next) = part(line, i, heads, spans, values, p, k) else {
-            return Found::Nothing;
-        };
-        p += 1;
-        k = all;
-        let Place::At(after) = long_mark(line, next, words::OR) else {
-            if ends(line, next) {
-                return Found::At(p, k);
-            }
-            return Found::Nothing;
-        };
-        i = after;
-    }
-}
-
-// The parts of a line that is an agreement; nothing for any other.
-fn parts_of(line: &[u8]) -> Agreement
-    requires { length line.now ≤ 512 }
-    ensures { result ≡ agreement_of (parts_of (or_refused (agreement_line line.now 0))) }
-{
-    let mut heads = [0usize; Agreement::HEADS];
-    let mut spans = [0usize; Agreement::SPANS];
-    let mut values = [0i64; Agreement::FIELDS];
-    let Found::At(count, all) = parts(line, &mut heads, &mut spans, &mut values) else {
-        return no_agreement();
-    };
-    Agreement {
-        parts: count,
-        fields: all,
-        heads,
-        spans,
-        values,
-    }
+    let party = name(line, at)?;
+    let verb = verb_at(line, party.end)?;
+    let before = out.fields;
+    let next = field_list(line, verb.next, out)?;
+    add_head(out, party, verb.value, out.fields - before);
+    Some(next)
 }
 
 // Nothing.
 fn no_agreement() -> Agreement
     ensures { result ≡ agreement_of [] }
 {
-    let heads = [0usize; Agreement::HEADS];
-    let spans = [0usize; Agreement::SPANS];
-    let values = [0i64; Agreement::FIELDS];
     Agreement {
         parts: 0,
         fields: 0,
-        heads,
-        spans,
-        values,
+        heads: [0; Agreement::HEADS],
+        spans: [0; Agreement::SPANS],
+        values: [0; Agreement::FIELDS],
     }
+}
+
+// All parts, up to the line's end.
+fn parts(line: &[u8]) -> Option<Agreement>
+    requires { length line.now ≤ 512 }
+    ensures { result ≡ given agreement_of (parts line.now 0) }
+{
+    let mut read = no_agreement();
+    let mut i = 0;
+    for turn in 0..line.len() {
+        let next = part(line, i, &mut read)?;
+        let Some(after) = word_mark(line, next, words::OR) else {
+            if ends(line, next) {
+                return Some(read);
+            }
+            return None;
+        };
+        i = after;
+    }
+    None
 }
 
 // The parts of an agreement; nothing for any other line.
@@ -556,7 +469,10 @@ pub fn agreement_of(line: &[u8]) -> Agreement
     if Line::BYTES < line.len() {
         return no_agreement();
     }
-    parts_of(line)
+    match parts(line) {
+        Some(read) => read,
+        None => no_agreement(),
+    }
 }
 
 // ---- a line
@@ -565,7 +481,6 @@ pub fn agreement_of(line: &[u8]) -> Agreement
 fn plain(request: Request) -> Line
     ensures { result ≡ plain request }
 {
-    let numbers = [0i64; Line::NUMBERS];
     Line {
         request,
         party_start: 0,
@@ -574,30 +489,21 @@ fn plain(request: Request) -> Line
         function_end: 0,
         values: 0,
         assets: 0,
-        numbers,
+        numbers: [0; Line::NUMBERS],
     }
 }
 
-// A line that is no tick, no jump and no call.
+// A line that is no tick, no jump and no call. Apart, since room for an agreement's parts is cleared at the call of what has it.
+#[inline(never)]
 fn other(line: &[u8]) -> Line
-    requires { length line.now ≤ 512 }
-    ensures { result ≡ line_of (or_refused (agreement_line line.now 0)) }
+    requires few { length line.now ≤ 512 }
+    requires no_time { None ≡ given request_in (tick_line line.now 0) }
+    requires no_call { None ≡ given line_of (call_line line.now 0) }
+    ensures { result ≡ line_of (asked line.now) }
 {
-    let found = parts_of(line);
-    if found.parts == 0 {
-        return plain(Request::Refused(questions::LINE_FORM));
-    }
-    plain(Request::Agreement)
-}
-
-// What a tick or a jump asks for; what is neither, which `read` does not ask of it, is 51.
-fn request_of(time: Time) -> Request
-    ensures { result ≡ request_of time }
-{
-    match time {
-        Time::Tick => Request::Tick,
-        Time::Jump(to) => Request::Jump(to),
-        Time::Nothing => Request::Refused(questions::LINE_FORM),
+    match parts(line) {
+        Some(_) => plain(Request::Agreement),
+        None => plain(Request::Refused(Question::LineForm)),
     }
 }
 
@@ -606,27 +512,13 @@ pub fn read(line: &[u8]) -> Line
     ensures { result ≡ line_of (asked line.now) }
 {
     if Line::BYTES < line.len() {
-        return plain(Request::Refused(questions::LINE_LENGTH));
+        return plain(Request::Refused(Question::LineLength));
     }
-    let time = time_line(line);
-    let Time::Nothing = time else {
-        return plain(request_of(time));
-    };
-    let Names::At(party_start, party_end, function_start, function_end) = call_names(line) else {
-        return other(line);
-    };
-    let mut numbers = [0i64; Line::NUMBERS];
-    let Found::At(values, assets) = arguments(line, function_end, &mut numbers) else {
-        return other(line);
-    };
-    Line {
-        request: Request::Call,
-        party_start,
-        party_end,
-        function_start,
-        function_end,
-        values,
-        assets,
-        numbers,
+    if let Some(request) = time_line(line) {
+        return plain(request);
     }
+    if let Some(call) = call_line(line) {
+        return call;
+    }
+    other(line)
 }

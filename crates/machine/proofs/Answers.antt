@@ -10,8 +10,7 @@ use Rattle.laws.specs.Choice.{pick}
 use Rattle.contract.specs.Limits.{top}
 use Rattle.contract.specs.Tree.{Contract}
 use Rattle.state.specs.declared.State.{State}
-use Rattle.state.specs.declared.Due.{Due}
-use Rattle.state.specs.declared.Due.TheVariants as due
+use Rattle.std.specs.Prelude.{Option, Some, None}
 use Rattle.state.specs.States.{due_in}
 use Rattle.statements.specs.declared.Label.{Label}
 use Rattle.statements.specs.Running.{work_from}
@@ -30,9 +29,9 @@ pub rejoined : (t : Stepped) (r : Reply) (ls : List Label) → r ≡ reply_of t 
 rejoined t r ls e f = λ i. record { outcome = (e i).outcome; state = (e i).state; labels = f i; count = (e i).count }
 
 -- what statements begin with
-pub started : (s : State) (zs : List ℤ) (h : List ℕ) (ls : List Label) → h ≡ holdings_of s.assets zs → ls ≡ no_labels → work_from s.kinds s.numbers s.texts h ls 0 0 ≡ begun s (amounts zs)
+pub started : (s : State) (zs : List ℤ) (h : List ℕ) (ls : List Label) → h ≡ holdings_of s.assets zs → ls ≡ no_labels → work_from s.kinds s.numbers s.texts h ls 0 None ≡ begun s (amounts zs)
 unfolding holdings_of
-started s zs h ls e f = λ i. work_from s.kinds s.numbers s.texts (e i) (f i) 0 0
+started s zs h ls e f = λ i. work_from s.kinds s.numbers s.texts (e i) (f i) 0 None
 
 -- ---- a tick and a jump send nothing
 abbrev Plain : Stepped → Type 0
@@ -43,17 +42,17 @@ unfolding pick
 plain_pick true x y p q = p
 plain_pick false x y p q = q
 
-plain_due : (s : State) (d : Due) → Plain (tick_by_due s d)
-plain_due s (due.At k) = refl
-plain_due s due.Nothing = plain_pick (ltb s.clock top) _ _ refl refl
+plain_due : (s : State) (d : Option ℕ) → Plain (tick_by_due s d)
+plain_due s (Some k) = refl
+plain_due s None = plain_pick (ltb s.clock top) _ _ refl refl
 
 pub tick_plain : (c : Contract) (s : State) (r : Reply) → r ≡ reply_of (ticked c s) → answered r.outcome r.state ≡ ticked c s
 unfolding ticked
 tick_plain c s r e = (λ i. answered (e i).outcome (e i).state) ∙ plain_pick s.agreed _ _ (plain_due s (due_in c s)) refl
 
-plain_jump : (c : Contract) (s : State) (T : ℤ) (d : Due) → Plain (jump_by_due c s T d)
-plain_jump c s T (due.At k) = refl
-plain_jump c s T due.Nothing = plain_pick (le_z (pos s.clock) T) _ _ refl refl
+plain_jump : (c : Contract) (s : State) (T : ℤ) (d : Option ℕ) → Plain (jump_by_due c s T d)
+plain_jump c s T (Some k) = refl
+plain_jump c s T None = plain_pick (le_z (pos s.clock) T) _ _ refl refl
 
 pub jump_plain : (c : Contract) (s : State) (T : ℤ) (r : Reply) → r ≡ reply_of (jumped c s T) → answered r.outcome r.state ≡ jumped c s T
 unfolding jumped

@@ -10,28 +10,28 @@ use lib.Dec.{eqb}
 use borrow.Author.Tests.{eq-eqb, ne_eqb}
 use Rattle.laws.specs.Choice.{pick}
 use Rattle.laws.proofs.Choice.{pick_true, pick_false}
-use Rattle.numbers.specs.declared.Truth.{Truth}
-use Rattle.numbers.specs.declared.Truth.TheVariants as truth
 use Rattle.contract.specs.Tree.{Contract, Function}
 use Rattle.contract.specs.Decode.{condition_at, precondition_at, function_at, contract_of}
 use Rattle.laws.specs.Lists.{every}
 use Rattle.evaluation.specs.Memory.{Memory}
 use Rattle.evaluation.specs.Meaning.{truth_of}
 use Rattle.state.specs.declared.State.{State}
-use Rattle.state.specs.declared.Due.TheVariants as due
+use Rattle.std.specs.Prelude.{Option, Some, None, Ok, Err}
 use Rattle.state.specs.States.{due_in}
 use Rattle.statements.specs.declared.Work.{Work}
 use Rattle.statements.specs.Running.{memory_in, ran}
-use Rattle.machine.specs.declared.Found.{Found}
-use Rattle.machine.specs.declared.Found.TheVariants as found
+use Rattle.outcomes.specs.declared.Stepped.{Stepped}
 use Rattle.outcomes.specs.Outcomes.{refused}
 use Rattle.holdings.specs.Holdings.{amounts}
-use Rattle.machine.specs.Steps.{begun, Invocation, precondition_holds, schedule, with_scheduled, finished, by_precondition, invoked, by_chosen, call_by_due, called}
+use Rattle.machine.specs.Steps.{begun, unless_refused, Invocation, precondition_holds, schedule, with_scheduled, finished, by_precondition, invoked, by_chosen, call_by_due, called}
 use Rattle.machine.specs.Private.{naming, arguments, chosen_in, FoundIn}
 use Rattle.machine.proofs.Functions.{choose_named}
+use Rattle.numbers.specs.Numbers.{Truth}
+use Rattle.questions.specs.declared.Question.{Question}
+use Rattle.questions.specs.declared.Question.TheVariants as ask
 
 module _ (w : List ℕ) (m : Memory) (first n : ℕ) where
-  pub precondition_omitted : n ≡ 0 → truth.Holds true ≡ precondition_holds m (precondition_at w first n)
+  pub precondition_omitted : n ≡ 0 → Ok true ≡ precondition_holds m (precondition_at w first n)
   unfolding precondition_at precondition_holds
   precondition_omitted e = sym (ap (precondition_holds m) (pick_true _ _ _ (eq-eqb n 0 e)))
 
@@ -41,36 +41,42 @@ module _ (w : List ℕ) (m : Memory) (first n : ℕ) where
 
 -- ---- the body has run
 module _ (s : State) (n : ℕ) (f : Function) (v : List ℤ) (w : Work) where
-  pub body_refused : (w.refusal ≡ 0 → ⊥) → refused s w.refusal ≡ finished s n f v w
-  unfolding finished
-  body_refused e = sym (pick_false _ _ _ (ne_eqb w.refusal 0 e))
+  -- the body's end, where no question refused
+  abbrev at_end : Stepped
+  at_end = pick (every (λ a. eqb a 0) (drop 16 w.holdings)) (with_scheduled s w f.last (schedule (memory_in v s.clock w) s.clock n 0 f.events)) (refused s ask.ParametersEmpty)
 
-  module _ (e : w.refusal ≡ 0) where
-    pub parameters_left : every (λ a. eqb a 0) (drop 16 w.holdings) ≡ false → refused s 37 ≡ finished s n f v w
+  pub body_refused : (q : Question) → w.refusal ≡ Some q → refused s q ≡ finished s n f v w
+  unfolding finished
+  body_refused q e = sym (ap (λ (r : Option Question). unless_refused r (refused s) at_end) e)
+
+  module _ (e : w.refusal ≡ None) where
+    goes_on : finished s n f v w ≡ at_end
     unfolding finished
-    parameters_left h = sym (pick_true _ _ _ (eq-eqb w.refusal 0 e) ∙ pick_false _ _ _ h)
+    goes_on = ap (λ (r : Option Question). unless_refused r (refused s) at_end) e
+
+    pub parameters_left : every (λ a. eqb a 0) (drop 16 w.holdings) ≡ false → refused s ask.ParametersEmpty ≡ finished s n f v w
+    parameters_left h = sym (goes_on ∙ pick_false _ _ _ h)
 
     pub parameters_none : every (λ a. eqb a 0) (drop 16 w.holdings) ≡ true → with_scheduled s w f.last (schedule (memory_in v s.clock w) s.clock n 0 f.events) ≡ finished s n f v w
-    unfolding finished
-    parameters_none h = sym (pick_true _ _ _ (eq-eqb w.refusal 0 e) ∙ pick_true _ _ _ h)
+    parameters_none h = sym (goes_on ∙ pick_true _ _ _ h)
 
 -- ---- the arguments
 module _ (s : State) (v a : List ℤ) (n : ℕ) (f : Function) where
-  pub wrong_values : (length v ≡ length f.values → ⊥) → refused s 27 ≡ invoked s (arguments v a) n f
+  pub wrong_values : (length v ≡ length f.values → ⊥) → refused s ask.ArgumentCount ≡ invoked s (arguments v a) n f
   unfolding invoked
   wrong_values h = sym (pick_false _ _ _ (rw (ne_eqb (length v) (length f.values) h)))
 
   module _ (l : length v ≡ length f.values) where
-    pub wrong_assets : (length a ≡ length f.parameters → ⊥) → refused s 27 ≡ invoked s (arguments v a) n f
+    pub wrong_assets : (length a ≡ length f.parameters → ⊥) → refused s ask.ArgumentCount ≡ invoked s (arguments v a) n f
     unfolding invoked
     wrong_assets h = sym (pick_false _ _ _ (rw (eq-eqb (length v) (length f.values) l) (ne_eqb (length a) (length f.parameters) h)))
 
     module _ (k : length a ≡ length f.parameters) where
-      counted : invoked s (arguments v a) n f ≡ pick (every (le_z (pos 0)) a) (by_precondition s n f v (begun s (amounts a)) (precondition_holds (memory_in v s.clock (begun s (amounts a))) f.precondition)) (refused s 28)
+      counted : invoked s (arguments v a) n f ≡ pick (every (le_z (pos 0)) a) (by_precondition s n f v (begun s (amounts a)) (precondition_holds (memory_in v s.clock (begun s (amounts a))) f.precondition)) (refused s ask.AssetArguments)
       unfolding invoked
       counted = pick_true _ _ _ (rw (eq-eqb (length v) (length f.values) l) (eq-eqb (length a) (length f.parameters) k))
 
-      pub negative_asset : every (le_z (pos 0)) a ≡ false → refused s 28 ≡ invoked s (arguments v a) n f
+      pub negative_asset : every (le_z (pos 0)) a ≡ false → refused s ask.AssetArguments ≡ invoked s (arguments v a) n f
       negative_asset h = sym (counted ∙ pick_false _ _ _ h)
 
       module _ (h : every (le_z (pos 0)) a ≡ true) (w : Work) (b : w ≡ begun s (amounts a)) (t : Truth) (g : t ≡ precondition_holds (memory_in v s.clock w) f.precondition) where
@@ -80,17 +86,17 @@ module _ (s : State) (v a : List ℤ) (n : ℕ) (f : Function) where
             ∙ (λ i. by_precondition s n f v (sym b i) (precondition_holds (memory_in v s.clock (sym b i)) f.precondition))
             ∙ ap (by_precondition s n f v w) (sym g)
 
-        pub precondition_refused : (q : ℕ) → t ≡ truth.Refused q → refused s q ≡ invoked s (arguments v a) n f
+        pub precondition_refused : (q : Question) → t ≡ Err q → refused s q ≡ invoked s (arguments v a) n f
         precondition_refused q e = sym (by_truth_lem ∙ ap (by_precondition s n f v w) e)
 
-        pub precondition_false : t ≡ truth.Holds false → refused s 29 ≡ invoked s (arguments v a) n f
+        pub precondition_false : t ≡ Ok false → refused s ask.Precondition ≡ invoked s (arguments v a) n f
         precondition_false e = sym (by_truth_lem ∙ ap (by_precondition s n f v w) e)
 
-        pub precondition_true : t ≡ truth.Holds true → (x : Work) → x ≡ ran v s.clock w f.body → finished s n f v x ≡ invoked s (arguments v a) n f
+        pub precondition_true : t ≡ Ok true → (x : Work) → x ≡ ran v s.clock w f.body → finished s n f v x ≡ invoked s (arguments v a) n f
         precondition_true e x r = sym (by_truth_lem ∙ ap (by_precondition s n f v w) e ∙ ap (finished s n f v) (sym r))
 
 -- ---- who calls
-pub call_unagreed : (c : Contract) (s : State) (i : Invocation) → s.agreed ≡ false → refused s 22 ≡ called c s i
+pub call_unagreed : (c : Contract) (s : State) (i : Invocation) → s.agreed ≡ false → refused s ask.Agreed ≡ called c s i
 unfolding called
 call_unagreed c s i e = sym (pick_false s.agreed _ _ e)
 
@@ -99,18 +105,18 @@ module _ (w : List ℕ) (s : State) (i : Invocation) (e : s.agreed ≡ true) whe
   unfolding called
   by_due = pick_true s.agreed _ _ e
 
-  pub call_due : (k : ℕ) → due_in (contract_of w) s ≡ due.At k → refused s 25 ≡ called (contract_of w) s i
+  pub call_due : (k : ℕ) → due_in (contract_of w) s ≡ Some k → refused s ask.NothingDue ≡ called (contract_of w) s i
   call_due k d = sym (by_due ∙ ap (call_by_due (contract_of w) s i) d)
 
-  module _ (d : due_in (contract_of w) s ≡ due.Nothing) (r : Found) (f : FoundIn w s.state (naming i.caller i.function) r) where
+  module _ (d : due_in (contract_of w) s ≡ None) (r : Option ℕ) (f : FoundIn w s.state (naming i.caller i.function) r) where
     by_found : called (contract_of w) s i ≡ by_chosen s i (chosen_in w r)
     by_found =
         by_due ∙ ap (call_by_due (contract_of w) s i) d
         ∙ ap (by_chosen s i) (choose_named (contract_of w) s i 0 (contract_of w).functions ∙ f.same)
 
-    pub call_unknown : r ≡ found.Nothing → refused s 26 ≡ called (contract_of w) s i
-    call_unknown q = sym (by_found ∙ ap (λ (x : Found). by_chosen s i (chosen_in w x)) q)
+    pub call_unknown : r ≡ None → refused s ask.FunctionKnown ≡ called (contract_of w) s i
+    call_unknown q = sym (by_found ∙ ap (λ (x : Option ℕ). by_chosen s i (chosen_in w x)) q)
 
-    pub call_found : (n : ℕ) → r ≡ found.At n → invoked s (arguments i.values i.assets) n (function_at w n) ≡ called (contract_of w) s i
+    pub call_found : (n : ℕ) → r ≡ Some n → invoked s (arguments i.values i.assets) n (function_at w n) ≡ called (contract_of w) s i
     unfolding invoked
-    call_found n q = sym (by_found ∙ ap (λ (x : Found). by_chosen s i (chosen_in w x)) q)
+    call_found n q = sym (by_found ∙ ap (λ (x : Option ℕ). by_chosen s i (chosen_in w x)) q)

@@ -22,6 +22,7 @@ use Rattle.machine.specs.Steps.{accepted, ended, Scheduled, times, with_schedule
 use Rattle.holdings.specs.Holdings.{reached}
 use Rattle.machine.proofs.Firings.{with_reached}
 use Rattle.machine.proofs.Schedules.{joined_all, Joined, joined_none}
+use Rattle.questions.specs.declared.Question.TheVariants as ask
 
 -- no event leaves, and the slots after the pending ones are blank
 pub nothing_leaves : (s : State) → removed s s.pending ≡ with_pending s (live s)
@@ -68,7 +69,7 @@ module _ (s : State) (w : Work) (q : ℕ) (room : s.pending ≤ 64) (full : leng
   count : length (live s) ≡ s.pending
   count = omega (arith, length-take s.pending s.events)
 
-  pub over_full : 64 - s.pending < length ps → refused s 39 ≡ with_scheduled s w q x
+  pub over_full : 64 - s.pending < length ps → refused s ask.PendingRoom ≡ with_scheduled s w q x
   over_full h =
       let l : 64 < length (live s) + length ps = omega (arith, count) in
       sym (ap (with_scheduled s w q) e ∙ pick_false _ _ _ (lt-leb (length (live s) + length ps) 64 l))

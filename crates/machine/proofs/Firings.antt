@@ -3,17 +3,14 @@ use mathlib.Core.Path.{◌≡◌, refl, sym, ap, ◌∙◌}
 use mathlib.Core.Bool.{true, false}
 use mathlib.Core.List.{List}
 use Prim.Native.Nat.{ℕ}
-use borrow.Author.Tests.{eq-eqb, ne_eqb}
-use lib.Dec.{eqb}
 use lib.ListN.{get_or}
 use Rattle.laws.specs.Choice.{pick}
-use Rattle.laws.proofs.Choice.{pick_true, pick_false}
+use Rattle.laws.proofs.Choice.{pick_true}
 use Rattle.contract.specs.Tree.{Contract, Event}
 use Rattle.contract.specs.Decode.{block_between, contract_of}
 use Rattle.state.specs.declared.State.{State}
 use Rattle.state.specs.declared.Pending.{Pending}
-use Rattle.state.specs.declared.Due.{Due}
-use Rattle.state.specs.declared.Due.TheVariants as due
+use Rattle.std.specs.Prelude.{Option, Some, None}
 use Rattle.state.specs.States.{blank, live, event_of, due_in, with_pending, removed}
 use Rattle.state.proofs.Within.{live_with}
 use Rattle.statements.specs.declared.Work.{Work}
@@ -21,9 +18,11 @@ use Rattle.machine.specs.declared.Handler.{Handler}
 use Rattle.outcomes.specs.declared.Rule.TheVariants.{EventMatch}
 use Rattle.outcomes.specs.declared.Outcome.TheVariants.{Failed}
 use Rattle.outcomes.specs.Outcomes.{answered, refused}
-use Rattle.machine.specs.Steps.{accepted, ended, handled, fire_by_due, fired}
+use Rattle.machine.specs.Steps.{unless_refused, accepted, ended, handled, fire_by_due, fired}
 use Rattle.holdings.specs.Holdings.{reached}
 use Rattle.machine.specs.Private.{HandlerOf, ran_on, handled_by}
+use Rattle.questions.specs.declared.Question.{Question}
+use Rattle.questions.specs.declared.Question.TheVariants as ask
 
 pub with_reached : (s : State) (x : Work) (q : ℕ) (ps : List Pending) → reached (with_pending s ps) x q ≡ ended s x q ps
 unfolding with_pending
@@ -35,16 +34,18 @@ removed_reached s x q k = with_reached s x q _ ∙ ap (ended s x q) (sym (live_w
 
 -- a handler has run
 module _ (l : State) (q : ℕ) (x y : Work) (run : x ≡ y) where
-  pub handler_failed : (x.refusal ≡ 0 → ⊥) → answered (Failed x.refusal) l ≡ handled_by l q y
-  handler_failed n = sym (pick_false _ _ _ (ne_eqb x.refusal 0 n)) ∙ ap (handled_by l q) run
+  pub handler_failed : (p : Question) → y.refusal ≡ Some p → answered (Failed p) l ≡ handled_by l q y
+  handler_failed p e = sym (ap (λ (r : Option Question). unless_refused r (λ z. answered (Failed z) l) (accepted EventMatch (reached l y q) y)) e)
 
-  pub handler_done : x.refusal ≡ 0 → (r : State) → r ≡ reached l x q → accepted EventMatch r x ≡ handled_by l q y
+  pub handler_done : x.refusal ≡ None → (r : State) → r ≡ reached l x q → accepted EventMatch r x ≡ handled_by l q y
   handler_done e r f =
-      ap (λ (z : State). accepted EventMatch z x) f ∙ sym (pick_true _ _ _ (eq-eqb x.refusal 0 e)) ∙ ap (handled_by l q) run
+      ap (λ (z : State). accepted EventMatch z x) f
+      ∙ sym (ap (λ (p : Option Question). unless_refused p (λ z. answered (Failed z) l) (accepted EventMatch (reached l x q) x)) e)
+      ∙ ap (handled_by l q) run
 
 -- the event at place k, and its handler
 pub fired_at : (w : List ℕ) (s : State) (k : ℕ) (p : Pending) → p ≡ get_or (live s) k blank → (h : Handler) → HandlerOf w (event_of (contract_of w) p) h → (l : State) → l ≡ removed s k
-    → handled_by l h.last (ran_on s (block_between w h.from h.end)) ≡ fire_by_due (contract_of w) s (due.At k)
+    → handled_by l h.last (ran_on s (block_between w h.from h.end)) ≡ fire_by_due (contract_of w) s (Some k)
 unfolding handled
 fired_at w s k p at h g l left =
     let of : Pending → Event = event_of (contract_of w) in
@@ -52,13 +53,13 @@ fired_at w s k p at h g l left =
     let q : h.last ≡ (of (get_or (live s) k blank)).last = g.last ∙ ap (λ (y : Pending). (of y).last) at in
     let x : Work = ran_on s (of (get_or (live s) k blank)).handler in
     (λ i. handled_by (left i) (q i) (ran_on s (b i)))
-    ∙ ap (λ (z : State). pick (eqb x.refusal 0) (accepted EventMatch z x) (answered (Failed x.refusal) (removed s k))) (removed_reached s x (of (get_or (live s) k blank)).last k)
+    ∙ ap (λ (z : State). unless_refused x.refusal (λ p. answered (Failed p) (removed s k)) (accepted EventMatch z x)) (removed_reached s x (of (get_or (live s) k blank)).last k)
 
 module _ (c : Contract) (s : State) where
-  pub fire_unagreed : s.agreed ≡ false → refused s 22 ≡ fired c s
+  pub fire_unagreed : s.agreed ≡ false → refused s ask.Agreed ≡ fired c s
   unfolding fired pick
   fire_unagreed e = rw e
 
-  pub fire_due : s.agreed ≡ true → (d : Due) → due_in c s ≡ d → fire_by_due c s d ≡ fired c s
+  pub fire_due : s.agreed ≡ true → (d : Option ℕ) → due_in c s ≡ d → fire_by_due c s d ≡ fired c s
   unfolding fired
   fire_due e d q = sym (pick_true s.agreed _ _ e ∙ ap (fire_by_due c s) q)

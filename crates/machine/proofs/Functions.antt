@@ -24,7 +24,7 @@ use Rattle.state.specs.declared.State.{State}
 use Rattle.state.specs.States.{no_event}
 use Rattle.state.proofs.Decoded.{each_length, each_at}
 use Rattle.agreements.proofs.Clauses.{party_name}
-use Rattle.machine.specs.declared.Found.TheVariants as found
+use Rattle.std.specs.Prelude.{Some, None}
 use Rattle.machine.specs.Steps.{Invocation, Chosen, chosen, unknown, choose, answers_to}
 use Rattle.machine.specs.Private.{naming, in_state, FoundIn}
 
@@ -133,14 +133,14 @@ onward_first w q m =
     ap (λ (k : ℕ). choose (contract_of w) (in_state q) m 0 (each_from 0 k (function_at w))) e
 
 module _ (w : List ℕ) (q : ℕ) (m : Invocation) (i : ℕ) (e : choose (contract_of w) (in_state q) m 0 (contract_of w).functions ≡ onward w q m i) where
-  pub found_here : i < word_at w 6 → answers_to (contract_of w) (in_state q) m (function_at w i) ≡ true → FoundIn w q m (found.At i)
+  pub found_here : i < word_at w 6 → answers_to (contract_of w) (in_state q) m (function_at w i) ≡ true → FoundIn w q m (Some i)
   found_here h t =
       record {
         same = e ∙ choose_hit (contract_of w) (in_state q) m (function_at w) (word_at w 6) i h t;
         within = λ n r. let d : i ≡ n = cc in omega arith;
       }
 
-  pub found_none : word_at w 6 ≤ i → FoundIn w q m found.Nothing
+  pub found_none : word_at w 6 ≤ i → FoundIn w q m None
   found_none h =
       record {
         same = e ∙ choose_end (contract_of w) (in_state q) m (function_at w) (word_at w 6) i h;

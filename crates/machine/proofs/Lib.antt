@@ -12,3 +12,4 @@ pub mod Answers
 pub mod Taken
 pub mod Pendings
 pub mod Playing
+pub mod Refusals

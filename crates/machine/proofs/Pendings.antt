@@ -4,27 +4,22 @@ use mathlib.Core.Bool.{true, false, not}
 use mathlib.Core.List.{List, [], ◌∷◌, ◌++◌}
 use Prim.Native.Nat.{ℕ, zero, suc, ◌+◌, ◌-◌, ◌≤◌}
 use native.Mathlib.Omega.{arith}
-use lib.ListN.{length, get_or, length-set, length-append, length-take}
+use lib.ListN.{length, get_or, length-set, length-append, length-take, drop}
 use lib.Dec.{eqb}
 use lib.IntN.{ℤ, pos, negsuc, nat_abs}
 use borrow.Author.Tests.{leb-true}
 use Rattle.laws.proofs.Choice.{by_cases}
 use Rattle.numbers.specs.declared.Value.{Value}
 use Rattle.numbers.specs.declared.Value.TheVariants.{Integer, Text}
-use Rattle.numbers.specs.declared.Answer.{Answer}
-use Rattle.numbers.specs.declared.Answer.TheVariants as answer
-use Rattle.numbers.specs.declared.Truth.{Truth}
-use Rattle.numbers.specs.declared.Truth.TheVariants as truth
 use Rattle.contract.specs.Tree.{Verb, Clause, Function, Contract, held, Action, assign, send, move, pay, move_all, pay_all, Block, none, perform, conditional, broken_block}
 use Rattle.contract.specs.Tree as tree
 use Rattle.evaluation.specs.Meaning.{value_of, truth_of}
 use Rattle.state.specs.declared.State.{State}
 use Rattle.state.specs.declared.Pending.{Pending}
-use Rattle.state.specs.declared.Due.{Due}
-use Rattle.state.specs.declared.Due.TheVariants as due
+use Rattle.std.specs.Prelude.{Option, Some, None, Ok, Err}
 use Rattle.state.specs.States.{blank, live, event_of, due_in, with_pending, lapsed, removed, with_integer, opened, time_passed, passed_times, times_until_due}
 use Rattle.laws.proofs.Members.{keep_length}
-use Rattle.laws.specs.Lists.{repeated, keep}
+use Rattle.laws.specs.Lists.{every, repeated, keep}
 use Rattle.state.proofs.Each.{without_length}
 use Rattle.state.proofs.Kept.{without}
 use Rattle.statements.specs.declared.Work.{Work}
@@ -42,17 +37,21 @@ use Rattle.agreements.specs.Agreement.{Part, set_fields, set_clause, set_clauses
 use Rattle.machine.specs.Sessions.{parts_said, invocation_in}
 use Rattle.machine.specs.Private.{taken_by, taken}
 use Rattle.laws.proofs.Members.{repeated_length}
+use Rattle.numbers.specs.Numbers.{Answer, Truth}
+use Rattle.questions.specs.declared.Question.{Question}
+use Rattle.questions.specs.declared.Question.TheVariants as ask
+use Rattle.machine.proofs.Refusals.{by_refusal}
 
 -- ---- how a step can come out
 
 pub data Outcomes (s : State) : Stepped → Type 0 where
-  refusal : (n : ℕ) → Outcomes s (refused s n)
+  refusal : (q : Question) → Outcomes s (refused s q)
   agrees : (c : Contract) (ps : List Part) → Outcomes s (answered (Accepted Agree) (opened (set_clauses s c.clauses ps) c.initial))
   calls : (v : List ℤ) (hs : List ℕ) (b : Block) (q : ℕ) (ps : List Pending) → length (live s) + length ps ≤ 64
       → Outcomes s (accepted Call (ended s (ran v s.clock (begun s hs) b) q (live s ++ ps)) (ran v s.clock (begun s hs) b))
   fires : (k : ℕ) (b : Block) (q : ℕ)
       → Outcomes s (accepted EventMatch (ended s (ran [] s.clock (begun s []) b) q (live (removed s k))) (ran [] s.clock (begun s []) b))
-  fails : (k n : ℕ) → Outcomes s (answered (Failed n) (removed s k))
+  fails : (k : ℕ) (q : Question) → Outcomes s (answered (Failed q) (removed s k))
   ticks : Outcomes s (answered (Accepted Tick) (time_passed s))
   jumps : (n : ℕ) → Outcomes s (answered (Accepted Tick) (passed_times n s))
 
@@ -60,34 +59,34 @@ module _ (c : Contract) (s : State) where
   agreement_outcomes : (ps : List Part) → Outcomes s (agreed_on c s ps)
   unfolding agreed_on
   agreement_outcomes ps =
-      by_cases (Outcomes s) _ _ _ (λ _. refusal 21) λ _.
-      by_cases (Outcomes s) _ _ _ (λ _. by_cases (Outcomes s) _ _ _ (λ _. agrees c ps) (λ _. refusal 24)) (λ _. refusal 23)
+      by_cases (Outcomes s) _ _ _ (λ _. refusal ask.NotAgreed) λ _.
+      by_cases (Outcomes s) _ _ _ (λ _. by_cases (Outcomes s) _ _ _ (λ _. agrees c ps) (λ _. refusal ask.SameValues)) (λ _. refusal ask.SameClauses)
 
   tick_outcomes : Outcomes s (ticked c s)
   unfolding ticked
-  tick_outcomes = by_cases (Outcomes s) _ _ _ (λ _. go (due_in c s)) (λ _. refusal 22)
+  tick_outcomes = by_cases (Outcomes s) _ _ _ (λ _. go (due_in c s)) (λ _. refusal ask.Agreed)
     where
-      go : (d : Due) → Outcomes s (tick_by_due s d)
-      go (due.At k) = refusal 25
-      go due.Nothing = by_cases (Outcomes s) _ _ _ (λ _. ticks) (λ _. refusal 40)
+      go : (d : Option ℕ) → Outcomes s (tick_by_due s d)
+      go (Some k) = refusal ask.NothingDue
+      go None = by_cases (Outcomes s) _ _ _ (λ _. ticks) (λ _. refusal ask.ClockBelowTop)
 
   jump_outcomes : (T : ℤ) → Outcomes s (jumped c s T)
   unfolding jumped
-  jump_outcomes T = by_cases (Outcomes s) _ _ _ (λ _. go (due_in c s)) (λ _. refusal 22)
+  jump_outcomes T = by_cases (Outcomes s) _ _ _ (λ _. go (due_in c s)) (λ _. refusal ask.Agreed)
     where
-      go : (d : Due) → Outcomes s (jump_by_due c s T d)
-      go (due.At k) = refusal 25
-      go due.Nothing = by_cases (Outcomes s) _ _ _ (λ _. jumps (times_until_due c (nat_abs T - s.clock) s)) (λ _. refusal 62)
+      go : (d : Option ℕ) → Outcomes s (jump_by_due c s T d)
+      go (Some k) = refusal ask.NothingDue
+      go None = by_cases (Outcomes s) _ _ _ (λ _. jumps (times_until_due c (nat_abs T - s.clock) s)) (λ _. refusal ask.TimeNotPast)
 
   fired_outcomes : Outcomes s (fired c s)
   unfolding fired handled
-  fired_outcomes = by_cases (Outcomes s) _ _ _ (λ _. go (due_in c s)) (λ _. refusal 22)
+  fired_outcomes = by_cases (Outcomes s) _ _ _ (λ _. go (due_in c s)) (λ _. refusal ask.Agreed)
     where
-      go : (d : Due) → Outcomes s (fire_by_due c s d)
-      go due.Nothing = refusal 41
-      go (due.At k) =
+      go : (d : Option ℕ) → Outcomes s (fire_by_due c s d)
+      go None = refusal ask.SomethingDue
+      go (Some k) =
           let e = event_of c (get_or (live s) k blank) in
-          by_cases (Outcomes s) _ _ _ (λ _. fires k e.handler e.last) (λ _. fails k _)
+          by_refusal (Outcomes s) _ _ _ (λ _. fires k e.handler e.last) (λ q _. fails k q)
 
   module _ (i : Invocation) where
     module _ (n : ℕ) (f : Function) where
@@ -96,21 +95,22 @@ module _ (c : Contract) (s : State) where
       scheduled_outcomes (times ps) =
           by_cases (Outcomes s) _ _ _
           (λ r. calls i.values (amounts i.assets) f.body f.last ps (leb-true (length (live s) + length ps) 64 r))
-          (λ _. refusal 39)
+          (λ _. refusal ask.PendingRoom)
 
       finished_outcomes : Outcomes s (finished s n f i.values (ran i.values s.clock (begun s (amounts i.assets)) f.body))
       unfolding finished
       finished_outcomes =
-          by_cases (Outcomes s) _ _ _
-          (λ _. by_cases (Outcomes s) _ _ _
-          (λ _. scheduled_outcomes (schedule (memory_in i.values s.clock (ran i.values s.clock (begun s (amounts i.assets)) f.body)) s.clock n 0 f.events))
-          (λ _. refusal 37))
-          (λ _. refusal _)
+          let w = ran i.values s.clock (begun s (amounts i.assets)) f.body in
+          by_refusal (Outcomes s) w.refusal (refused s) _
+          (λ _. by_cases (Outcomes s) (every (λ a. eqb a 0) (drop 16 w.holdings)) _ _
+          (λ _. scheduled_outcomes (schedule (memory_in i.values s.clock w) s.clock n 0 f.events))
+          (λ _. refusal ask.ParametersEmpty))
+          (λ q _. refusal q)
 
       precondition_outcomes : (t : Truth) → Outcomes s (by_precondition s n f i.values (begun s (amounts i.assets)) t)
-      precondition_outcomes (truth.Refused q) = refusal q
-      precondition_outcomes (truth.Holds false) = refusal 29
-      precondition_outcomes (truth.Holds true) = finished_outcomes
+      precondition_outcomes (Err q) = refusal q
+      precondition_outcomes (Ok false) = refusal ask.Precondition
+      precondition_outcomes (Ok true) = finished_outcomes
 
       invoked_outcomes : Outcomes s (invoked s i n f)
       unfolding invoked
@@ -118,23 +118,23 @@ module _ (c : Contract) (s : State) where
           by_cases (Outcomes s) _ _ _
           (λ _. by_cases (Outcomes s) _ _ _
           (λ _. precondition_outcomes (precondition_holds (memory_in i.values s.clock (begun s (amounts i.assets))) f.precondition))
-          (λ _. refusal 28))
-          (λ _. refusal 27)
+          (λ _. refusal ask.AssetArguments))
+          (λ _. refusal ask.ArgumentCount)
 
     chosen_outcomes : (n : ℕ) (fs : List Function) → Outcomes s (by_chosen s i (choose c s i n fs))
     unfolding choose
-    chosen_outcomes n [] = refusal 26
+    chosen_outcomes n [] = refusal ask.FunctionKnown
     chosen_outcomes n (f ∷ fs) =
         by_cases (λ (z : Chosen). Outcomes s (by_chosen s i z)) (answers_to c s i f) (chosen n f) (choose c s i (suc n) fs)
         (λ _. invoked_outcomes n f) (λ _. chosen_outcomes (suc n) fs)
 
     call_outcomes : Outcomes s (called c s i)
     unfolding called
-    call_outcomes = by_cases (Outcomes s) _ _ _ (λ _. go (due_in c s)) (λ _. refusal 22)
+    call_outcomes = by_cases (Outcomes s) _ _ _ (λ _. go (due_in c s)) (λ _. refusal ask.Agreed)
       where
-        go : (d : Due) → Outcomes s (call_by_due c s i d)
-        go (due.At k) = refusal 25
-        go due.Nothing = chosen_outcomes 0 c.functions
+        go : (d : Option ℕ) → Outcomes s (call_by_due c s i d)
+        go (Some k) = refusal ask.NothingDue
+        go None = chosen_outcomes 0 c.functions
 
   taken_outcomes : (line : List ℕ) (a : Asked) → Outcomes s (taken_by c s line a)
   unfolding taken_by
@@ -239,23 +239,23 @@ unfolding paid
 paid_labels w i a n h = by_cases Labels _ _ _ (λ _. h) (λ _. labelled_labels _ asset_label a (pos n) h)
 
 value_labels : (w : Work) (x : Answer) (f : Value → Work) → Labels w → ((v : Value) → Labels (f v)) → Labels (with_value w x f)
-value_labels w (answer.Refused n) f h g = h
-value_labels w (answer.Is v) f h g = g v
+value_labels w (Err n) f h g = h
+value_labels w (Ok v) f h g = g v
 
 amount_labels : (w : Work) (x : Answer) (f : ℕ → Work) → Labels w → ((n : ℕ) → Labels (f n)) → Labels (with_amount w x f)
-amount_labels w (answer.Refused n) f h g = h
-amount_labels w (answer.Is (Text t)) f h g = h
-amount_labels w (answer.Is (Integer (pos n))) f h g = g n
-amount_labels w (answer.Is (Integer (negsuc n))) f h g = h
+amount_labels w (Err n) f h g = h
+amount_labels w (Ok (Text t)) f h g = h
+amount_labels w (Ok (Integer (pos n))) f h g = g n
+amount_labels w (Ok (Integer (negsuc n))) f h g = h
 
 onward_labels : (w : Work) (f : Work → Work) → Labels w → (Labels w → Labels (f w)) → Labels (onward w f)
 unfolding onward
 onward_labels w f h g = by_cases Labels _ _ _ (λ _. g h) (λ _. h)
 
 truth_labels : (w x : Work) (t : Truth) → Labels w → Labels x → Labels (by_truth w t x)
-truth_labels w x (truth.Refused q) h g = h
-truth_labels w x (truth.Holds true) h g = g
-truth_labels w x (truth.Holds false) h g = h
+truth_labels w x (Err q) h g = h
+truth_labels w x (Ok true) h g = g
+truth_labels w x (Ok false) h g = h
 
 module _ (v : List ℤ) (t : ℕ) where
   performed_labels : (w : Work) (a : Action) → Labels w → Labels (performed v t w a)

@@ -18,9 +18,12 @@ use Rattle.outcomes.specs.declared.Stepped.{Stepped}
 use Rattle.machine.specs.declared.Reply.{Reply}
 use Rattle.outcomes.specs.Outcomes.{no_labels, refused}
 use Rattle.holdings.specs.Holdings.{amounts}
-use Rattle.machine.specs.Steps.{accepted, begun, Scheduled, times, no, schedule, with_scheduled, finished}
+use Rattle.machine.specs.Steps.{unless_refused, accepted, begun, Scheduled, times, no, schedule, with_scheduled, finished}
 use Rattle.holdings.specs.Holdings.{holdings_of}
 use Rattle.machine.specs.Private.{reply_of, is_accepted}
+use Rattle.std.specs.Prelude.{Option, Some, None}
+use Rattle.questions.specs.declared.Question.{Question}
+use Rattle.questions.specs.declared.Question.TheVariants as ask
 
 -- ---- answers
 
@@ -37,9 +40,9 @@ pub few_pending : (c : Contract) (s : State) → state_ok c s ≡ true → s.pen
 few_pending c s ok = (within c s ok).pending
 
 -- ---- a call's begin
-pub begins : (s : State) (a : List ℤ) (h : List ℕ) → h ≡ holdings_of s.assets a → work_from s.kinds s.numbers s.texts h no_labels 0 0 ≡ begun s (amounts a)
+pub begins : (s : State) (a : List ℤ) (h : List ℕ) → h ≡ holdings_of s.assets a → work_from s.kinds s.numbers s.texts h no_labels 0 None ≡ begun s (amounts a)
 unfolding holdings_of
-begins s a h e = ap (λ (x : List ℕ). work_from s.kinds s.numbers s.texts x no_labels 0 0) e
+begins s a h e = ap (λ (x : List ℕ). work_from s.kinds s.numbers s.texts x no_labels 0 None) e
 
 -- ---- a call's end
 
@@ -53,7 +56,7 @@ record Ends (w : Work) (t u : Stepped) : Type 0 where
   sent : is_accepted t.outcome ≡ true → w.labels ≡ t.labels
   none : is_accepted t.outcome ≡ false → no_labels ≡ t.labels
 
-ends_refused : (w : Work) (s : State) (n : ℕ) → Ends w (refused s n) (refused s n)
+ends_refused : (w : Work) (s : State) (n : Question) → Ends w (refused s n) (refused s n)
 ends_refused w s n = record { came = refl; sent = λ h. true_false (sym h); none = λ h. refl }
 
 ends_accepted : (w : Work) (s : State) → Ends w (accepted Call s w) (accepted Call s (unlabelled w))
@@ -64,18 +67,21 @@ unfolding pick
 ends_either w true t u t' u' e f = e
 ends_either w false t u t' u' e f = f
 
+ends_unless : (w : Work) (s : State) (r : Option Question) (t u : Stepped) → Ends w t u → Ends w (unless_refused r (refused s) t) (unless_refused r (refused s) u)
+ends_unless w s None t u e = e
+ends_unless w s (Some q) t u e = ends_refused w s q
+
 module _ (s : State) (w : Work) where
   ends_scheduled : (q : ℕ) (x : Scheduled) → Ends w (with_scheduled s w q x) (with_scheduled s (unlabelled w) q x)
   ends_scheduled q (no n) = ends_refused w s n
-  ends_scheduled q (times ps) = ends_either w _ _ _ _ _ (ends_accepted w _) (ends_refused w s 39)
+  ends_scheduled q (times ps) = ends_either w _ _ _ _ _ (ends_accepted w _) (ends_refused w s ask.PendingRoom)
 
   module _ (n : ℕ) (f : Function) (v : List ℤ) where
     ends : Ends w (finished s n f v w) (finished s n f v (unlabelled w))
     unfolding finished
     ends =
-        ends_either w _ _ _ _ _
-        (ends_either w _ _ _ _ _ (ends_scheduled f.last (schedule (memory_in v s.clock w) s.clock n 0 f.events)) (ends_refused w s 37))
-        (ends_refused w s w.refusal)
+        ends_unless w s w.refusal _ _
+        (ends_either w _ _ _ _ _ (ends_scheduled f.last (schedule (memory_in v s.clock w) s.clock n 0 f.events)) (ends_refused w s ask.ParametersEmpty))
 
 -- the body has run and gave x; r answers for the work without its labels
 module _ (s : State) (n : ℕ) (f : Function) (v : List ℤ) (w x : Work) (q : w ≡ x) (r : Reply) (g : r ≡ reply_of (finished s n f v (unlabelled w))) where

@@ -10,14 +10,13 @@ use lib.ListN.{length, take, length-append}
 use lib.Seq.{sets}
 use borrow.Author.Tests.{lt-ltb, le-ltb, le-leb, lt-leb, leb-true, leb-false}
 use Rattle.laws.specs.Choice.{pick}
-use Rattle.laws.proofs.Choice.{pick_true, pick_false, by_cases, true_false}
+use Rattle.laws.proofs.Choice.{pick_true, pick_false, by_cases}
 use Rattle.tokens.specs.Tokens.{between}
 use Rattle.contract.specs.Tree.{Contract}
 use Rattle.contract.specs.Decode.{contract_of}
 use Rattle.contract.specs.Check.{passes}
 use Rattle.state.specs.declared.State.{State}
-use Rattle.state.specs.declared.Due.{Due}
-use Rattle.state.specs.declared.Due.TheVariants as due
+use Rattle.std.specs.Prelude.{Option, Some, None}
 use Rattle.state.specs.States.{state_ok, due_in}
 use Rattle.statements.specs.declared.Label.{Label}
 use Rattle.statements.specs.Running.{labels_from}
@@ -33,35 +32,35 @@ use Rattle.machine.specs.Sessions.{Said, said, heard, end_of_line, Turn, takes, 
 use Rattle.machine.specs.Private.{first_no, reply_of, taken_by, taken, TurnIs, stepped, waits, PlayedIs}
 use Rattle.step_reports.specs.Reports.{report_of, label_reports, told as lines_told, room_in, has_room, step_reports}
 use Rattle.step_reports.proofs.Reports.{Told, told_none, told_more, numbers_kept, integers_kept, sent_length, words_told}
-use Rattle.machine.proofs.Gates.{stops, goes}
+use Rattle.questions.specs.declared.Question.{Question}
+use Rattle.machine.proofs.Gates.{first_of, stops, goes}
 use Rattle.machine.proofs.Pendings.{Slotted, slotted_fired, slotted_taken, labels_fired, labels_taken, blank_fired, blank_taken}
 
 -- ---- how a turn comes out
 
 module _ (c : Contract) (bytes : List ℕ) (s : State) (at : ℕ) (labels : List Label) (came : Reply) where
-  pub turn_fired : (k : ℕ) → due_in c s ≡ due.At k → came ≡ reply_of (fired c s) → labels ≡ (fired c s).labels → TurnIs c s (record { more = true; at = at; came = came }) labels (turn_at c bytes s at)
+  pub turn_fired : (k : ℕ) → due_in c s ≡ Some k → came ≡ reply_of (fired c s) → labels ≡ (fired c s).labels → TurnIs c s labels (Some (record { at = at; came = came })) (turn_at c bytes s at)
   unfolding turn_at
   turn_fired k e a b =
-      subst (TurnIs c s (record { more = true; at = at; came = came }) labels) (sym (ap (turn_by_due bytes at) e)) (stepped refl refl a b)
+      subst (TurnIs c s labels (Some (record { at = at; came = came }))) (sym (ap (turn_by_due bytes at) e)) (stepped refl a b)
 
-  module _ (end : ℕ) (e : due_in c s ≡ due.Nothing) (f : end ≡ end_of_line bytes at) where
-    pub turn_taken : (line : List ℕ) → line ≡ between bytes at end → end < length bytes → came ≡ reply_of (taken c s line) → labels ≡ (taken c s line).labels → TurnIs c s (record { more = true; at = end + 1; came = came }) labels (turn_at c bytes s at)
+  module _ (end : ℕ) (e : due_in c s ≡ None) (f : end ≡ end_of_line bytes at) where
+    pub turn_taken : (line : List ℕ) → line ≡ between bytes at end → end < length bytes → came ≡ reply_of (taken c s line) → labels ≡ (taken c s line).labels → TurnIs c s labels (Some (record { at = end + 1; came = came })) (turn_at c bytes s at)
     unfolding turn_at taken_by
     turn_taken line g h a b =
         let w : line ≡ between bytes at (end_of_line bytes at) = g ∙ ap (between bytes at) f in
         let n : end + 1 ≡ suc (end_of_line bytes at) = omega arith in
         let l : end_of_line bytes at < length bytes = omega arith in
-        subst (TurnIs c s (record { more = true; at = end + 1; came = came }) labels)
+        subst (TurnIs c s labels (Some (record { at = end + 1; came = came })))
         (sym (ap (turn_by_due bytes at) e ∙ pick_true _ _ _ (lt-ltb _ _ l)))
-        (stepped refl n (a ∙ ap (λ (x : List ℕ). reply_of (taken c s x)) w) (b ∙ ap (λ (x : List ℕ). (taken c s x).labels) w))
+        (stepped n (a ∙ ap (λ (x : List ℕ). reply_of (taken c s x)) w) (b ∙ ap (λ (x : List ℕ). (taken c s x).labels) w))
 
-    pub turn_waits : (next : ℕ) → length bytes ≤ end → TurnIs c s (record { more = false; at = next; came = came }) labels (turn_at c bytes s at)
-    unfolding turn_at
-    turn_waits next h =
-        let l : length bytes ≤ end_of_line bytes at = omega arith in
-        subst (TurnIs c s (record { more = false; at = next; came = came }) labels)
-        (sym (ap (turn_by_due bytes at) e ∙ pick_false _ _ _ (le-ltb _ _ l)))
-        (waits refl)
+pub turn_waits : (c : Contract) (bytes : List ℕ) (s : State) (at : ℕ) (labels : List Label) (end : ℕ) → due_in c s ≡ None → end ≡ end_of_line bytes at
+    → length bytes ≤ end → TurnIs c s labels None (turn_at c bytes s at)
+unfolding turn_at
+turn_waits c bytes s at labels end e f h =
+    let l : length bytes ≤ end_of_line bytes at = omega arith in
+    subst (TurnIs c s labels None) (sym (ap (turn_by_due bytes at) e ∙ pick_false _ _ _ (le-ltb _ _ l))) waits
 
 -- ---- turns
 
@@ -76,9 +75,9 @@ module _ (c : Contract) (s : State) where
     unfolding taken_by
     line_kept line next = (labels_taken c s line, slotted_taken c s line h, blank_taken c s line)
 
-    kept_by : (d : Due) → Kept (turn_by_due bytes at d)
-    kept_by (due.At k) = (labels_fired c s, slotted_fired c s h, blank_fired c s)
-    kept_by due.Nothing = by_cases Kept _ _ _ (λ _. line_kept (between bytes at (end_of_line bytes at)) (suc (end_of_line bytes at))) (λ _. tt)
+    kept_by : (d : Option ℕ) → Kept (turn_by_due bytes at d)
+    kept_by (Some k) = (labels_fired c s, slotted_fired c s h, blank_fired c s)
+    kept_by None = by_cases Kept _ _ _ (λ _. line_kept (between bytes at (end_of_line bytes at)) (suc (end_of_line bytes at))) (λ _. tt)
 
     kept : Kept (turn_at c bytes s at)
     unfolding turn_at
@@ -91,13 +90,15 @@ module _ (c : Contract) (s : State) where
     pub came : r.came ≡ reply_of (heard c s taken_up)
     pub labelled : labels ≡ (heard c s taken_up).labels
 
-  made : {r : Next} {labels : List Label} {turn : Turn} → TurnIs c s r labels turn → r.more ≡ true → Made r labels turn
-  made (stepped {x} {at} a b d e) h = record { taken_up = x; turned = ap (takes x) (sym b); came = d; labelled = e }
-  made (waits a) h = true_false (sym h ∙ a)
+  made : {r : Option Next} {labels : List Label} {turn : Turn} (m : Next) → TurnIs c s labels r turn → r ≡ Some m → Made m labels turn
+  made m (stepped {r} {x} {at} b d e) h =
+      let same : r ≡ m = cc in
+      record { taken_up = x; turned = ap (takes x) (sym b ∙ ap (λ (z : Next). z.at) same); came = sym (ap (λ (z : Next). z.came) same) ∙ d; labelled = e }
+  made m waits h = let z : ◌≡◌ {A = ℕ} 0 1 = cc in absurd (omega arith)
 
-  waited : {r : Next} {labels : List Label} {turn : Turn} → TurnIs c s r labels turn → r.more ≡ false → turn ≡ wait
-  waited (stepped a b d e) h = true_false (sym a ∙ h)
-  waited (waits a) h = refl
+  waited : {r : Option Next} {labels : List Label} {turn : Turn} → TurnIs c s labels r turn → r ≡ None → turn ≡ wait
+  waited (stepped b d e) h = let z : ◌≡◌ {A = ℕ} 0 1 = cc in absurd (omega arith)
+  waited waits h = refl
 
 -- ---- a session from its turns
 
@@ -156,7 +157,7 @@ module _ {c : Contract} {bytes : List ℕ} {room : ℕ} {numbers : List ℕ} {in
       }
 
   module _ {e : Session} {told : List ℕ} {values : List ℤ} {s : State} {at n : ℕ} (g : Going c bytes room e numbers integers told values s at n) where
-    ended : e ≡ before g.so (here s at) → PlayedIs e (record { question = 0; state = s; used = at; many = n }) numbers integers told values
+    ended : e ≡ before g.so (here s at) → PlayedIs e (record { question = None; state = s; used = at; many = n }) numbers integers told values
     ended f =
         let so : e.reports ≡ g.so = ap (λ (x : Session). x.reports) f ∙ append-nil g.so in
         record {
@@ -168,17 +169,17 @@ module _ {c : Contract} {bytes : List ℕ} {room : ℕ} {numbers : List ℕ} {in
           integers_after = g.written.integers_after ∙ ap (λ l. sets integers 0 (integers_of l)) (sym so);
         }
 
-    pub ended_full : room - n < 65 → PlayedIs e (record { question = 0; state = s; used = at; many = n }) numbers integers told values
+    pub ended_full : room - n < 65 → PlayedIs e (record { question = None; state = s; used = at; many = n }) numbers integers told values
     ended_full h = ended (g.same ∙ ap (before g.so) (session_full (heard c) c bytes (room - n) s at g.turns h))
 
-    pub ended_wait : (r : Next) (labels : List Label) → TurnIs c s r labels (turn_at c bytes s at) → r.more ≡ false → PlayedIs e (record { question = 0; state = s; used = at; many = n }) numbers integers told values
+    pub ended_wait : (r : Option Next) (labels : List Label) → TurnIs c s labels r (turn_at c bytes s at) → r ≡ None → PlayedIs e (record { question = None; state = s; used = at; many = n }) numbers integers told values
     ended_wait r labels t h =
         ended (g.same ∙ ap (before g.so) (session_wait (heard c) c bytes (room - n) s at g.turns (waited c s t h)))
 
     -- a turn that sent no label left none
-    pub left_blank : (r : Next) (labels : List Label) → TurnIs c s r labels (turn_at c bytes s at) → r.more ≡ true → r.came.count ≡ 0 → labels ≡ no_labels
-    left_blank r labels turn h z =
-        let w = made c s turn h in
+    pub left_blank : (o : Option Next) (r : Next) (labels : List Label) → TurnIs c s labels o (turn_at c bytes s at) → o ≡ Some r → r.came.count ≡ 0 → labels ≡ no_labels
+    left_blank o r labels turn h z =
+        let w = made c s r turn h in
         let k = subst (Kept c s) w.turned (kept c s bytes at g.slotted) in
         w.labelled ∙ k.2 (sym (ap (λ (x : Reply). x.count) w.came) ∙ z)
 
@@ -193,15 +194,15 @@ module _ {c : Contract} {bytes : List ℕ} {room : ℕ} {numbers : List ℕ} {in
       pub goes_up : (k m : ℕ) → m ≡ pick (has_room told values n) (n + 1 + k) n → room - m < room - n
       goes_up k m e = let d : m ≡ n + 1 + k = e ∙ pick_true _ _ _ fit in omega arith
 
-      pub going_on : (r : Next) (ws : List ℤ) → TurnIs c s r (labels_from ws) (turn_at c bytes s at) → r.more ≡ true
+      pub going_on : (p : Option Next) (r : Next) (ws : List ℤ) → TurnIs c s (labels_from ws) p (turn_at c bytes s at) → p ≡ Some r
           → {m : ℕ} {more : List ℕ} {others : List ℤ}
           → m ≡ pick (has_room told values n) (n + 1 + min r.came.count 64) n
           → more ≡ pick (has_room told values n) (sets told (4 * n) (coded_all (replies_of r.came ws))) told
           → others ≡ pick (has_room told values n) (sets values n (integers_of (replies_of r.came ws))) values
           → Going c bytes room e numbers integers more others r.came.state r.at m
       unfolding lines_told
-      going_on r ws turn h {m} {more} {others} up a b =
-          let w = made c s turn h in
+      going_on p r ws turn h {m} {more} {others} up a b =
+          let w = made c s r turn h in
           let t : Stepped = heard c s w.taken_up in
           let k = subst (Kept c s) w.turned (kept c s bytes at g.slotted) in
           let l : length (labels_from ws) ≡ 64 = ap length w.labelled ∙ k.0 in
@@ -246,29 +247,29 @@ module _ (w : List ℕ) (s : State) (bytes : List ℕ) (room : ℕ) where
   room_test true e = let h = leb-true 65 room e in le-leb 64 (room - 1) (omega arith)
   room_test false e = let h = leb-false 65 room e in lt-leb 64 (room - 1) (omega arith)
 
-  module _ (m : ℕ) (l : m ≡ room - 1) (n : ℕ) (e : n ≡ first_no w m s) where
-    first : n ≡ pick (passes w) (pick (state_ok (contract_of w) s) (pick (leb 65 room) 0 20) 4) 3
+  module _ (m : ℕ) (l : m ≡ room - 1) (n : Option Question) (e : n ≡ first_no w m s) where
+    first : n ≡ first_of (passes w) (state_ok (contract_of w) s) (leb 65 room)
     unfolding first_no
-    first = e ∙ ap (λ (b : Bool). pick (passes w) (pick (state_ok (contract_of w) s) (pick b 0 20) 4) 3) (ap (leb 64) l ∙ room_test (leb 65 room) refl)
+    first = e ∙ ap (first_of (passes w) (state_ok (contract_of w) s)) (ap (leb 64) l ∙ room_test (leb 65 room) refl)
 
-    pub play_stopped : (n ≡ 0 → ⊥) → (numbers : List ℕ) (integers : List ℤ) → Plays (not_played s n) numbers integers numbers integers
+    pub play_stopped : (p : Question) → n ≡ Some p → (numbers : List ℕ) (integers : List ℤ) → Plays (not_played s p) numbers integers numbers integers
     unfolding played reports_of coded_all integers_of
-    play_stopped z numbers integers =
+    play_stopped r z numbers integers =
         let a = passes w in
         let b = state_ok (contract_of w) s in
         let d = leb 65 room in
-        let none : ℕ → List Report = λ _. [] in
-        let p = stops (not_played s) _ a b d n first z in
-        let q = stops none (session (contract_of w) bytes room s).reports a b d n first z in
+        let none : Question → List Report = λ _. [] in
+        let p = stops (not_played s) _ a b d r (sym z ∙ first) in
+        let q = stops none (session (contract_of w) bytes room s).reports a b d r (sym z ∙ first) in
         (p, (ap (λ (l : List Report). sets numbers 0 (coded_all l)) q, ap (λ (l : List Report). sets integers 0 (integers_of l)) q))
 
-    pub play_went : n ≡ 0 → (r : Played) (numbers told : List ℕ) (integers values : List ℤ) → PlayedIs (session (contract_of w) bytes room s) r numbers integers told values → Plays r numbers integers told values
+    pub play_went : n ≡ None → (r : Played) (numbers told : List ℕ) (integers values : List ℤ) → PlayedIs (session (contract_of w) bytes room s) r numbers integers told values → Plays r numbers integers told values
     unfolding played reports_of
     play_went z r numbers told integers values k =
         let a = passes w in
         let b = state_ok (contract_of w) s in
         let d = leb 65 room in
-        let none : ℕ → List Report = λ _. [] in
+        let none : Question → List Report = λ _. [] in
         let p = (goes (not_played s) _ a b d (sym first ∙ z)).2 in
         let q = (goes none (session (contract_of w) bytes room s).reports a b d (sym first ∙ z)).2 in (
           (λ i. record { question = k.question i; state = k.state i; used = k.used i; many = k.many i }) ∙ p,

@@ -11,8 +11,6 @@ use lib.IntN.{ℤ, pos, nat_abs}
 use lib.Signed.{le_z}
 use Rattle.laws.proofs.Choice.{pick_true, pick_false}
 use Rattle.numbers.specs.declared.Value.TheVariants.{Integer, Text}
-use Rattle.numbers.specs.declared.Answer.{Answer}
-use Rattle.numbers.specs.declared.Answer.TheVariants as answer
 use Rattle.contract.specs.Tree.{Event}
 use Rattle.evaluation.specs.Memory.{Memory}
 use Rattle.evaluation.specs.Meaning.{value_of}
@@ -21,7 +19,11 @@ use Rattle.state.specs.declared.Pending.{Pending}
 use Rattle.state.specs.States.{no_event, joined_by}
 use Rattle.statements.specs.declared.Work.{Work}
 use Rattle.outcomes.specs.Outcomes.{refused}
+use Rattle.questions.specs.declared.Question.{Question}
+use Rattle.questions.specs.declared.Question.TheVariants as ask
 use Rattle.machine.specs.Steps.{Scheduled, times, no, scheduled, schedule, with_scheduled}
+use Rattle.numbers.specs.Numbers.{Answer}
+use Rattle.std.specs.Prelude.{Ok, Err}
 
 -- ---- the state that events join
 unfoldable pub joined_all : State → List Pending → State
@@ -73,27 +75,27 @@ module _ (m : Memory) (t n : ℕ) (s : State) (es : List Event) where
           ∙ ap (λ (l : List Event). after k.ps (schedule m t n j l)) (drop-cons es j no_event h)
           ∙ (λ i. after k.ps (scheduled t n j ((ap (λ (x : Event). value_of m x.guard) f ∙ sym g) i) (schedule m t n (suc j) (drop (suc j) es))))
 
-      pub guard_refused : (q : ℕ) → v ≡ answer.Refused q → schedule m t n 0 es ≡ no q
+      pub guard_refused : (q : Question) → v ≡ Err q → schedule m t n 0 es ≡ no q
       unfolding after
       guard_refused q r = here ∙ ap (λ (x : Answer). after k.ps (scheduled t n j x later)) r
 
-      pub guard_text : (x : ℕ) → v ≡ answer.Is (Text x) → schedule m t n 0 es ≡ no 31
+      pub guard_text : (x : ℕ) → v ≡ Ok (Text x) → schedule m t n 0 es ≡ no ask.OperandKind
       unfolding after
       guard_text x r = here ∙ ap (λ (y : Answer). after k.ps (scheduled t n j y later)) r
 
-      module _ (z : ℤ) (r : v ≡ answer.Is (Integer z)) where
-        with_time : schedule m t n 0 es ≡ after k.ps (scheduled t n j (answer.Is (Integer z)) later)
+      module _ (z : ℤ) (r : v ≡ Ok (Integer z)) where
+        with_time : schedule m t n 0 es ≡ after k.ps (scheduled t n j (Ok (Integer z)) later)
         with_time = here ∙ ap (λ (y : Answer). after k.ps (scheduled t n j y later)) r
 
         abbrev event : Pending
         event = record { function = n; event = j; time = nat_abs z }
 
-        joins : le_z (pos t) z ≡ true → (l : Scheduled) → after k.ps (scheduled t n j (answer.Is (Integer z)) l) ≡ after (k.ps ++ (event ∷ [])) l
+        joins : le_z (pos t) z ≡ true → (l : Scheduled) → after k.ps (scheduled t n j (Ok (Integer z)) l) ≡ after (k.ps ++ (event ∷ [])) l
         unfolding after
         joins e (no q) = refl
         joins e (times qs) = ap (λ (x : List Pending). times (k.ps ++ x)) (pick_true _ _ _ e) ∙ ap times (sym (append_snoc k.ps event qs))
 
-        drops : le_z (pos t) z ≡ false → (l : Scheduled) → after k.ps (scheduled t n j (answer.Is (Integer z)) l) ≡ after k.ps l
+        drops : le_z (pos t) z ≡ false → (l : Scheduled) → after k.ps (scheduled t n j (Ok (Integer z)) l) ≡ after k.ps l
         unfolding after
         drops e (no q) = refl
         drops e (times qs) = ap (λ (x : List Pending). times (k.ps ++ x)) (pick_false _ _ _ e)
@@ -129,5 +131,5 @@ module _ (m : Memory) (t n : ℕ) (s : State) (es : List Event) where
 
 -- ---- the call's end
 module _ (s : State) (w : Work) (q : ℕ) where
-  pub ends_no : (x : Scheduled) (n : ℕ) → x ≡ no n → refused s n ≡ with_scheduled s w q x
+  pub ends_no : (x : Scheduled) (n : Question) → x ≡ no n → refused s n ≡ with_scheduled s w q x
   ends_no x n e = sym (ap (with_scheduled s w q) e)

@@ -20,8 +20,7 @@ use Rattle.tokens.specs.Classes.{run}
 use Rattle.tokens.specs.Tokens.{between}
 use Rattle.tokens.proofs.Laws.{run_go, run_stop}
 use Rattle.state.specs.declared.State.{State}
-use Rattle.state.specs.declared.Due.{Due}
-use Rattle.state.specs.declared.Due.TheVariants as due
+use Rattle.std.specs.Prelude.{Option, Some, None}
 use Rattle.state.specs.States.{due_in}
 use Rattle.lines.specs.Lines.{Field, Asked, set, ok}
 use Rattle.lines.specs.Lines as lines
@@ -39,6 +38,8 @@ use Rattle.machine.specs.Steps.{tick_by_due, ticked, jump_by_due, jumped}
 use Rattle.agreements.specs.Agreement.{Part, words_in, parts_in, agreed_on}
 use Rattle.machine.specs.Private.{reply_of, called_by, taken_by}
 use Rattle.machine.specs.Sessions.{name_in, verb_in, names_in, parts_said, end_of_line}
+use Rattle.questions.specs.declared.Question.{Question}
+use Rattle.questions.specs.declared.Question.TheVariants as ask
 
 -- ---- the lengths of the arrays in structs that are lent by value
 
@@ -114,39 +115,39 @@ pub record Silent (t : Stepped) : Type 0 where
   pub labels : t.labels ≡ no_labels
   pub count : t.count ≡ 0
 
-silent_refused : (s : State) (n : ℕ) → Silent (refused s n)
+silent_refused : (s : State) (q : Question) → Silent (refused s q)
 silent_refused s n = record { labels = refl; count = refl }
 
 silent_ticked : (c : Contract) (s : State) → Silent (ticked c s)
 unfolding ticked
-silent_ticked c s = by_cases Silent _ _ _ (λ _. go (due_in c s)) (λ _. silent_refused s 22)
+silent_ticked c s = by_cases Silent _ _ _ (λ _. go (due_in c s)) (λ _. silent_refused s ask.Agreed)
   where
-    go : (d : Due) → Silent (tick_by_due s d)
-    go (due.At k) = silent_refused s 25
-    go due.Nothing = by_cases Silent _ _ _ (λ _. record { labels = refl; count = refl }) (λ _. silent_refused s 40)
+    go : (d : Option ℕ) → Silent (tick_by_due s d)
+    go (Some k) = silent_refused s ask.NothingDue
+    go None = by_cases Silent _ _ _ (λ _. record { labels = refl; count = refl }) (λ _. silent_refused s ask.ClockBelowTop)
 
 silent_jumped : (c : Contract) (s : State) (T : ℤ) → Silent (jumped c s T)
 unfolding jumped
-silent_jumped c s T = by_cases Silent _ _ _ (λ _. go (due_in c s)) (λ _. silent_refused s 22)
+silent_jumped c s T = by_cases Silent _ _ _ (λ _. go (due_in c s)) (λ _. silent_refused s ask.Agreed)
   where
-    go : (d : Due) → Silent (jump_by_due c s T d)
-    go (due.At k) = silent_refused s 25
-    go due.Nothing = by_cases Silent _ _ _ (λ _. record { labels = refl; count = refl }) (λ _. silent_refused s 62)
+    go : (d : Option ℕ) → Silent (jump_by_due c s T d)
+    go (Some k) = silent_refused s ask.NothingDue
+    go None = by_cases Silent _ _ _ (λ _. record { labels = refl; count = refl }) (λ _. silent_refused s ask.TimeNotPast)
 
 silent_agreed : (c : Contract) (s : State) (ps : List Part) → Silent (agreed_on c s ps)
 unfolding agreed_on
 silent_agreed c s ps =
-    by_cases Silent _ _ _ (λ _. silent_refused s 21) λ _.
+    by_cases Silent _ _ _ (λ _. silent_refused s ask.NotAgreed) λ _.
     by_cases Silent _ _ _
-    (λ _. by_cases Silent _ _ _ (λ _. record { labels = refl; count = refl }) (λ _. silent_refused s 24))
-    (λ _. silent_refused s 23)
+    (λ _. by_cases Silent _ _ _ (λ _. record { labels = refl; count = refl }) (λ _. silent_refused s ask.SameValues))
+    (λ _. silent_refused s ask.SameClauses)
 
 -- its outcome and its state are all that it answers
 silent_came : (t : Stepped) → Silent t → reply_of (answered t.outcome t.state) ≡ reply_of t
 silent_came t h = ap (λ (n : ℕ). record { outcome = t.outcome; state = t.state; count = n }) (sym h.count)
 
 module _ (c : Contract) (s : State) (line : List ℕ) where
-  pub does_refused : {q : ℕ} (a : Asked) → (line_of a).request ≡ request.Refused q → refused s q ≡ taken_by c s line a
+  pub does_refused : {q : Question} (a : Asked) → (line_of a).request ≡ request.Refused q → refused s q ≡ taken_by c s line a
   unfolding taken_by
   does_refused {q} a e = ap (taken_by c s line) (sym (told_refused a e))
 
@@ -159,7 +160,7 @@ module _ (c : Contract) (s : State) (line : List ℕ) where
   does_jump a e = ap (taken_by c s line) (sym (told_jump a e))
 
   -- lines that send nothing
-  pub silent_refusal : {q : ℕ} (a : Asked) → (line_of a).request ≡ request.Refused q → Silent (taken_by c s line a)
+  pub silent_refusal : {q : Question} (a : Asked) → (line_of a).request ≡ request.Refused q → Silent (taken_by c s line a)
   silent_refusal {q} a e = subst Silent (does_refused a e) (silent_refused s q)
 
   pub silent_tick : (a : Asked) → (line_of a).request ≡ request.Tick → Silent (taken_by c s line a)
@@ -177,7 +178,7 @@ module _ (c : Contract) (s : State) (line : List ℕ) where
   pub agreement_came : (a : Asked) (t : Stepped) → (line_of a).request ≡ request.Agreement → t ≡ taken_by c s line a → reply_of (answered t.outcome t.state) ≡ reply_of (taken_by c s line a)
   agreement_came a t f e = silent_came t (subst Silent (sym e) (silent_agreement a f)) ∙ ap reply_of e
 
-  pub agreed_before : (a : Asked) → (line_of a).request ≡ request.Agreement → s.agreed ≡ true → reply_of (refused s 21) ≡ reply_of (taken_by c s line a)
+  pub agreed_before : (a : Asked) → (line_of a).request ≡ request.Agreement → s.agreed ≡ true → reply_of (refused s ask.NotAgreed) ≡ reply_of (taken_by c s line a)
   unfolding taken_by agreed_on
   agreed_before a f e =
       let k = told_agreement a f in

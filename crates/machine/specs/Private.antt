@@ -1,17 +1,13 @@
 -- What the parts of the code work out.
-use Rattle.std.specs.Prelude.{ℕ, ◌<◌, Bool, true, false, ◌≡◌, List, [], length, eqb, leb, ℤ}
+use Rattle.std.specs.Prelude.{ℕ, ◌<◌, Bool, true, false, ◌≡◌, List, [], length, leb, ℤ, Option, Some, None}
 use Rattle.std.proofs.lemmas.List.Edits.{sets}
 use Rattle.laws.specs.Choice.{pick}
-use Rattle.numbers.specs.declared.Truth.{Truth}
-use Rattle.numbers.specs.declared.Truth.TheVariants.{Holds, Refused}
 use Rattle.contract.specs.Tree.{Block, Function, Event, Contract}
 use Rattle.contract.specs.Table.{word_at}
 use Rattle.contract.specs.Decode.{block_between, function_at, contract_of}
 use Rattle.contract.specs.Check.{passes}
 use Rattle.lines.specs.Lines.{Asked, asked}
 use Rattle.state.specs.declared.State.{State}
-use Rattle.state.specs.declared.Due.{Due}
-use Rattle.state.specs.declared.Due.TheVariants as due
 use Rattle.state.specs.States.{fresh_at, with_state, state_ok}
 use Rattle.statements.specs.declared.Label.{Label}
 use Rattle.statements.specs.declared.Work.{Work}
@@ -19,9 +15,7 @@ use Rattle.statements.specs.Running.{memory_in, ran}
 use Rattle.outcomes.specs.declared.Rule.TheVariants.{EventMatch}
 use Rattle.outcomes.specs.Outcomes.{answered}
 use Rattle.holdings.specs.Holdings.{reached}
-use Rattle.machine.specs.Steps.{accepted, begun, schedule, with_scheduled, room_needed}
-use Rattle.machine.specs.declared.Found.{Found}
-use Rattle.machine.specs.declared.Found.TheVariants.{At, Nothing}
+use Rattle.machine.specs.Steps.{accepted, begun, unless_refused, schedule, with_scheduled, room_needed}
 use Rattle.machine.specs.declared.Handler.{Handler}
 use Rattle.outcomes.specs.declared.Outcome.{Outcome}
 use Rattle.outcomes.specs.declared.Outcome.TheVariants.{Accepted, Failed}
@@ -30,13 +24,18 @@ use Rattle.outcomes.specs.declared.Stepped.{Stepped}
 use Rattle.machine.specs.declared.Reply.{Reply}
 use Rattle.machine.specs.declared.Next.{Next}
 use Rattle.machine.specs.Steps.{Invocation, Chosen, chosen, unknown, choose, called}
+use Rattle.questions.specs.declared.Question.{Question}
+use Rattle.questions.specs.declared.Question.TheVariants as ask
 use Rattle.results.specs.Coded.{coded_all, integers_of}
 use Rattle.machine.specs.declared.Played.{Played}
 use Rattle.machine.specs.Sessions.{Said, said_by, heard, Turn, takes, wait, Session}
 
--- the first question that every step asks and that is answered by no, and 0 where none is
-unfoldable pub first_no : List ℕ → ℕ → State → ℕ
-first_no w room s = pick (passes w) (pick (state_ok (contract_of w) s) (pick (leb (room_needed (contract_of w)) room) 0 20) 4) 3
+-- the first question that every step asks and that is answered by no
+unfoldable pub first_no : List ℕ → ℕ → State → Option Question
+first_no w room s =
+    pick (passes w)
+    (pick (state_ok (contract_of w) s) (pick (leb (room_needed (contract_of w)) room) None (Some ask.LabelRoom)) (Some ask.StateRanges))
+    (Some ask.TableCheck)
 
 -- a step's answer without its labels
 abbrev pub reply_of : Stepped → Reply
@@ -51,15 +50,9 @@ is_accepted (Accepted r) = true
 is_accepted (Failed n) = false
 is_accepted (outcome.Refused n) = false
 
--- whether an event was found
-abbrev pub is_at : Due → Bool
-is_at (due.At k) = true
-is_at due.Nothing = false
-
--- the question that refuses a jump of an agreed state, by whether an event is due and whether the jump's time is before the clock; 0
--- where none does
-abbrev pub jump_no : Bool → Bool → ℕ
-jump_no due past = pick due 25 (pick past 62 0)
+-- the question that refuses a jump of an agreed state, by whether an event is due and whether the jump's time is before the clock
+abbrev pub jump_no : Bool → Bool → Option Question
+jump_no due past = pick due (Some ask.NothingDue) (pick past (Some ask.TimeNotPast) None)
 
 -- what a line does, by what it asks
 unfoldable pub taken_by : Contract → State → List ℕ → Asked → Stepped
@@ -69,23 +62,18 @@ abbrev pub taken : Contract → State → List ℕ → Stepped
 taken c s line = taken_by c s line (asked line)
 
 -- a turn's answer in state s, with its labels beside it
-pub data TurnIs (c : Contract) (s : State) (r : Next) (labels : List Label) : Turn → Type 0 where
-  stepped : {x : Said} {at : ℕ} → r.more ≡ true → r.at ≡ at → r.came ≡ reply_of (heard c s x) → labels ≡ (heard c s x).labels → TurnIs c s r labels (takes x at)
-  waits : r.more ≡ false → TurnIs c s r labels wait
+pub data TurnIs (c : Contract) (s : State) (labels : List Label) : Option Next → Turn → Type 0 where
+  stepped : {r : Next} {x : Said} {at : ℕ} → r.at ≡ at → r.came ≡ reply_of (heard c s x) → labels ≡ (heard c s x).labels → TurnIs c s labels (Some r) (takes x at)
+  waits : TurnIs c s labels None wait
 
 -- a session's answer, and its result lines as numbers
 pub record PlayedIs (e : Session) (r : Played) (numbers : List ℕ) (integers : List ℤ) (told : List ℕ) (values : List ℤ) : Type 0 where
-  pub question : r.question ≡ 0
+  pub question : r.question ≡ None
   pub state : r.state ≡ e.state
   pub used : r.used ≡ e.at
   pub many : r.many ≡ length e.reports
   pub numbers_after : told ≡ sets numbers 0 (coded_all e.reports)
   pub integers_after : values ≡ sets integers 0 (integers_of e.reports)
-
--- the number of the question that refused, and 0 of a truth
-abbrev pub truth_refusal : Truth → ℕ
-truth_refusal (Holds b) = 0
-truth_refusal (Refused n) = n
 
 -- a call of this function by this party, whatever its arguments
 abbrev pub naming : List ℕ → List ℕ → Invocation
@@ -96,18 +84,18 @@ abbrev pub arguments : List ℤ → List ℤ → Invocation
 arguments v a = record { caller = []; function = []; values = v; assets = a }
 
 -- the function of a table that was found
-abbrev pub chosen_in : List ℕ → Found → Chosen
-chosen_in w (At n) = chosen n (function_at w n)
-chosen_in w Nothing = unknown
+abbrev pub chosen_in : List ℕ → Option ℕ → Chosen
+chosen_in w (Some n) = chosen n (function_at w n)
+chosen_in w None = unknown
 
 -- a state of which only its state counts
 abbrev pub in_state : ℕ → State
 in_state q = with_state (fresh_at 0) true q
 
 -- the first function of the table's contract that is called in state q
-pub record FoundIn (w : List ℕ) (q : ℕ) (i : Invocation) (r : Found) : Type 0 where
+pub record FoundIn (w : List ℕ) (q : ℕ) (i : Invocation) (r : Option ℕ) : Type 0 where
   pub same : choose (contract_of w) (in_state q) i 0 (contract_of w).functions ≡ chosen_in w r
-  pub within : (n : ℕ) → r ≡ At n → n < word_at w 6
+  pub within : (n : ℕ) → r ≡ Some n → n < word_at w 6
 
 -- where an event's handler stands, and the state after it
 pub record HandlerOf (w : List ℕ) (e : Event) (h : Handler) : Type 0 where
@@ -120,7 +108,7 @@ ran_on s b = ran [] s.clock (begun s []) b
 
 -- a handler has run; `left` is the state without its event
 abbrev pub handled_by : State → ℕ → Work → Stepped
-handled_by left q w = pick (eqb w.refusal 0) (accepted EventMatch (reached left w q) w) (answered (outcome.Failed w.refusal) left)
+handled_by left q w = unless_refused w.refusal (λ x. answered (outcome.Failed x) left) (accepted EventMatch (reached left w q) w)
 
 -- the body has run and left nothing: the guards with the memory reached, then the call's end
 abbrev pub concluded : State → ℕ → Function → List ℤ → Work → Stepped

@@ -1,5 +1,5 @@
 -- A session: whenever an event is due it is fired, else the next whole line is taken; and the result lines of these steps.
-use Rattle.std.specs.Prelude.{ℕ, zero, suc, ◌+◌, ◌-◌, not, List, [], ◌∷◌, ◌++◌, length, drop, eqb, leb, ltb}
+use Rattle.std.specs.Prelude.{ℕ, zero, suc, ◌+◌, ◌-◌, not, List, [], ◌∷◌, ◌++◌, length, drop, eqb, leb, ltb, Option, Some, None}
 use Rattle.laws.specs.Choice.{pick}
 use Rattle.contract.specs.Tree.{Word, Verb, Contract}
 use Rattle.contract.specs.Tree as tree
@@ -8,8 +8,6 @@ use Rattle.contract.specs.Check.{passes}
 use Rattle.tokens.specs.Classes.{run}
 use Rattle.tokens.specs.Tokens.{between}
 use Rattle.state.specs.declared.State.{State}
-use Rattle.state.specs.declared.Due.{Due}
-use Rattle.state.specs.declared.Due.TheVariants as due
 use Rattle.state.specs.States.{state_ok, due_in}
 use Rattle.lines.specs.Lines.{Span, Field, Asked, asked}
 use Rattle.lines.specs.Lines as lines
@@ -21,6 +19,8 @@ use Rattle.machine.specs.declared.Played.{Played}
 use Rattle.outcomes.specs.Outcomes.{refused}
 use Rattle.machine.specs.Steps.{Invocation, Request, agreement, call, firing, tick, jump, requested}
 use Rattle.agreements.specs.Agreement.{Part}
+use Rattle.questions.specs.declared.Question.{Question}
+use Rattle.questions.specs.declared.Question.TheVariants as ask
 
 -- ---- what a line says, in the machine's terms
 
@@ -61,7 +61,7 @@ invocation_in line k =
 -- what a line says: a request, or the question that refuses the line
 pub data Said : Type 0 where
   asks : Request → Said
-  unread : ℕ → Said
+  unread : Question → Said
 
 abbrev pub said_by : List ℕ → Asked → Said
 said_by line (lines.refused q) = unread q
@@ -76,7 +76,7 @@ said line = said_by line (asked line)
 -- what comes of it; a refused line changes nothing
 abbrev pub heard : Contract → State → Said → Stepped
 heard c s (asks q) = requested s q c
-heard c s (unread n) = refused s n
+heard c s (unread q) = refused s q
 
 -- ---- turns
 
@@ -89,9 +89,9 @@ pub data Turn : Type 0 where
   takes : Said → ℕ → Turn
   wait : Turn
 
-abbrev pub turn_by_due : List ℕ → ℕ → Due → Turn
-turn_by_due bytes at (due.At k) = takes (asks firing) at
-turn_by_due bytes at due.Nothing =
+abbrev pub turn_by_due : List ℕ → ℕ → Option ℕ → Turn
+turn_by_due bytes at (Some k) = takes (asks firing) at
+turn_by_due bytes at None =
     pick (ltb (end_of_line bytes at) (length bytes))
     (takes (said (between bytes at (end_of_line bytes at))) (suc (end_of_line bytes at)))
     wait
@@ -136,8 +136,8 @@ abbrev pub session : Contract → List ℕ → ℕ → State → Session
 session c bytes room s = session_for room (heard c) c bytes room s 0
 
 -- a question refused it: nothing is done
-abbrev pub not_played : State → ℕ → Played
-not_played s q = record { question = q; state = s; used = 0; many = 0 }
+abbrev pub not_played : State → Question → Played
+not_played s q = record { question = Some q; state = s; used = 0; many = 0 }
 
 -- questions 3, 4 and 20 are asked once, before the first turn: there is room for the result lines of any step
 unfoldable pub played : List ℕ → State → List ℕ → ℕ → Played
@@ -146,10 +146,10 @@ played w s bytes room =
     (pick (state_ok (contract_of w) s)
     (pick (leb max_told room)
     (let e = session (contract_of w) bytes room s in
-    record { question = 0; state = e.state; used = e.at; many = length e.reports })
-    (not_played s 20))
-    (not_played s 4))
-    (not_played s 3)
+    record { question = None; state = e.state; used = e.at; many = length e.reports })
+    (not_played s ask.LabelRoom))
+    (not_played s ask.StateRanges))
+    (not_played s ask.TableCheck)
 
 -- the result lines of it
 unfoldable pub reports_of : List ℕ → State → List ℕ → ℕ → List Report

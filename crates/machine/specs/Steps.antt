@@ -1,14 +1,10 @@
 -- The steps of the machine on a contract and a state: call, firing, tick and jump, each with its questions in the documents' order; the
 -- requests.
-use Rattle.std.specs.Prelude.{ℕ, suc, ◌+◌, ◌-◌, Bool, true, false, ◌&&◌, List, [], ◌∷◌, ◌++◌, length, take, drop, eqb, leb, ltb, ℤ, pos, nat_abs}
+use Rattle.std.specs.Prelude.{ℕ, suc, ◌+◌, ◌-◌, Bool, true, false, ◌&&◌, List, [], ◌∷◌, ◌++◌, length, take, drop, eqb, leb, ltb, ℤ, pos, nat_abs, Option, Some, None, Ok, Err}
 use Rattle.std.specs.Int.Signed.{le_z}
 use Rattle.laws.specs.Choice.{pick}
 use Rattle.laws.specs.Bytes.{same_bytes}
 use Rattle.numbers.specs.declared.Value.TheVariants.{Integer, Text}
-use Rattle.numbers.specs.declared.Answer.{Answer}
-use Rattle.numbers.specs.declared.Answer.TheVariants as answer
-use Rattle.numbers.specs.declared.Truth.{Truth}
-use Rattle.numbers.specs.declared.Truth.TheVariants as truth
 use Rattle.contract.specs.Limits.{top, max_assets, max_parameters}
 use Rattle.contract.specs.Tree.{Word, Precondition, omitted, given, Event, Function, Contract}
 use Rattle.contract.specs.Decode.{contract_of}
@@ -18,8 +14,6 @@ use Rattle.evaluation.specs.Memory.{Memory}
 use Rattle.evaluation.specs.Meaning.{value_of, truth_of}
 use Rattle.state.specs.declared.State.{State}
 use Rattle.state.specs.declared.Pending.{Pending}
-use Rattle.state.specs.declared.Due.{Due}
-use Rattle.state.specs.declared.Due.TheVariants as due
 use Rattle.state.specs.States.{event_of, live, state_ok, due_in, pending_at, with_pending, removed, time_passed, passed_times, times_until_due, party_name, max_pending}
 use Rattle.statements.specs.declared.Work.{Work}
 use Rattle.statements.specs.Running.{max_labels, memory_in, ran}
@@ -30,6 +24,9 @@ use Rattle.outcomes.specs.declared.Stepped.{Stepped}
 use Rattle.outcomes.specs.Outcomes.{no_labels, answered, refused}
 use Rattle.holdings.specs.Holdings.{amounts, reached}
 use Rattle.agreements.specs.Agreement.{Part, agreed_on}
+use Rattle.numbers.specs.Numbers.{Answer, Truth}
+use Rattle.questions.specs.declared.Question.{Question}
+use Rattle.questions.specs.declared.Question.TheVariants as ask
 
 -- ---- answers
 
@@ -38,6 +35,11 @@ abbrev pub accepted : Rule → State → Work → Stepped
 accepted r s w = record { outcome = Accepted r; state = s; labels = w.labels; count = w.count }
 
 -- ---- statements on a state
+
+-- what comes of statements that met no refusal, and of the question that refused else
+abbrev pub unless_refused : Option Question → (Question → Stepped) → Stepped → Stepped
+unless_refused None f t = t
+unless_refused (Some q) f t = f q
 
 -- the work that statements begin with: the state's fields and assets, and the amounts of the asset parameters
 abbrev pub begun : State → List ℕ → Work
@@ -49,7 +51,7 @@ begun s parameters =
       holdings = take max_assets s.assets ++ take max_parameters (parameters ++ repeated max_parameters 0);
       labels = no_labels;
       count = 0;
-      refusal = 0;
+      refusal = None;
     }
 
 -- the state after statements have run, in state q, with these pending events
@@ -82,20 +84,20 @@ choose c s i n [] = unknown
 choose c s i n (f ∷ fs) = pick (answers_to c s i f) (chosen n f) (choose c s i (suc n) fs)
 
 unfoldable pub precondition_holds : Memory → Precondition → Truth
-precondition_holds m omitted = truth.Holds true
+precondition_holds m omitted = Ok true
 precondition_holds m (given t) = truth_of m t
 
 -- the events that guards give, in text order: event j of function n, and those after it
 pub data Scheduled : Type 0 where
   times : List Pending → Scheduled
-  no : ℕ → Scheduled
+  no : Question → Scheduled
 
 -- one more before the others; a time before the clock is dropped
 abbrev pub scheduled : ℕ → ℕ → ℕ → Answer → Scheduled → Scheduled
-scheduled t n j (answer.Refused q) rest = no q
-scheduled t n j (answer.Is (Text x)) rest = no 31
-scheduled t n j (answer.Is (Integer z)) (no q) = no q
-scheduled t n j (answer.Is (Integer z)) (times ps) =
+scheduled t n j (Err q) rest = no q
+scheduled t n j (Ok (Text x)) rest = no ask.OperandKind
+scheduled t n j (Ok (Integer z)) (no q) = no q
+scheduled t n j (Ok (Integer z)) (times ps) =
     times (pick (le_z (pos t) z) (record { function = n; event = j; time = nat_abs z } ∷ ps) ps)
 
 unfoldable pub schedule : Memory → ℕ → ℕ → ℕ → List Event → Scheduled
@@ -104,24 +106,23 @@ schedule m t n j (e ∷ es) = scheduled t n j (value_of m e.guard) (schedule m t
 
 -- 39, then the call's end
 abbrev pub with_scheduled : State → Work → ℕ → Scheduled → Stepped
-with_scheduled s w q (no n) = refused s n
+with_scheduled s w q (no x) = refused s x
 with_scheduled s w q (times ps) =
-    pick (leb (length (live s) + length ps) max_pending) (accepted Call (ended s w q (live s ++ ps)) w) (refused s 39)
+    pick (leb (length (live s) + length ps) max_pending) (accepted Call (ended s w q (live s ++ ps)) w) (refused s ask.PendingRoom)
 
 -- the body has run: its refusal, 37, then the guards with the memory reached
 unfoldable pub finished : State → ℕ → Function → List ℤ → Work → Stepped
 finished s n f v w =
-    pick (eqb w.refusal 0)
+    unless_refused w.refusal (refused s)
     (pick (every (λ a. eqb a 0) (drop max_assets w.holdings))
     (with_scheduled s w f.last (schedule (memory_in v s.clock w) s.clock n 0 f.events))
-    (refused s 37))
-    (refused s w.refusal)
+    (refused s ask.ParametersEmpty))
 
 -- 29, then the body
 abbrev pub by_precondition : State → ℕ → Function → List ℤ → Work → Truth → Stepped
-by_precondition s n f v w (truth.Refused q) = refused s q
-by_precondition s n f v w (truth.Holds false) = refused s 29
-by_precondition s n f v w (truth.Holds true) = finished s n f v (ran v s.clock w f.body)
+by_precondition s n f v w (Err q) = refused s q
+by_precondition s n f v w (Ok false) = refused s ask.Precondition
+by_precondition s n f v w (Ok true) = finished s n f v (ran v s.clock w f.body)
 
 -- 27 and 28, then the precondition
 unfoldable pub invoked : State → Invocation → ℕ → Function → Stepped
@@ -130,67 +131,65 @@ invoked s i n f =
     (pick (every (le_z (pos 0)) i.assets)
     (let w = begun s (amounts i.assets) in
     by_precondition s n f i.values w (precondition_holds (memory_in i.values s.clock w) f.precondition))
-    (refused s 28))
-    (refused s 27)
+    (refused s ask.AssetArguments))
+    (refused s ask.ArgumentCount)
 
 -- 26
 abbrev pub by_chosen : State → Invocation → Chosen → Stepped
-by_chosen s i unknown = refused s 26
+by_chosen s i unknown = refused s ask.FunctionKnown
 by_chosen s i (chosen n f) = invoked s i n f
 
 -- 25
-abbrev pub call_by_due : Contract → State → Invocation → Due → Stepped
-call_by_due c s i (due.At k) = refused s 25
-call_by_due c s i due.Nothing = by_chosen s i (choose c s i 0 c.functions)
+abbrev pub call_by_due : Contract → State → Invocation → Option ℕ → Stepped
+call_by_due c s i (Some k) = refused s ask.NothingDue
+call_by_due c s i None = by_chosen s i (choose c s i 0 c.functions)
 
 -- 22
 unfoldable pub called : Contract → State → Invocation → Stepped
-called c s i = pick s.agreed (call_by_due c s i (due_in c s)) (refused s 22)
+called c s i = pick s.agreed (call_by_due c s i (due_in c s)) (refused s ask.Agreed)
 
 -- ---- firing
 
 -- the event at place k of the pending ones leaves the list, and its handler has run: a refusal fails the firing, all else stands
 unfoldable pub handled : State → ℕ → Event → Work → Stepped
 handled s k e w =
-    pick (eqb w.refusal 0)
-    (accepted EventMatch (ended s w e.last (live (removed s k))) w)
-    (answered (Failed w.refusal) (removed s k))
+    unless_refused w.refusal (λ q. answered (Failed q) (removed s k)) (accepted EventMatch (ended s w e.last (live (removed s k))) w)
 
 -- 41
-abbrev pub fire_by_due : Contract → State → Due → Stepped
-fire_by_due c s due.Nothing = refused s 41
-fire_by_due c s (due.At k) =
+abbrev pub fire_by_due : Contract → State → Option ℕ → Stepped
+fire_by_due c s None = refused s ask.SomethingDue
+fire_by_due c s (Some k) =
     let e = event_of c (pending_at s k) in
     handled s k e (ran [] s.clock (begun s []) e.handler)
 
 -- 22
 unfoldable pub fired : Contract → State → Stepped
-fired c s = pick s.agreed (fire_by_due c s (due_in c s)) (refused s 22)
+fired c s = pick s.agreed (fire_by_due c s (due_in c s)) (refused s ask.Agreed)
 
 -- ---- tick
 
 -- 25, then 40
-abbrev pub tick_by_due : State → Due → Stepped
-tick_by_due s (due.At k) = refused s 25
-tick_by_due s due.Nothing = pick (ltb s.clock top) (answered (Accepted Tick) (time_passed s)) (refused s 40)
+abbrev pub tick_by_due : State → Option ℕ → Stepped
+tick_by_due s (Some k) = refused s ask.NothingDue
+tick_by_due s None = pick (ltb s.clock top) (answered (Accepted Tick) (time_passed s)) (refused s ask.ClockBelowTop)
 
 -- 22
 unfoldable pub ticked : Contract → State → Stepped
-ticked c s = pick s.agreed (tick_by_due s (due_in c s)) (refused s 22)
+ticked c s = pick s.agreed (tick_by_due s (due_in c s)) (refused s ask.Agreed)
 
 -- ---- jump to clock T (document 02, F-3)
 
 -- 25, then 62; then time passes until an event is due or T is reached, and nothing is asked again. 40 is not asked: T is at most top.
-abbrev pub jump_by_due : Contract → State → ℤ → Due → Stepped
-jump_by_due c s T (due.At k) = refused s 25
-jump_by_due c s T due.Nothing =
+abbrev pub jump_by_due : Contract → State → ℤ → Option ℕ → Stepped
+jump_by_due c s T (Some k) = refused s ask.NothingDue
+jump_by_due c s T None =
     pick (le_z (pos s.clock) T)
     (answered (Accepted Tick) (passed_times (times_until_due c (nat_abs T - s.clock) s) s))
-    (refused s 62)
+    (refused s ask.TimeNotPast)
 
 -- 22
 unfoldable pub jumped : Contract → State → ℤ → Stepped
-jumped c s T = pick s.agreed (jump_by_due c s T (due_in c s)) (refused s 22)
+jumped c s T = pick s.agreed (jump_by_due c s T (due_in c s)) (refused s ask.Agreed)
 
 -- ---- requests
 
@@ -219,9 +218,9 @@ abbrev pub clause_chosen : Chosen → Runs
 clause_chosen (chosen n f) = function n
 clause_chosen unknown = neither
 
-abbrev pub clause_due : State → Due → Runs
-clause_due s (due.At k) = let p = pending_at s k in event p.function p.event
-clause_due s due.Nothing = neither
+abbrev pub clause_due : State → Option ℕ → Runs
+clause_due s (Some k) = let p = pending_at s k in event p.function p.event
+clause_due s None = neither
 
 abbrev pub clause_run : Contract → State → Request → Runs
 clause_run c s (agreement ps) = neither
@@ -239,6 +238,6 @@ unfoldable pub step : List ℕ → ℕ → State → (Contract → Stepped) → 
 step w room s f =
     pick (passes w)
     (pick (state_ok (contract_of w) s)
-    (pick (leb (room_needed (contract_of w)) room) (f (contract_of w)) (refused s 20))
-    (refused s 4))
-    (refused s 3)
+    (pick (leb (room_needed (contract_of w)) room) (f (contract_of w)) (refused s ask.LabelRoom))
+    (refused s ask.StateRanges))
+    (refused s ask.TableCheck)

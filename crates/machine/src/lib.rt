@@ -1,17 +1,16 @@
 // The five steps of the machine. Each answers with the state, what came of it, and the labels sent.
 #![tactic(auto)]
 
-ghost use Rattle.std.specs.Prelude.{◌≡◌, true, [], ◌+◌, ◌-◌, ◌*◌, ◌/◌, ◌≤◌, ◌<◌, length, pos, nat_abs};
+ghost use Rattle.std.specs.Prelude.{◌≡◌, true, [], ◌+◌, ◌*◌, ◌/◌, ◌≤◌, ◌<◌, length, pos, nat_abs, None, Some};
 ghost use Rattle.std.proofs.lemmas.List.Edits.{sets};
 ghost use Rattle.std.specs.Int.Signed.{le_z};
 ghost use Rattle.contract.specs.Table.{word_at};
 ghost use Rattle.contract.specs.Rows.{event_row_of};
 ghost use Rattle.contract.specs.Decode.{block_between, precondition_at, event_at, function_at, contract_of};
 ghost use Rattle.contract.specs.Check.{passes};
-ghost use Rattle.evaluation.specs.Memory.{memory_of};
+ghost use Rattle.evaluation.specs.Memory.{lent};
 ghost use Rattle.evaluation.specs.Meaning.{value_of};
-ghost use Rattle.state.specs.States.{live, event_of, due_in};
-ghost use Rattle.state.specs.declared.Due.TheVariants as due;
+ghost use Rattle.state.specs.States.{live, event_of};
 ghost use Rattle.statements.specs.Running.{ran, labels_from, work_from};
 ghost use Rattle.outcomes.specs.Outcomes.{no_labels, answered, refused};
 ghost use Rattle.holdings.specs.Holdings.{amounts};
@@ -20,22 +19,23 @@ ghost use Rattle.results.specs.Coded.{coded_all, integers_of};
 ghost use Rattle.step_reports.specs.Reports.{room_in};
 ghost use Rattle.machine.specs.Sessions.{played, reports_of};
 ghost use Rattle.agreements.specs.Agreement.{parts_in, agreed_on};
-ghost use Rattle.machine.specs.Private.{first_no, reply_of, is_accepted, is_at, jump_no, truth_refusal, naming, in_state, arguments, FoundIn, HandlerOf, ran_on, handled_by, concluded};
+ghost use Rattle.machine.specs.Private.{first_no, reply_of, is_accepted, jump_no, naming, in_state, arguments, FoundIn, HandlerOf, ran_on, handled_by, concluded};
 
 use contract::{Contract, Event, Function};
-use evaluation::Holdings;
-use numbers::{Answer, Truth, Value};
+use evaluation::{Holdings, Memory};
+use numbers::Value;
 use outcomes::{Outcome, Rule, Stepped};
-use state::{Due, Pending, State};
-use statements::{Label, Ran};
+use questions::Question;
+use state::{Pending, State};
+use statements::Label;
 
 mod turns;
 
-// What came of a session: the question that refused it or 0, the state after it, how many bytes were taken, and how many result lines
-// there are. `many` 0 with question 0 means that nothing is due and no line is whole.
+// What came of a session: the question that refused it, the state after it, how many bytes were taken, and how many result lines
+// there are. `many` 0 and no question means that nothing is due and no line is whole.
 #[derive(Clone, Copy)]
 pub struct Played {
-    pub question: u8,
+    pub question: Option<Question>,
     pub state: State,
     pub used: usize,
     pub many: usize,
@@ -49,22 +49,15 @@ struct Reply {
     count: usize,
 }
 
-// What a turn answers: whether a step was made, where the next line starts, and the step.
+// What a turn that took something up answers: where the next line starts, and the step.
 #[derive(Clone, Copy)]
 struct Next {
-    more: bool,
     at: usize,
     came: Reply,
 }
 
-// The number of a function that was looked for.
-#[derive(Clone, Copy)]
-enum Found {
-    At(usize),
-    Nothing,
-}
-
 // Where a handler's block stands, and the state after it.
+// Kept: a rule of the project: reading the table is total, so an event that is not there reads as zeros.
 #[derive(Clone, Copy)]
 struct Handler {
     from: usize,
@@ -85,14 +78,10 @@ fn clear(labels: &mut [i64; Label::ROOM])
 fn with_labels(r: Reply, labels: &[i64; Label::ROOM]) -> Stepped
     ensures { result ≡ record { outcome = r.outcome; state = r.state; labels = labels_from labels.now; count = r.count } }
 {
-    let words = *labels;
-    let labels = outcomes::labels_of(words);
-    let outcome = r.outcome;
-    let state = r.state;
     Stepped {
-        outcome,
-        state,
-        labels,
+        outcome: r.outcome,
+        state: r.state,
+        labels: outcomes::labels_of(*labels),
         count: r.count,
     }
 }
@@ -109,20 +98,16 @@ fn without_labels(outcome: Outcome, s: State) -> Reply
 }
 
 // A refused step hands back the state it was given.
-fn turn_down(s: State, n: u8) -> Reply
-    ensures { result ≡ reply_of (refused s n) }
+fn turn_down(s: State, q: Question) -> Reply
+    ensures { result ≡ reply_of (refused s q) }
 {
-    without_labels(Outcome::Refused(n), s)
+    without_labels(Outcome::Refused(q), s)
 }
 
 fn is_accepted(outcome: Outcome) -> bool
     ensures { result ≡ is_accepted outcome }
 {
-    match outcome {
-        Outcome::Accepted(_) => true,
-        Outcome::Failed(_) => false,
-        Outcome::Refused(_) => false,
-    }
+    matches!(outcome, Outcome::Accepted(_))
 }
 
 // ---- Tick.
@@ -132,15 +117,15 @@ fn tick_on(table: &[u64], s: State) -> Reply
     ensures { result ≡ reply_of (ticked (contract_of table.now) s) }
 {
     if !s.agreed {
-        return turn_down(s, questions::AGREED);
+        return turn_down(s, Question::Agreed);
     }
     let due = state::first_due(table, s);
-    let Due::Nothing = due else {
-        return turn_down(s, questions::NOTHING_DUE);
+    let None = due else {
+        return turn_down(s, Question::NothingDue);
     };
     let clock = s.clock;
     if State::TOP <= clock {
-        return turn_down(s, questions::CLOCK_BELOW_TOP);
+        return turn_down(s, Question::ClockBelowTop);
     }
     let next = state::pass(s, clock + 1);
     without_labels(Outcome::Accepted(Rule::Tick), next)
@@ -148,29 +133,19 @@ fn tick_on(table: &[u64], s: State) -> Reply
 
 // ---- Jump.
 
-// Whether an event is due.
-fn is_due(table: &[u64], s: State) -> bool
-    ensures { result ≡ is_at (due_in (contract_of table.now) s) }
-{
-    match state::first_due(table, s) {
-        Due::At(_) => true,
-        Due::Nothing => false,
-    }
-}
-
-// The question that refuses a jump of an agreed state, and 0 where none does.
-fn jump_no(due: bool, past: bool) -> u8
+// The question that refuses a jump of an agreed state.
+fn jump_no(due: bool, past: bool) -> Option<Question>
     ensures { result ≡ jump_no due past }
 {
     let first = due;
     if first {
-        return questions::NOTHING_DUE;
+        return Some(Question::NothingDue);
     }
     let second = past;
     if second {
-        return questions::TIME_NOT_PAST;
+        return Some(Question::TimeNotPast);
     }
-    0
+    None
 }
 
 // A jump on a contract's state: its cost goes by the pending events, however far it goes.
@@ -178,11 +153,11 @@ fn jump_on(table: &[u64], s: State, to: i64) -> Reply
     ensures { result ≡ reply_of (jumped (contract_of table.now) s to) }
 {
     if !s.agreed {
-        return turn_down(s, questions::AGREED);
+        return turn_down(s, Question::Agreed);
     }
-    let no = jump_no(is_due(table, s), !not_before(s.clock, to));
-    if no != 0 {
-        return turn_down(s, no);
+    let due = state::first_due(table, s);
+    if let Some(q) = jump_no(due.is_some(), !not_before(s.clock, to)) {
+        return turn_down(s, q);
     }
     let stop = state::next_stop(table, s, numbers::magnitude(to));
     let next = state::pass(s, stop);
@@ -190,13 +165,6 @@ fn jump_on(table: &[u64], s: State, to: i64) -> Reply
 }
 
 // ---- Firing.
-
-// The difference, or 0 where it would fall below.
-fn minus(a: usize, b: usize) -> usize
-    ensures { result ≡ a - b }
-{
-    if b < a { a - b } else { 0 }
-}
 
 // Event j of those from `first` on. A row past the table's end holds zeros.
 fn event_row(table: &[u64], first: usize, j: usize) -> Event
@@ -238,7 +206,7 @@ fn handler_of(table: &[u64], p: Pending) -> Handler
     let e = event_row(table, row.event, event);
     let node = contract::node_at(table, e.node);
     Handler {
-        from: minus(e.node, node.argument as usize),
+        from: e.node.saturating_sub(node.argument as usize),
         end: e.node,
         last: e.last,
     }
@@ -275,15 +243,16 @@ fn run_handler(
         h.from,
         h.end,
     );
-    if ran.refusal != 0 {
-        clear(labels);
-        return without_labels(Outcome::Failed(ran.refusal), left);
-    }
-    let next = holdings::reach(left, &kinds, &numbers, &texts, &holdings, h.last);
-    Reply {
-        outcome: Outcome::Accepted(Rule::EventMatch),
-        state: next,
-        count: ran.count,
+    match ran {
+        Ok(count) => Reply {
+            outcome: Outcome::Accepted(Rule::EventMatch),
+            state: holdings::reach(left, &kinds, &numbers, &texts, &holdings, h.last),
+            count,
+        },
+        Err(halt) => {
+            clear(labels);
+            without_labels(Outcome::Failed(halt.question), left)
+        }
     }
 }
 
@@ -291,12 +260,10 @@ fn run_handler(
 fn handle(table: &[u64], s: State, k: usize, labels: &mut [i64; Label::ROOM]) -> Reply
     requires k_in_bounds { k < length (live s) }
     requires labels_value { labels_from labels.old ≡ no_labels }
-    ensures value { result ≡ reply_of (fire_by_due (contract_of table.now) s (due.At k)) }
-    ensures labels_after { labels_from labels.new ≡ (fire_by_due (contract_of table.now) s (due.At k)).labels }
+    ensures value { result ≡ reply_of (fire_by_due (contract_of table.now) s (Some k)) }
+    ensures labels_after { labels_from labels.new ≡ (fire_by_due (contract_of table.now) s (Some k)).labels }
 {
-    let events = s.events;
-    let p = events[k];
-    let h = handler_of(table, p);
+    let h = handler_of(table, s.events[k]);
     let left = state::remove(s, k);
     run_handler(table, s, left, h, labels)
 }
@@ -308,11 +275,11 @@ fn fire_on(table: &[u64], s: State, labels: &mut [i64; Label::ROOM]) -> Reply
     ensures labels_after { labels_from labels.new ≡ (fired (contract_of table.now) s).labels }
 {
     if !s.agreed {
-        return turn_down(s, questions::AGREED);
+        return turn_down(s, Question::Agreed);
     }
     let due = state::first_due(table, s);
-    let Due::At(k) = due else {
-        return turn_down(s, questions::SOMETHING_DUE);
+    let Some(k) = due else {
+        return turn_down(s, Question::SomethingDue);
     };
     handle(table, s, k, labels)
 }
@@ -343,20 +310,18 @@ fn answers_to(table: &[u64], i: usize, state: usize, caller: &[u8], function: &[
 }
 
 // The first function that is called.
-fn find_function(table: &[u64], state: usize, caller: &[u8], function: &[u8]) -> Found
+fn find_function(table: &[u64], state: usize, caller: &[u8], function: &[u8]) -> Option<usize>
     requires { passes table.now ≡ true }
     ensures { FoundIn table.now state (naming caller.now function.now) result }
 {
     let c = contract::head(table);
     let count = c.functions;
-    let mut i: usize = 0;
-    while i < count {
+    for i in 0..count {
         if answers_to(table, i, state, caller, function) {
-            return Found::At(i);
+            return Some(i);
         }
-        i += 1;
     }
-    Found::Nothing
+    None
 }
 
 // ---- Call: its arguments, its body, its events.
@@ -371,56 +336,29 @@ fn not_before(clock: u64, z: i64) -> bool
     clock <= numbers::magnitude(z)
 }
 
-// The number of the question that refused, and 0 of a truth.
-fn truth_refusal(t: Truth) -> u8
-    ensures { result ≡ truth_refusal t }
-{
-    match t {
-        Truth::Holds(_) => 0,
-        Truth::Refused(n) => n,
-    }
-}
-
 // The precondition in the n nodes from `first` on; an omitted one is true.
-fn precondition(
-    table: &[u64],
-    kinds: &[u8; Contract::FIELDS],
-    numbers: &[i64; Contract::FIELDS],
-    texts: &[u8; Contract::FIELDS],
-    holdings: &[u64; Holdings::MOST],
-    values: &[i64],
-    clock: u64,
-    first: usize,
-    n: usize,
-) -> Truth
+fn precondition(table: &[u64], memory: &Memory, first: usize, n: usize) -> Result<bool, Question>
     requires { first + n < 4097 }
-    ensures { result ≡ precondition_holds (memory_of kinds.now numbers.now texts.now holdings.now values.now clock) (precondition_at table.now first n) }
+    ensures { result ≡ precondition_holds (lent memory.now) (precondition_at table.now first n) }
 {
     if n == 0 {
-        return Truth::Holds(true);
+        return Ok(true);
     }
     let k = first + n - 1;
-    evaluation::truth(table, kinds, numbers, texts, holdings, values, clock, k)
+    evaluation::truth(table, memory, k)
 }
 
 // The time guard of event j of those from `first` on.
-fn guard(
-    table: &[u64],
-    kinds: &[u8; Contract::FIELDS],
-    numbers: &[i64; Contract::FIELDS],
-    texts: &[u8; Contract::FIELDS],
-    holdings: &[u64; Holdings::MOST],
-    values: &[i64],
-    clock: u64,
-    first: usize,
-    j: usize,
-) -> Answer
-    ensures { result ≡ value_of (memory_of kinds.now numbers.now texts.now holdings.now values.now clock) (event_at table.now (first + j)).guard }
+fn guard(table: &[u64], memory: &Memory, first: usize, j: usize) -> Result<Value, Question>
+    ensures { result ≡ value_of (lent memory.now) (event_at table.now (first + j)).guard }
 {
     let e = event_row(table, first, j);
     let node = contract::node_at(table, e.node);
-    let k = minus(minus(e.node, node.argument as usize), 1);
-    evaluation::value(table, kinds, numbers, texts, holdings, values, clock, k)
+    let k = e
+        .node
+        .saturating_sub(node.argument as usize)
+        .saturating_sub(1);
+    evaluation::value(table, memory, k)
 }
 
 // Event j of function n at a time.
@@ -436,47 +374,41 @@ fn pending(n: usize, j: usize, z: i64) -> Pending
 }
 
 // The events of function n are scheduled, and the call ends.
-fn conclude(
-    table: &[u64],
-    s: State,
-    kinds: &[u8; Contract::FIELDS],
-    numbers: &[i64; Contract::FIELDS],
-    texts: &[u8; Contract::FIELDS],
-    holdings: &[u64; Holdings::MOST],
-    count: usize,
-    values: &[i64],
-    n: usize,
-) -> Reply
+fn conclude(table: &[u64], s: State, memory: &Memory, count: usize, n: usize) -> Reply
     requires { (passes table.now ≡ true) × (s.pending ≤ 64) × (n < word_at table.now 6) }
-    ensures { result ≡ reply_of (concluded s n (function_at table.now n) values.now (work_from kinds.now numbers.now texts.now holdings.now [] count 0)) }
+    ensures { result ≡ reply_of (concluded s n (function_at table.now n) memory.now.values.now (work_from memory.now.kinds.now memory.now.numbers.now memory.now.texts.now memory.now.holdings.now [] count None)) }
 {
     let row = contract::function_at(table, n);
     let clock = s.clock;
+    let memory = Memory { clock, ..*memory };
     // Nothing leaves the pending events, and the slots after them become blank.
     let mut next = state::remove(s, s.pending);
     let mut joined: usize = 0;
-    let mut j: usize = 0;
-    while j < row.events {
-        let answer = guard(
-            table, kinds, numbers, texts, holdings, values, clock, row.event, j,
-        );
-        let Answer::Is(value) = answer else {
-            return turn_down(s, evaluation::refusal(answer));
+    for j in 0..row.events {
+        let answer = guard(table, &memory, row.event, j);
+        let Ok(value) = answer else {
+            return turn_down(s, answer.unwrap_err());
         };
         let Value::Integer(z) = value else {
-            return turn_down(s, questions::OPERAND_KIND);
+            return turn_down(s, Question::OperandKind);
         };
         if not_before(clock, z) {
             next = state::join(next, pending(n, j, z));
             joined += 1;
         }
-        j += 1;
     }
     let full = State::PENDING - s.pending < joined;
     if full {
-        return turn_down(s, questions::PENDING_ROOM);
+        return turn_down(s, Question::PendingRoom);
     }
-    let after = holdings::reach(next, kinds, numbers, texts, holdings, row.last);
+    let after = holdings::reach(
+        next,
+        memory.kinds,
+        memory.numbers,
+        memory.texts,
+        memory.holdings,
+        row.last,
+    );
     Reply {
         outcome: Outcome::Accepted(Rule::Call),
         state: after,
@@ -484,31 +416,16 @@ fn conclude(
     }
 }
 
-// The body has run.
-fn finish(
-    table: &[u64],
-    s: State,
-    kinds: &[u8; Contract::FIELDS],
-    numbers: &[i64; Contract::FIELDS],
-    texts: &[u8; Contract::FIELDS],
-    holdings: &[u64; Holdings::MOST],
-    ran: Ran,
-    values: &[i64],
-    n: usize,
-) -> Reply
+// The body has run, and no question refused.
+fn finish(table: &[u64], s: State, memory: &Memory, count: usize, n: usize) -> Reply
     requires { (passes table.now ≡ true) × (s.pending ≤ 64) × (n < word_at table.now 6) }
-    ensures { result ≡ reply_of (finished s n (function_at table.now n) values.now (work_from kinds.now numbers.now texts.now holdings.now [] ran.count ran.refusal)) }
+    ensures { result ≡ reply_of (finished s n (function_at table.now n) memory.now.values.now (work_from memory.now.kinds.now memory.now.numbers.now memory.now.texts.now memory.now.holdings.now [] count None)) }
 {
-    if ran.refusal != 0 {
-        return turn_down(s, ran.refusal);
+    if holdings::parameters_empty(*memory.holdings) {
+        conclude(table, s, memory, count, n)
+    } else {
+        turn_down(s, Question::ParametersEmpty)
     }
-    let held = *holdings;
-    if holdings::parameters_empty(held) {
-        return conclude(
-            table, s, kinds, numbers, texts, holdings, ran.count, values, n,
-        );
-    }
-    turn_down(s, questions::PARAMETERS_EMPTY)
 }
 
 // The body of function n runs, and the call ends.
@@ -522,8 +439,8 @@ fn perform(
 ) -> Reply
     requires table_value { (passes table.now ≡ true) × (s.pending ≤ 64) × (n < word_at table.now 6) }
     requires labels_value { labels_from labels.old ≡ no_labels }
-    ensures value { result ≡ reply_of (finished s n (function_at table.now n) values.now (ran values.now s.clock (work_from s.kinds s.numbers s.texts holdings no_labels 0 0) (function_at table.now n).body)) }
-    ensures labels_after { labels_from labels.new ≡ (finished s n (function_at table.now n) values.now (ran values.now s.clock (work_from s.kinds s.numbers s.texts holdings no_labels 0 0) (function_at table.now n).body)).labels }
+    ensures value { result ≡ reply_of (finished s n (function_at table.now n) values.now (ran values.now s.clock (work_from s.kinds s.numbers s.texts holdings no_labels 0 None) (function_at table.now n).body)) }
+    ensures labels_after { labels_from labels.new ≡ (finished s n (function_at table.now n) values.now (ran values.now s.clock (work_from s.kinds s.numbers s.texts holdings no_labels 0 None) (function_at table.now n).body)).labels }
 {
     let row = contract::function_at(table, n);
     let mut kinds = s.kinds;
@@ -544,9 +461,20 @@ fn perform(
         from,
         from + row.body,
     );
-    let r = finish(table, s, &kinds, &numbers, &texts, &held, ran, values, n);
-    let outcome = r.outcome;
-    if is_accepted(outcome) {
+    let Ok(count) = ran else {
+        clear(labels);
+        return turn_down(s, ran.unwrap_err().question);
+    };
+    let memory = Memory {
+        kinds: &kinds,
+        numbers: &numbers,
+        texts: &texts,
+        holdings: &held,
+        values,
+        clock: s.clock,
+    };
+    let r = finish(table, s, &memory, count, n);
+    if is_accepted(r.outcome) {
         return r;
     }
     clear(labels);
@@ -569,35 +497,33 @@ fn invoke(
 {
     let row = contract::function_at(table, n);
     if values.len() != row.values {
-        return turn_down(s, questions::ARGUMENT_COUNT);
+        return turn_down(s, Question::ArgumentCount);
     }
     if assets.len() != row.parameters {
-        return turn_down(s, questions::ARGUMENT_COUNT);
+        return turn_down(s, Question::ArgumentCount);
     }
     if !holdings::none_negative(assets) {
-        return turn_down(s, questions::ASSET_ARGUMENTS);
+        return turn_down(s, Question::AssetArguments);
     }
     let kinds = s.kinds;
     let numbers = s.numbers;
     let texts = s.texts;
     let held = s.assets;
     let holdings = holdings::holdings_of(held, assets);
-    let truth = precondition(
-        table,
-        &kinds,
-        &numbers,
-        &texts,
-        &holdings,
+    let memory = Memory {
+        kinds: &kinds,
+        numbers: &numbers,
+        texts: &texts,
+        holdings: &holdings,
         values,
-        s.clock,
-        row.first,
-        row.precondition,
-    );
-    let Truth::Holds(holds) = truth else {
-        return turn_down(s, truth_refusal(truth));
+        clock: s.clock,
+    };
+    let truth = precondition(table, &memory, row.first, row.precondition);
+    let Ok(holds) = truth else {
+        return turn_down(s, truth.unwrap_err());
     };
     if !holds {
-        return turn_down(s, questions::PRECONDITION);
+        return turn_down(s, Question::Precondition);
     }
     perform(table, s, holdings, values, n, labels)
 }
@@ -618,36 +544,36 @@ fn call_on(
     ensures labels_after { labels_from labels.new ≡ (called (contract_of table.now) s (record { caller = caller.now; function = function.now; values = values.now; assets = assets.now })).labels }
 {
     if !s.agreed {
-        return turn_down(s, questions::AGREED);
+        return turn_down(s, Question::Agreed);
     }
     let due = state::first_due(table, s);
-    let Due::Nothing = due else {
-        return turn_down(s, questions::NOTHING_DUE);
+    let None = due else {
+        return turn_down(s, Question::NothingDue);
     };
     let found = find_function(table, s.state, caller, function);
-    let Found::At(n) = found else {
-        return turn_down(s, questions::FUNCTION_KNOWN);
+    let Some(n) = found else {
+        return turn_down(s, Question::FunctionKnown);
     };
     invoke(table, s, values, assets, n, labels)
 }
 
 // ---- The steps.
 
-// The first question of every step that is answered by no, and 0 where none is.
-fn first_no(table: &[u64], s: State, room: usize) -> u8
+// The first question of every step that is answered by no.
+fn first_no(table: &[u64], s: State, room: usize) -> Option<Question>
     ensures { result ≡ first_no table.now room s }
 {
     if !tables::table_passes(table) {
-        return questions::TABLE_CHECK;
+        return Some(Question::TableCheck);
     }
     if !state::state_ok(table, s) {
-        return questions::STATE_RANGES;
+        return Some(Question::StateRanges);
     }
     let short = room < Label::MOST;
     if short {
-        return questions::LABEL_ROOM;
+        return Some(Question::LabelRoom);
     }
-    0
+    None
 }
 
 // Agreement: the parties' clauses, with the fields' values.
@@ -662,9 +588,8 @@ pub fn agree(
 ) -> Stepped
     ensures { result ≡ step table.now room s (λ c. agreed_on c s (parts_in line.now (length parts.now / 4) parts.now spans.now values.now)) }
 {
-    let no = first_no(table, s, room);
-    if no != 0 {
-        return outcomes::refuse(s, no);
+    if let Some(q) = first_no(table, s, room) {
+        return outcomes::refuse(s, q);
     }
     agreements::agree_on(table, s, line, parts, spans, values)
 }
@@ -681,9 +606,8 @@ pub fn call(
 ) -> Stepped
     ensures { result ≡ step table.now room s (λ c. called c s (record { caller = caller.now; function = function.now; values = values.now; assets = assets.now })) }
 {
-    let no = first_no(table, s, room);
-    if no != 0 {
-        return outcomes::refuse(s, no);
+    if let Some(q) = first_no(table, s, room) {
+        return outcomes::refuse(s, q);
     }
     let mut labels = [0i64; Label::ROOM];
     let r = call_on(table, s, caller, function, values, assets, &mut labels);
@@ -694,9 +618,8 @@ pub fn call(
 pub fn fire(table: &[u64], s: State, room: usize) -> Stepped
     ensures { result ≡ step table.now room s (λ c. fired c s) }
 {
-    let no = first_no(table, s, room);
-    if no != 0 {
-        return outcomes::refuse(s, no);
+    if let Some(q) = first_no(table, s, room) {
+        return outcomes::refuse(s, q);
     }
     let mut labels = [0i64; Label::ROOM];
     let r = fire_on(table, s, &mut labels);
@@ -707,28 +630,22 @@ pub fn fire(table: &[u64], s: State, room: usize) -> Stepped
 pub fn tick(table: &[u64], s: State, room: usize) -> Stepped
     ensures { result ≡ step table.now room s (λ c. ticked c s) }
 {
-    let no = first_no(table, s, room);
-    if no != 0 {
-        return outcomes::refuse(s, no);
+    if let Some(q) = first_no(table, s, room) {
+        return outcomes::refuse(s, q);
     }
     let r = tick_on(table, s);
-    let outcome = r.outcome;
-    let state = r.state;
-    outcomes::answer(outcome, state)
+    outcomes::answer(r.outcome, r.state)
 }
 
 // The clock rises until an event is due, and to `to` at most.
 pub fn jump(table: &[u64], s: State, room: usize, to: i64) -> Stepped
     ensures { result ≡ step table.now room s (λ c. jumped c s to) }
 {
-    let no = first_no(table, s, room);
-    if no != 0 {
-        return outcomes::refuse(s, no);
+    if let Some(q) = first_no(table, s, room) {
+        return outcomes::refuse(s, q);
     }
     let r = jump_on(table, s, to);
-    let outcome = r.outcome;
-    let state = r.state;
-    outcomes::answer(outcome, state)
+    outcomes::answer(r.outcome, r.state)
 }
 
 // Whenever an event is due it is fired, else the next whole line of these bytes is taken, while there is room for the result lines of any
@@ -746,10 +663,9 @@ pub fn play(
     ensures integers_after { integers.new ≡ sets integers.old 0 (integers_of (reports_of table.now s input.now (room_in (length numbers.old) (length integers.old)))) }
 {
     let room = turns::label_room(numbers, integers);
-    let no = first_no(table, s, room);
-    if no != 0 {
+    if let Some(q) = first_no(table, s, room) {
         return Played {
-            question: no,
+            question: Some(q),
             state: s,
             used: 0,
             many: 0,

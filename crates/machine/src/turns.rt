@@ -14,7 +14,8 @@ ghost use Rattle.machine.specs.Sessions.{end_of_line, turn_at, session};
 use crate::{Next, Played, Reply};
 use lines::{Line, Request};
 use outcomes::Stepped;
-use state::{Due, State};
+use questions::Question;
+use state::State;
 use statements::Label;
 
 // ---- A line.
@@ -84,7 +85,7 @@ fn take_agreement(table: &[u64], s: State, line: &[u8]) -> Reply
     ensures { result ≡ reply_of (taken (contract_of table.now) s line.now) }
 {
     if s.agreed {
-        return crate::turn_down(s, questions::NOT_AGREED);
+        return crate::turn_down(s, Question::NotAgreed);
     }
     let a = lines::agreement_of(line);
     let heads = a.heads;
@@ -101,9 +102,7 @@ fn take_agreement(table: &[u64], s: State, line: &[u8]) -> Reply
         &spans[..ends],
         &values[..fields],
     );
-    let outcome = t.outcome;
-    let state = t.state;
-    crate::without_labels(outcome, state)
+    crate::without_labels(t.outcome, t.state)
 }
 
 // What a line, the bytes before its LF, does.
@@ -114,9 +113,8 @@ fn take_line(table: &[u64], s: State, line: &[u8], labels: &mut [i64; Label::ROO
     ensures labels_after { labels_from labels.new ≡ (taken (contract_of table.now) s line.now).labels }
 {
     let read = lines::read(line);
-    let request = read.request;
-    match request {
-        Request::Refused(n) => crate::turn_down(s, n),
+    match read.request {
+        Request::Refused(q) => crate::turn_down(s, q),
         Request::Tick => crate::tick_on(table, s),
         Request::Jump(to) => crate::jump_on(table, s, to),
         Request::Call => take_call(table, s, line, read, labels),
@@ -130,46 +128,38 @@ fn take_line(table: &[u64], s: State, line: &[u8], labels: &mut [i64; Label::ROO
 fn line_end(input: &[u8], at: usize) -> usize
     ensures { result ≡ end_of_line input.now at }
 {
-    let mut i = at;
-    while i < input.len() {
+    for i in at..input.len() {
         if input[i] == b'\n' {
             return i;
         }
-        i += 1;
     }
-    i
+    at.max(input.len())
 }
 
 // A due event is fired; else the next line is taken.
-fn turn(table: &[u64], s: State, input: &[u8], at: usize, labels: &mut [i64; Label::ROOM]) -> Next
+fn turn(
+    table: &[u64],
+    s: State,
+    input: &[u8],
+    at: usize,
+    labels: &mut [i64; Label::ROOM],
+) -> Option<Next>
     requires table_value { (passes table.now ≡ true) × (s.pending ≤ 64) }
     requires labels_value { labels_from labels.old ≡ no_labels }
-    ensures { TurnIs (contract_of table.now) s result (labels_from labels.new) (turn_at (contract_of table.now) input.now s at) }
+    ensures { TurnIs (contract_of table.now) s (labels_from labels.new) result (turn_at (contract_of table.now) input.now s at) }
 {
     let due = state::first_due(table, s);
-    if let Due::At(_) = due {
+    if let Some(_) = due {
         let came = crate::fire_on(table, s, labels);
-        return Next {
-            more: true,
-            at,
-            came,
-        };
+        return Some(Next { at, came });
     }
     let end = line_end(input, at);
     if end < input.len() {
         let line = tokens::between(input, at, end);
         let came = take_line(table, s, line, labels);
-        return Next {
-            more: true,
-            at: end + 1,
-            came,
-        };
+        return Some(Next { at: end + 1, came });
     }
-    Next {
-        more: false,
-        at,
-        came: crate::turn_down(s, 0),
-    }
+    None
 }
 
 // ---- A session.
@@ -180,18 +170,16 @@ fn clear_sent(labels: &mut [i64; Label::ROOM], count: usize)
     ensures { labels_from labels.new ≡ no_labels }
 {
     let none = count == 0;
-    if none {
-        return;
+    if !none {
+        crate::clear(labels);
     }
-    crate::clear(labels);
 }
 
 // How many labels there is room for after what came of a step.
 pub(crate) fn label_room(numbers: &[u64], integers: &[i64]) -> usize
     ensures { result ≡ room_in (length numbers.now) (length integers.now) - 1 }
 {
-    let room = step_reports::room_in(numbers, integers);
-    if 0 < room { room - 1 } else { 0 }
+    step_reports::room_in(numbers, integers).saturating_sub(1)
 }
 
 // A session on a state within its ranges.
@@ -211,10 +199,9 @@ pub(crate) fn play_on(
     let mut at: usize = 0;
     let mut n: usize = 0;
     while Stepped::REPORTS <= room - n {
-        let t = turn(table, state, input, at, &mut labels);
-        if !t.more {
+        let Some(t) = turn(table, state, input, at, &mut labels) else {
             break;
-        }
+        };
         let r = t.came;
         let outcome = r.outcome;
         at = t.at;
@@ -232,7 +219,7 @@ pub(crate) fn play_on(
         clear_sent(&mut labels, r.count);
     }
     Played {
-        question: 0,
+        question: None,
         state,
         used: at,
         many: n,

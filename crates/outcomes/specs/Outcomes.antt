@@ -1,6 +1,7 @@
 -- What comes of a step. A refused step hands back the state that it was given.
 use Rattle.std.specs.Prelude.{ℕ, ◌+◌, ◌*◌, List, get_or, ℤ, pos, nat_abs}
 use Rattle.laws.specs.Lists.{repeated}
+use Rattle.questions.specs.declared.Question.{Question}
 use Rattle.state.specs.declared.State.{State}
 use Rattle.statements.specs.declared.Label.{Label}
 use Rattle.statements.specs.Running.{max_labels, label_words}
@@ -28,5 +29,5 @@ abbrev pub answered : Outcome → State → Stepped
 answered o s = record { outcome = o; state = s; labels = no_labels; count = 0 }
 
 -- a refused step hands back the state it was given
-abbrev pub refused : State → ℕ → Stepped
-refused s n = answered (Refused n) s
+abbrev pub refused : State → Question → Stepped
+refused s q = answered (Refused q) s

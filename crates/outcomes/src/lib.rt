@@ -5,11 +5,12 @@ ghost use Rattle.std.specs.Prelude.{◌≡◌};
 ghost use Rattle.statements.specs.Running.{labels_from};
 ghost use Rattle.outcomes.specs.Outcomes.{no_labels, answered, refused};
 
+use questions::Question;
 use state::State;
 use statements::Label;
 
 // The published rules, as they are printed: AGREE, FUNCTION, EVENT MATCH, TICK; a jump answers as TICK.
-#[derive(Clone, Copy)]
+#[derive(Clone, Copy, PartialEq, Eq)]
 pub enum Rule {
     Agree,
     Call,
@@ -18,13 +19,14 @@ pub enum Rule {
 }
 
 // What came of a step: accepted by a rule, a failed firing with its question, or refused with the question.
-#[derive(Clone, Copy)]
+#[derive(Clone, Copy, PartialEq, Eq)]
 pub enum Outcome {
     Accepted(Rule),
-    Failed(u8),
-    Refused(u8),
+    Failed(Question),
+    Refused(Question),
 }
 
+// Kept: document 01 has the core fill an array of labels by value, and a refused step hand its state back: array and count, and one struct.
 #[derive(Clone, Copy)]
 pub struct Stepped {
     pub outcome: Outcome,
@@ -42,32 +44,30 @@ impl Stepped {
 pub fn blank_labels() -> [Label; Label::MOST]
     ensures { result ≡ no_labels }
 {
-    let blank = Label {
+    [Label {
         kind: 0,
         party: 0,
         value: 0,
-    };
-    [blank; Label::MOST]
+    }; Label::MOST]
 }
 
 // An answer without labels.
 pub fn answer(outcome: Outcome, s: State) -> Stepped
     ensures { result ≡ answered outcome s }
 {
-    let labels = blank_labels();
     Stepped {
         outcome,
         state: s,
-        labels,
+        labels: blank_labels(),
         count: 0,
     }
 }
 
 // A refused step hands back the state it was given.
-pub fn refuse(s: State, n: u8) -> Stepped
-    ensures { result ≡ refused s n }
+pub fn refuse(s: State, q: Question) -> Stepped
+    ensures { result ≡ refused s q }
 {
-    answer(Outcome::Refused(n), s)
+    answer(Outcome::Refused(q), s)
 }
 
 // The labels of these words.
@@ -75,15 +75,13 @@ pub fn labels_of(words: [i64; Label::ROOM]) -> [Label; Label::MOST]
     ensures { result ≡ labels_from words }
 {
     let mut out = blank_labels();
-    let mut i: usize = 0;
-    while i < Label::MOST {
+    for i in 0..Label::MOST {
         let at = Label::WORDS * i;
         out[i] = Label {
             kind: numbers::magnitude(words[at]),
             party: numbers::magnitude(words[at + 1]) as usize,
             value: words[at + 2],
         };
-        i += 1;
     }
     out
 }

@@ -22,8 +22,9 @@ use Rattle.pages.specs.Entries.{Entry, is_payout, entry_at, entries_of}
 use Rattle.pages.specs.Page.{line_of, blank_line, blank_lines, foot, sheet, sixty, page_of}
 use Rattle.pages.specs.Answers.{paged, after, buffer_after}
 use Rattle.pages.specs.Private.{Payable, AllPayable}
-use Rattle.pages.specs.declared.Paged.{Paged}
-use Rattle.pages.specs.declared.Paged.TheVariants.{Accepted, Refused}
+use Rattle.std.specs.Prelude.{Result, Ok, Err}
+use Rattle.questions.specs.declared.Question.{Question}
+use Rattle.questions.specs.declared.Question.TheVariants as ask
 use Rattle.pages.proofs.Widths.{line_long, lines_long, blanks_long, sheet_long}
 use Rattle.pages.proofs.Cuts.{every_sixty, sixty_long, joined_append, joined_one}
 use Rattle.pages.proofs.Given.{each_snoc, each_take, each_drop, entries_whole}
@@ -184,30 +185,30 @@ module _ {w ns : List ℕ} {zs : List ℤ} (a : AllPayable w ns zs) (number : �
 
 -- ---- the answer and the buffer
 
-abbrev pub PageAnswers : List ℕ → List Entry → ℕ → List ℕ → Paged → List ℕ → Type 0
+abbrev pub PageAnswers : List ℕ → List Entry → ℕ → List ℕ → Result Unit Question → List ℕ → Type 0
 PageAnswers w es n old r new = record { value : r ≡ paged w es (length old); buffer_after : new ≡ buffer_after w es n old }
 
 module _ (w : List ℕ) (es : List Entry) (n : ℕ) (old : List ℕ) where
-  refused_page : (q : ℕ) → Refused q ≡ paged w es (length old) → PageAnswers w es n old (Refused q) old
+  refused_page : (q : Question) → Err q ≡ paged w es (length old) → PageAnswers w es n old (Err q) old
   unfolding after
-  refused_page q e = record { value = e; buffer_after = ap (λ (r : Paged). after r (page_of (contract_of w) es n) old) e }
+  refused_page q e = record { value = e; buffer_after = ap (λ (r : Result Unit Question). after r (page_of (contract_of w) es n) old) e }
 
-  pub short_buffer : length old < 5185 → PageAnswers w es n old (Refused 60) old
+  pub short_buffer : length old < 5185 → PageAnswers w es n old (Err ask.PageRoom) old
   unfolding paged
-  short_buffer h = refused_page 60 (sym (pick_true _ _ _ (lt-ltb (length old) 5185 h)))
+  short_buffer h = refused_page ask.PageRoom (sym (pick_true _ _ _ (lt-ltb (length old) 5185 h)))
 
   module _ (h : 5185 ≤ length old) where
-    pub no_table : passes w ≡ false → PageAnswers w es n old (Refused 3) old
+    pub no_table : passes w ≡ false → PageAnswers w es n old (Err ask.TableCheck) old
     unfolding paged
-    no_table t = refused_page 3 (sym (pick_false _ _ _ (le-ltb (length old) 5185 h) ∙ pick_false _ _ _ t))
+    no_table t = refused_page ask.TableCheck (sym (pick_false _ _ _ (le-ltb (length old) 5185 h) ∙ pick_false _ _ _ t))
 
-    pub no_payouts : passes w ≡ true → every (is_payout (contract_of w)) es ≡ false → PageAnswers w es n old (Refused 61) old
+    pub no_payouts : passes w ≡ true → every (is_payout (contract_of w)) es ≡ false → PageAnswers w es n old (Err ask.PageEntries) old
     unfolding paged
-    no_payouts t p = refused_page 61 (sym (pick_false _ _ _ (le-ltb (length old) 5185 h) ∙ pick_true _ _ _ t ∙ pick_false _ _ _ p))
+    no_payouts t p = refused_page ask.PageEntries (sym (pick_false _ _ _ (le-ltb (length old) 5185 h) ∙ pick_true _ _ _ t ∙ pick_false _ _ _ p))
 
     pub page_written : passes w ≡ true → every (is_payout (contract_of w)) es ≡ true → {new : List ℕ} → new ≡ page_of (contract_of w) es n ++ drop 5185 old
-        → PageAnswers w es n old Accepted new
+        → PageAnswers w es n old (Ok tt) new
     unfolding paged after
     page_written t p e =
         let q = sym (pick_false _ _ _ (le-ltb (length old) 5185 h) ∙ pick_true _ _ _ t ∙ pick_true _ _ _ p) in
-        record { value = q; buffer_after = e ∙ ap (λ (r : Paged). after r (page_of (contract_of w) es n) old) q }
+        record { value = q; buffer_after = e ∙ ap (λ (r : Result Unit Question). after r (page_of (contract_of w) es n) old) q }

@@ -25,8 +25,9 @@ use Rattle.printing.specs.Pieces.{spaces}
 use Rattle.pages.specs.Entries.{Entry, no_entry, is_payout}
 use Rattle.pages.specs.Page.{line_of, blank_line, blank_lines, foot, sheet, sixty, page_of}
 use Rattle.pages.specs.Answers.{paged, after, RefusedPage}
-use Rattle.pages.specs.declared.Paged.{Paged}
-use Rattle.pages.specs.declared.Paged.TheVariants.{Accepted, Refused}
+use Rattle.std.specs.Prelude.{Result, Ok, Err}
+use Rattle.questions.specs.declared.Question.{Question}
+use Rattle.questions.specs.declared.Question.TheVariants as ask
 use Rattle.pages.specs.Promises.{line_at, sixties, payout_lines, Filled}
 use Rattle.pages.proofs.Widths.{line_long, lines_long, blanks_long, foot_long, sheet_long}
 use Rattle.pages.proofs.Cuts.{every_sixty, sixty_long, sixty_own, sixty_at, sixties_all, joined_append, row_at, blank_at}
@@ -110,17 +111,17 @@ filled c es f h =
 
 -- ---- the pages that are asked for
 
-module _ (w : List ℕ) (es : List Entry) (size : ℕ) (a : paged w es size ≡ Accepted) where
+module _ (w : List ℕ) (es : List Entry) (size : ℕ) (a : paged w es size ≡ Ok tt) where
   asked : (5185 ≤ size) × (passes w ≡ true) × (every (is_payout (contract_of w)) es ≡ true)
   unfolding paged
   asked =
       by_test (ltb size 5185)
       (λ t. let z : ◌≡◌ {A = ℕ} 0 1 = cc (sym (pick_true _ _ _ t) ∙ a) in absurd (omega arith))
       λ t.
-      let b : pick (passes w) (pick (every (is_payout (contract_of w)) es) Accepted (Refused 61)) (Refused 3) ≡ Accepted = sym (pick_false _ _ _ t) ∙ a in
+      let b : pick (passes w) (pick (every (is_payout (contract_of w)) es) (Ok tt) (Err ask.PageEntries)) (Err ask.TableCheck) ≡ Ok tt = sym (pick_false _ _ _ t) ∙ a in
       by_test (passes w)
       (λ p.
-      let d : pick (every (is_payout (contract_of w)) es) Accepted (Refused 61) ≡ Accepted = sym (pick_true _ _ _ p) ∙ b in
+      let d : pick (every (is_payout (contract_of w)) es) (Ok tt) (Err ask.PageEntries) ≡ Ok tt = sym (pick_true _ _ _ p) ∙ b in
       by_test (every (is_payout (contract_of w)) es)
       (λ e. (ltb-false size 5185 t, p, e))
       λ e. let z : ◌≡◌ {A = ℕ} 0 1 = cc (sym (pick_false _ _ _ e) ∙ d) in absurd (omega arith))
@@ -131,11 +132,11 @@ module _ (w : List ℕ) (es : List Entry) (size : ℕ) (a : paged w es size ≡ 
   accepted_filled = filled (contract_of w) es (sound w asked.1) asked.2
 
 -- a page of payouts is accepted
-pub page_accepts : (w : List ℕ) (es : List Entry) (size : ℕ) → passes w ≡ true → every (is_payout (contract_of w)) es ≡ true → 5185 ≤ size → paged w es size ≡ Accepted
+pub page_accepts : (w : List ℕ) (es : List Entry) (size : ℕ) → passes w ≡ true → every (is_payout (contract_of w)) es ≡ true → 5185 ≤ size → paged w es size ≡ Ok tt
 unfolding paged
 page_accepts w es size p e h = pick_false _ _ _ (le-ltb size 5185 h) ∙ pick_true _ _ _ p ∙ pick_true _ _ _ e
 
 -- a refused page leaves the buffer
 pub refused_untouched : RefusedPage
 unfolding after
-refused_untouched w es n old q e = ap (λ (r : Paged). after r (page_of (contract_of w) es n) old) e
+refused_untouched w es n old q e = ap (λ (r : Result Unit Question). after r (page_of (contract_of w) es n) old) e

@@ -2,17 +2,15 @@
 use mathlib.Core.Path.{◌≡◌, refl, sym, ap, subst, ◌∙◌}
 use mathlib.Core.Bool.{Bool, true, false, ◌&&◌}
 use mathlib.Core.List.{List, [], ◌∷◌}
-use Prim.Native.Nat.{ℕ, suc, ◌+◌, ◌*◌, ◌/◌, ◌<◌, ◌≤◌}
+use Prim.Native.Nat.{ℕ, suc, ◌+◌, ◌*◌, ◌<◌, ◌≤◌}
 use native.Mathlib.Omega.{arith}
-use lib.ListN.{length, get_or, set}
+use lib.ListN.{set}
 use lib.Seq.{sets}
-use lib.IntN.{ℤ, pos}
+use lib.IntN.{ℤ}
 use lib.Dec.{eqb, ltb}
 use borrow.Author.Tests.{eq-eqb, ne_eqb, lt-ltb, le-ltb}
-use Rattle.laws.proofs.Choice.{pick_true, pick_false, by_cases}
+use Rattle.laws.proofs.Choice.{pick_true, pick_false}
 use Rattle.laws.proofs.Truths.{both_true, and_false}
-use Rattle.results.specs.Coded.{no_report, report_from, whole_of, report_at}
-use Rattle.results.proofs.Turns.{ruled_from, sent_from, none_from, at_whole}
 use Rattle.results.specs.declared.Report.{Report}
 use Rattle.results.specs.declared.Report.TheVariants.{Ruled, Sent, Held, Refused, Failed}
 use Rattle.pages.specs.Gathering.{joins, gathered, numbers_after, values_after}
@@ -22,7 +20,7 @@ use Rattle.pages.specs.declared.Gathered.{Gathered}
 abbrev pub Noted : Gathered → Report → List ℕ → List ℤ → Gathered → List ℕ → List ℤ → Type 0
 Noted g r ns zs h ms ys = record { value : h ≡ gathered g r; entries_after : ms ≡ numbers_after g r ns; values_after : ys ≡ values_after g r zs }
 
-noted_as : (g : Gathered) (ns : List ℕ) (zs : List ℤ) {h : Gathered} {ms : List ℕ} {ys : List ℤ} {r s : Report} → r ≡ s → Noted g r ns zs h ms ys → Noted g s ns zs h ms ys
+pub noted_as : (g : Gathered) (ns : List ℕ) (zs : List ℤ) {h : Gathered} {ms : List ℕ} {ys : List ℤ} {r s : Report} → r ≡ s → Noted g r ns zs h ms ys → Noted g s ns zs h ms ys
 noted_as g ns zs {h} {ms} {ys} e n = subst (λ (r : Report). Noted g r ns zs h ms ys) e n
 
 -- ---- labels
@@ -65,67 +63,18 @@ module _ (g : Gathered) (kind party : ℕ) (z : ℤ) (ns : List ℕ) (zs : List 
 
 -- ---- result lines by their numbers
 
-refused_notes : (g : Gathered) (n : ℕ) (ns : List ℕ) (zs : List ℤ) → Noted g (Refused n) ns zs g ns zs
+pub refused_notes : (g : Gathered) (n : ℕ) (ns : List ℕ) (zs : List ℤ) → Noted g (Refused n) ns zs g ns zs
 unfolding gathered numbers_after values_after
 refused_notes g n ns zs = record { value = refl; entries_after = refl; values_after = refl }
 
-failed_notes : (g : Gathered) (n : ℕ) (ns : List ℕ) (zs : List ℤ) → Noted g (Failed n) ns zs g ns zs
+pub failed_notes : (g : Gathered) (n : ℕ) (ns : List ℕ) (zs : List ℤ) → Noted g (Failed n) ns zs g ns zs
 unfolding gathered numbers_after values_after
 failed_notes g n ns zs = record { value = refl; entries_after = refl; values_after = refl }
 
-held_notes : (g : Gathered) (a b : ℕ) (ns : List ℕ) (zs : List ℤ) → Noted g (Held a b) ns zs g ns zs
+pub held_notes : (g : Gathered) (a b : ℕ) (ns : List ℕ) (zs : List ℤ) → Noted g (Held a b) ns zs g ns zs
 unfolding gathered numbers_after values_after
 held_notes g a b ns zs = record { value = refl; entries_after = refl; values_after = refl }
 
-ruled_notes : (g : Gathered) (a b t : ℕ) (ns : List ℕ) (zs : List ℤ) → Noted g (Ruled a b t) ns zs (record { rule = a; clock = t; count = g.count }) ns zs
+pub ruled_notes : (g : Gathered) (a b t : ℕ) (ns : List ℕ) (zs : List ℤ) → Noted g (Ruled a b t) ns zs (record { rule = a; clock = t; count = g.count }) ns zs
 unfolding gathered numbers_after values_after
 ruled_notes g a b t ns zs = record { value = refl; entries_after = refl; values_after = refl }
-
-module _ (numbers : List ℕ) (integers : List ℤ) (i : ℕ) where
-  -- none stands there
-  none_there : whole_of numbers integers ≤ i → no_report ≡ report_at numbers integers i
-  unfolding report_at
-  none_there h = sym (pick_false _ _ _ (le-ltb i (whole_of numbers integers) h))
-
-  module _ (g : Gathered) (ns : List ℕ) (zs : List ℤ) where
-    pub numbers_end : length numbers / 4 ≤ i → Noted g (report_at numbers integers i) ns zs g ns zs
-    numbers_end h = noted_as g ns zs (none_there (omega arith)) (refused_notes g 0 ns zs)
-
-    pub integers_end : length integers ≤ i → Noted g (report_at numbers integers i) ns zs g ns zs
-    integers_end h = noted_as g ns zs (none_there (omega arith)) (refused_notes g 0 ns zs)
-
-    module _ (h : i < length numbers / 4) (l : i < length integers) where
-      -- the report as its numbers give it
-      whole : report_from (get_or numbers (4 * i) 0) (get_or numbers (4 * i + 1) 0) (get_or numbers (4 * i + 2) 0) (get_or numbers (4 * i + 3) 0) (get_or integers i (pos 0)) ≡ report_at numbers integers i
-      whole = at_whole numbers integers i (omega arith) refl
-
-      pub no_byte : 256 ≤ get_or numbers (4 * i + 1) 0 → Noted g (report_at numbers integers i) ns zs g ns zs
-      no_byte k = noted_as g ns zs (none_from (get_or numbers (4 * i) 0) _ (get_or numbers (4 * i + 2) 0) (get_or numbers (4 * i + 3) 0) (get_or integers i (pos 0)) k ∙ whole) (refused_notes g 0 ns zs)
-
-      pub rule_told : get_or numbers (4 * i + 1) 0 < 256 → get_or numbers (4 * i) 0 ≡ 1
-          → Noted g (report_at numbers integers i) ns zs (record { rule = get_or numbers (4 * i + 1) 0; clock = get_or numbers (4 * i + 3) 0; count = g.count }) ns zs
-      rule_told k e =
-          noted_as g ns zs (ruled_from (get_or numbers (4 * i) 0) _ (get_or numbers (4 * i + 2) 0) (get_or numbers (4 * i + 3) 0) (get_or integers i (pos 0)) k e ∙ whole)
-          (ruled_notes g (get_or numbers (4 * i + 1) 0) (get_or numbers (4 * i + 2) 0) (get_or numbers (4 * i + 3) 0) ns zs)
-
-      -- x is the value as its bits give it
-      pub label_told : {h : Gathered} {ms : List ℕ} {ys : List ℤ} {x : ℤ} → x ≡ get_or integers i (pos 0) → get_or numbers (4 * i + 1) 0 < 256
-          → (get_or numbers (4 * i) 0 ≡ 1 → ⊥) → get_or numbers (4 * i) 0 ≡ 2
-          → Noted g (Sent (get_or numbers (4 * i + 1) 0) (get_or numbers (4 * i + 2) 0) x) ns zs h ms ys → Noted g (report_at numbers integers i) ns zs h ms ys
-      label_told q k d e n =
-          noted_as g ns zs (sent_from (get_or numbers (4 * i) 0) (get_or numbers (4 * i + 1) 0) (get_or numbers (4 * i + 2) 0) (get_or numbers (4 * i + 3) 0) (get_or integers i (pos 0)) q k d e ∙ whole) n
-
-      pub other_told : get_or numbers (4 * i + 1) 0 < 256 → (get_or numbers (4 * i) 0 ≡ 1 → ⊥) → (get_or numbers (4 * i) 0 ≡ 2 → ⊥)
-          → Noted g (report_at numbers integers i) ns zs g ns zs
-      unfolding report_from
-      other_told k d e =
-          let P : Report → Type 0 = λ r. Noted g r ns zs g ns zs in
-          noted_as g ns zs whole
-          (noted_as g ns zs
-          (sym
-          (pick_true _ _ _ (lt-ltb (get_or numbers (4 * i + 1) 0) 256 k)
-          ∙ pick_false _ _ _ (ne_eqb (get_or numbers (4 * i) 0) 1 d)
-          ∙ pick_false _ _ _ (ne_eqb (get_or numbers (4 * i) 0) 2 e)))
-          (by_cases P _ _ _ (λ _. held_notes g (get_or numbers (4 * i + 1) 0) (get_or numbers (4 * i + 2) 0) ns zs) λ _.
-          by_cases P _ _ _ (λ _. refused_notes g (get_or numbers (4 * i + 1) 0) ns zs) λ _.
-          by_cases P _ _ _ (λ _. failed_notes g (get_or numbers (4 * i + 1) 0) ns zs) λ _. refused_notes g 0 ns zs))

@@ -7,6 +7,7 @@ ghost use Rattle.pages.specs.Entries.{entries_of};
 ghost use Rattle.pages.specs.Answers.{paged, buffer_after};
 ghost use Rattle.pages.specs.Gathering.{gathered, numbers_after, values_after};
 
+use questions::Question;
 use results::Report;
 
 mod lines;
@@ -20,6 +21,7 @@ pub struct Sheet {}
 
 impl Sheet {
     // Its bytes, its lines for payouts, and the numbers of an entry: kind, party, rule, clock and one that is not looked at.
+    // Kept: entries are handed on in two lent buffers of numbers (no heap), and question 61 judges what they name.
     pub const BYTES: usize = 5185;
 
     pub const LINES: usize = 60;
@@ -37,14 +39,6 @@ impl Sheet {
     const LINE: usize = 84;
 
     const FOOT: usize = 82;
-}
-
-// What asking for a page answers.
-#[derive(Clone, Copy)]
-pub enum Paged {
-    Accepted,
-    // The number of the question that refused; then nothing was written.
-    Refused(u8),
 }
 
 // What is gathered of a session: the rule and the clock of its last accepted step, and how many payouts wait for their page.
@@ -68,28 +62,28 @@ impl Gathered {
     }
 }
 
-// Page `number` of the entries given, five numbers and a value each, on the contract in a table.
+// Page `number` of the entries given, five numbers and a value each, on the contract in a table. A refusal leaves the buffer as it was.
 pub fn page(
     table: &[u64],
     numbers: &[u64],
     values: &[i64],
     number: usize,
     buffer: &mut [u8],
-) -> Paged
+) -> Result<(), Question>
     ensures value { result ≡ paged table.now (entries_of numbers.now values.now) (length buffer.old) }
     ensures buffer_after { buffer.new ≡ buffer_after table.now (entries_of numbers.now values.now) number buffer.old }
 {
     if buffer.len() < Sheet::BYTES {
-        return Paged::Refused(questions::PAGE_ROOM);
+        return Err(Question::PageRoom);
     }
-    if tables::table_passes(table) {
-        if payouts::all_payouts(table, numbers, values) {
-            sheets::write_sheet(table, numbers, values, number, buffer);
-            return Paged::Accepted;
-        }
-        return Paged::Refused(questions::PAGE_ENTRIES);
+    if !tables::table_passes(table) {
+        return Err(Question::TableCheck);
     }
-    Paged::Refused(questions::TABLE_CHECK)
+    if !payouts::all_payouts(table, numbers, values) {
+        return Err(Question::PageEntries);
+    }
+    sheets::write_sheet(table, numbers, values, number, buffer);
+    Ok(())
 }
 
 // Result line i of those in a row, by their numbers and integers: the last accepted step's rule and clock are kept, and a payout joins the
@@ -106,26 +100,15 @@ pub fn gather(
     ensures entries_after { entries.new ≡ numbers_after g (report_at numbers.now integers.now i) entries.old }
     ensures values_after { values.new ≡ values_after g (report_at numbers.now integers.now i) values.old }
 {
-    if numbers.len() / Report::WORDS <= i {
-        return g;
-    }
-    if integers.len() <= i {
-        return g;
-    }
-    let at = Report::WORDS * i;
-    let first = numbers[at + 1];
-    if 256 <= first {
-        return g;
-    }
-    if numbers[at] == 1 {
-        return Gathered {
-            rule: first,
-            clock: numbers[at + 3],
+    match results::report_at(numbers, integers, i) {
+        Report::Ruled(rule, _, clock) => Gathered {
+            rule: rule as u64,
+            clock,
             count: g.count,
-        };
+        },
+        Report::Sent(kind, party, value) => notes::note(g, kind, party, value, entries, values),
+        Report::Held(_, _) => g,
+        Report::Refused(_) => g,
+        Report::Failed(_) => g,
     }
-    if numbers[at] == 2 {
-        return notes::note(g, first, numbers[at + 2], integers[i], entries, values);
-    }
-    g
 }

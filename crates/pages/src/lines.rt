@@ -13,22 +13,16 @@ ghost use Rattle.pages.specs.Private.{Payable};
 
 use crate::Sheet;
 
-// How many bytes of a width are left after so many.
-fn gap(width: usize, used: usize) -> usize
-    ensures { result ≡ width - used }
-{
-    if used < width {
-        return width - used;
-    }
-    0
-}
-
 // A number at the right of 19 bytes.
 fn put_right(buffer: &mut [u8], at: usize, n: u64) -> usize
     requires { at + length (right 19 (decimal n)) ≤ length buffer.old }
     ensures { Put buffer.old at (right 19 (decimal n)) result buffer.new }
 {
-    let first = printing::put_spaces(buffer, at, gap(Sheet::AMOUNT, printing::digit_count(n)));
+    let first = printing::put_spaces(
+        buffer,
+        at,
+        Sheet::AMOUNT.saturating_sub(printing::digit_count(n)),
+    );
     printing::put_number(buffer, first, n)
 }
 
@@ -40,7 +34,7 @@ fn put_rule(buffer: &mut [u8], at: usize, rule: u64) -> usize
 {
     if rule == 1 {
         let end = printing::put_word(buffer, at, words::FUNCTION);
-        return printing::put_spaces(buffer, end, gap(Sheet::RULE, end - at));
+        return printing::put_spaces(buffer, end, Sheet::RULE.saturating_sub(end - at));
     }
     printing::put_word(buffer, at, words::EVENT_MATCH)
 }
@@ -53,7 +47,7 @@ fn put_party(table: &[u64], party: usize, buffer: &mut [u8], at: usize) -> usize
 {
     let row = contract::PARTIES + party * contract::NAME_WORDS;
     let end = printing::put_name(table, row, buffer, at);
-    printing::put_spaces(buffer, end, gap(Sheet::PARTY, end - at))
+    printing::put_spaces(buffer, end, Sheet::PARTY.saturating_sub(end - at))
 }
 
 // Clock and rule, each with a space after it.

@@ -6,41 +6,23 @@ ghost use Rattle.pages.specs.Gathering.{gathered, numbers_after, values_after};
 
 use crate::{Gathered, Sheet};
 
-// A number stored, where the list has its place.
-fn store(list: &mut [u64], i: usize, n: u64)
-    ensures { list.new ≡ set list.old i n }
-{
-    if i < list.len() {
-        list[i] = n;
-    }
-}
-
-// The same of a value.
-fn store_value(list: &mut [i64], i: usize, n: i64)
-    ensures { list.new ≡ set list.old i n }
-{
-    if i < list.len() {
-        list[i] = n;
-    }
-}
-
 // The five numbers of a payout.
 fn store_entry(entries: &mut [u64], at: usize, party: u64, rule: u64, clock: u64)
     requires { at < 1000 }
     ensures { entries.new ≡ sets entries.old at (3 ∷ party ∷ rule ∷ clock ∷ 0 ∷ []) }
 {
-    store(entries, at, 3);
-    store(entries, at + 1, party);
-    store(entries, at + 2, rule);
-    store(entries, at + 3, clock);
-    store(entries, at + 4, 0);
+    items::set(entries, at, 3);
+    items::set(entries, at + 1, party);
+    items::set(entries, at + 2, rule);
+    items::set(entries, at + 3, clock);
+    items::set(entries, at + 4, 0);
 }
 
 // A label: a payout joins the others, where the page has room.
 pub(crate) fn note(
     g: Gathered,
-    kind: u64,
-    party: u64,
+    kind: u8,
+    party: usize,
     value: i64,
     entries: &mut [u64],
     values: &mut [i64],
@@ -56,8 +38,9 @@ pub(crate) fn note(
     if Sheet::LINES <= count {
         return g;
     }
-    store_entry(entries, Sheet::NUMBERS * count, party, g.rule, g.clock);
-    store_value(values, count, value);
+    let at = Sheet::NUMBERS * count;
+    store_entry(entries, at, party as u64, g.rule, g.clock);
+    items::set(values, count, value);
     Gathered {
         rule: g.rule,
         clock: g.clock,

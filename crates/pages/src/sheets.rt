@@ -15,21 +15,14 @@ use crate::lines::{put_blank, put_foot, put_line};
 fn first_of(number: usize, count: usize) -> usize
     ensures { result ≡ min (60 * number) count }
 {
-    if count / Sheet::LINES < number {
-        return count;
-    }
-    Sheet::LINES * number
+    Sheet::LINES.saturating_mul(number).min(count)
 }
 
 // The number after its last one.
 fn end_of(first: usize, count: usize) -> usize
-    requires { first ≤ count }
     ensures { result ≡ min (first + 60) count }
 {
-    if count - first < Sheet::LINES {
-        return count;
-    }
-    first + Sheet::LINES
+    first.saturating_add(Sheet::LINES).min(count)
 }
 
 // The lines of the entries numbered from `from` up to, not including, `to`.
@@ -45,11 +38,9 @@ fn put_lines(
     requires to_in_bounds { (to ≤ length values.now) × (85 * (to - from) ≤ length buffer.old) }
     ensures { Put buffer.old 0 (joined (line_of (contract_of table.now)) (each_from from (to - from) (entry_at numbers.now values.now))) result buffer.new }
 {
-    let mut i = from;
     let mut at: usize = 0;
-    while i < to {
+    for i in from..to {
         at = put_line(table, numbers, values, i, buffer, at);
-        i += 1;
     }
     at
 }
@@ -59,11 +50,9 @@ fn put_blanks(buffer: &mut [u8], at: usize, n: usize) -> usize
     requires { at + 85 * n ≤ length buffer.old }
     ensures { Put buffer.old at (blank_lines n) result buffer.new }
 {
-    let mut i: usize = 0;
     let mut next = at;
-    while i < n {
+    for i in 0..n {
         next = put_blank(buffer, next);
-        i += 1;
     }
     next
 }

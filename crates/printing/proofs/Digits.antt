@@ -2,7 +2,7 @@
 use mathlib.Core.Path.{◌≡◌, refl, sym, ap, ◌∙◌}
 use mathlib.Core.Bool.{true, false}
 use mathlib.Core.List.{List, [], ◌∷◌, ◌++◌}
-use Prim.Native.Nat.{ℕ, zero, suc, ◌+◌, ◌-◌, ◌/◌, ◌%◌, ◌^◌, ◌<◌, ◌≤◌}
+use Prim.Native.Nat.{ℕ, zero, suc, ◌+◌, ◌*◌, max, ◌/◌, ◌%◌, ◌^◌, ◌<◌, ◌≤◌}
 use native.Mathlib.Omega.{arith}
 use lib.ListN.{length, set, length-append}
 use lib.Seq.{sets}
@@ -16,7 +16,6 @@ use Rattle.laws.specs.Bytes.{bytes}
 use Rattle.laws.proofs.Choice.{pick_true, pick_false, by_cases, true_false}
 use Rattle.numbers.proofs.Whole.{lt_true}
 use Rattle.printing.specs.Decimal.{digit, decimal_within, decimal, signed}
-use Rattle.printing.specs.Pieces.{Put}
 use Rattle.printing.proofs.Puts.{sets_last}
 
 enough : (f g n : ℕ) → n < f → n < g → decimal_within f n ≡ decimal_within g n
@@ -49,23 +48,22 @@ one_long n h = ap length (one_digit n h)
 pub more_long : (n : ℕ) → 10 ≤ n → length (decimal n) ≡ length (decimal (n / 10)) + 1
 more_long n h = ap length (more_digits n h) ∙ length-append (decimal (n / 10)) (digit (n % 10) ∷ [])
 
-pub two_long : (n : ℕ) → 10 ≤ n → n < 100 → length (decimal n) ≡ 2
-two_long n h k = omega (arith, more_long n h, one_long (n / 10) (omega arith))
+ten_power : (k : ℕ) → 1 ≤ 10 ^ k
+ten_power zero = omega arith
+ten_power (suc k) = omega (arith, ten_power k)
 
-pub three_long : (n : ℕ) → 100 ≤ n → n < 1000 → length (decimal n) ≡ 3
-three_long n h k = omega (arith, more_long n (omega arith), two_long (n / 10) (omega arith) (omega arith))
+-- by the greatest power of ten that is at most n, or 1
+pub long : (k n m : ℕ) → m ≡ max n 1 → 10 ^ k ≤ m → m < 10 * 10 ^ k → length (decimal n) ≡ k + 1
+long zero n m e g h = one_long n (omega (arith, e))
+long (suc k) n m e g h =
+    let p = ten_power k in
+    let l : 10 ≤ n = omega (arith, e) in
+    omega (arith, more_long n l, long k (n / 10) (n / 10) (omega arith) (omega arith) (omega arith))
 
-pub four_long : (n : ℕ) → 1000 ≤ n → n < 10000 → length (decimal n) ≡ 4
-four_long n h k = omega (arith, more_long n (omega arith), three_long (n / 10) (omega arith) (omega arith))
-
-pub four_more : (n : ℕ) → 10000 ≤ n → length (decimal n) ≡ length (decimal (n / 10000)) + 4
-four_more n h =
-    let a = n / 10 in
-    let b = a / 10 in
-    let d = b / 10 in
-    let e : d / 10 ≡ n / 10000 = omega arith in
-    let f : length (decimal d) ≡ length (decimal (d / 10)) + 1 = more_long d (omega arith) in
-    omega (arith, more_long n (omega arith), more_long a (omega arith), more_long b (omega arith), f, ap (λ (k : ℕ). length (decimal k)) e)
+pub some_digits : (n : ℕ) → 0 < length (decimal n)
+some_digits n =
+    by_cases (λ (_ : ℕ). 0 < length (decimal n)) (ltb n 10) 0 0 (λ t. omega (arith, one_long n (ltb-true n 10 t)))
+    λ t. omega (arith, more_long n (ltb-false n 10 t))
 
 -- below a power of ten
 pub short : (k n : ℕ) → n < 10 ^ suc k → length (decimal n) ≤ suc k
@@ -82,20 +80,38 @@ word_short n h = short 19 n (omega arith)
 
 -- ---- digits stored, the last first
 
-module _ (buffer : List ℕ) (at i rest : ℕ) (place : i ≡ at + length (decimal rest)) where
-  pub store_digit : 10 ≤ rest → sets (set buffer (i - 1) (48 + rest % 10)) at (decimal (rest / 10)) ≡ sets buffer at (decimal rest)
-  store_digit h =
-      let e : i - 1 ≡ at + length (decimal (rest / 10)) = omega (arith, more_long rest h) in
-      ap (λ (j : ℕ). sets (set buffer j (48 + rest % 10)) at (decimal (rest / 10))) e
-      ∙ sets_last (decimal (rest / 10)) buffer at (48 + rest % 10)
-      ∙ ap (sets buffer at) (sym (more_digits rest h))
+-- so many digits of n, its last
+pub last_digits : ℕ → ℕ → List ℕ
+last_digits zero n = []
+last_digits (suc k) n = last_digits k (n / 10) ++ (digit (n % 10) ∷ [])
 
-  pub next_digit : 10 ≤ rest → i - 1 ≡ at + length (decimal (rest / 10))
-  next_digit h = omega (arith, more_long rest h)
+last_long : (k n : ℕ) → length (last_digits k n) ≡ k
+unfolding last_digits
+last_long zero n = refl
+last_long (suc k) n = length-append (last_digits k (n / 10)) (digit (n % 10) ∷ []) ∙ omega (arith, last_long k (n / 10))
 
-pub first_digit : {old : List ℕ} (buffer : List ℕ) (at rest n end : ℕ) → sets buffer at (decimal rest) ≡ sets old at (decimal n) → rest < 10
-    → end ≡ at + length (decimal n) → at + length (decimal n) ≤ length old → Put old at (decimal n) end (set buffer at (48 + rest))
-first_digit buffer at rest n end e h q r = record { place = q; list = sym (ap (sets buffer at) (one_digit rest h)) ∙ e; room = r }
+-- as many as there are
+pub all_digits : (k n : ℕ) → k ≡ length (decimal n) → last_digits k n ≡ decimal n
+unfolding last_digits
+all_digits zero n e = absurd (omega (arith, e, some_digits n))
+all_digits (suc k) n e =
+    by_cases (λ (_ : ℕ). last_digits (suc k) n ≡ decimal n) (ltb n 10) 0 0
+    (λ t. let h : n < 10 = ltb-true n 10 t in
+    let z : k ≡ 0 = omega (arith, e, one_long n h) in
+    let m : n % 10 ≡ n = omega arith in
+    (λ i. last_digits (z i) (n / 10) ++ (digit (m i) ∷ [])) ∙ sym (one_digit n h))
+    λ t. let h : 10 ≤ n = ltb-false n 10 t in
+    ap (λ (l : List ℕ). l ++ (digit (n % 10) ∷ [])) (all_digits k (n / 10) (omega (arith, e, more_long n h))) ∙ sym (more_digits n h)
+
+pub no_digits : (buffer : List ℕ) (at k n : ℕ) → k ≡ 0 → buffer ≡ sets buffer at (last_digits k n)
+unfolding last_digits
+no_digits buffer at k n e = ap (λ (j : ℕ). sets buffer at (last_digits j n)) (sym e)
+
+pub store_last : (buffer : List ℕ) (at k n : ℕ) → sets (set buffer (at + k) (48 + n % 10)) at (last_digits k (n / 10)) ≡ sets buffer at (last_digits (suc k) n)
+unfolding last_digits
+store_last buffer at k n =
+    ap (λ (j : ℕ). sets (set buffer (at + j) (48 + n % 10)) at (last_digits k (n / 10))) (sym (last_long k (n / 10)))
+    ∙ sets_last (last_digits k (n / 10)) buffer at (48 + n % 10)
 
 -- ---- whole numbers
 

@@ -1,9 +1,9 @@
--- Names of a table, and spaces, stored one byte a turn. Assumes nothing.
+-- Names of a table, stored one byte a turn, and spaces. Assumes nothing.
 use mathlib.Core.Path.{◌≡◌, refl, sym, ap, ◌∙◌}
 use mathlib.Core.List.{List, [], ◌∷◌, map}
 use Prim.Native.Nat.{ℕ, zero, suc, ◌+◌, ◌-◌, ◌%◌, ◌<◌, ◌≤◌, min}
 use native.Mathlib.Omega.{arith}
-use lib.ListN.{length, get_or, set, drop, length-take, length-drop, length-map, length-replicate, get_or-replicate}
+use lib.ListN.{length, get_or, set, drop, length-take, length-drop, length-map, length-replicate}
 use lib.Seq.{sets, get_or-take, get_or-drop}
 use Rattle.contract.specs.Table.{word_at}
 use Rattle.contract.specs.Decode.{word_of}
@@ -55,10 +55,3 @@ name_is w o h = bytes_are (word_of w o) λ i l.
 
 pub spaces_long : (n : ℕ) → length (spaces n) ≡ n
 spaces_long n = length-replicate n 32
-
-pub space_next : (new : List ℕ) (at i n : ℕ) → i < n
-    → sets (set new (at + i) 32) (at + (i + 1)) (drop (i + 1) (spaces n)) ≡ sets new (at + i) (drop i (spaces n))
-space_next new at i n h =
-    let l : i < length (spaces n) = omega (arith, spaces_long n) in
-    ap (λ (v : ℕ). sets (set new (at + i) v) (at + (i + 1)) (drop (i + 1) (spaces n))) (sym (get_or-replicate n i 32 0 h))
-    ∙ store_next new (spaces n) at i l

@@ -7,6 +7,8 @@ use native.Mathlib.Omega.{arith}
 use native.Mathlib.Nat.{add-zero, zero-add}
 use lib.ListN.{length, set, take, drop, get_or, length-append, take-append-drop, drop_of_length-le}
 use lib.Seq.{sets, sets-eq, set_comm, length-sets, drop-append-le, drop-drop}
+use Rattle.std.proofs.Common.{take_all}
+use Rattle.std.proofs.lemmas.Slice.{put_mid-paste}
 use borrow.Rule.Slice.PartMut.{mid_of, put_mid, mid_len}
 use lib.Dec.{leb}
 use borrow.Author.Tests.{leb-true, leb-false, le-leb, lt-leb}
@@ -34,6 +36,21 @@ pub sets_last : (u old : List ℕ) (at x : ℕ) → sets (set old (at + length u
 sets_last u old at x =
     let h : at + length u ≤ at + length u = omega arith in
     sets_set u old at (at + length u) x h ∙ sets_then u (x ∷ []) old at
+
+-- ---- a word stored at once
+
+pub put_part : (old : List ℕ) (at : ℕ) (w : List ℕ) (k : ℕ) (now : List ℕ) → k ≡ length w → at + length w ≤ length old → now ≡ w
+    → Put old at w (at + length w) (put_mid at k old now)
+put_part old at w k now g h e =
+    record {
+      place = refl;
+      list =
+          put_mid-paste at k old now w k e refl g
+          ∙ ap (λ (n : ℕ). take at old ++ take n w ++ drop (at + n) old) g
+          ∙ ap (λ (x : List ℕ). take at old ++ x ++ drop (at + length w) old) (take_all (length w) w (omega arith))
+          ∙ sym (sets-eq w old at h);
+      room = h;
+    }
 
 -- ---- a word stored one byte a turn
 

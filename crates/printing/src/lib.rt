@@ -1,4 +1,5 @@
 // Pieces of printed lines, each stored into a lent buffer from a place on, where it has room; each hands back the place after it.
+// Kept: (d) no writer with a place of its own, since each function answers for any place, and callers hand the place on.
 #![tactic(auto)]
 
 ghost use Rattle.std.specs.Prelude.{◌≡◌, [], ◌∷◌, ◌+◌, ◌≤◌, ◌<◌, length, leb};
@@ -34,12 +35,9 @@ pub fn put_bytes(buffer: &mut [u8], at: usize, word: &[u8]) -> usize
     if !has_room(buffer.len(), at, word.len()) {
         return at;
     }
-    let mut i: usize = 0;
-    while i < word.len() {
-        buffer[at + i] = word[i];
-        i += 1;
-    }
-    at + i
+    let end = at + word.len();
+    buffer[at..end].copy_from_slice(word);
+    end
 }
 
 // A fixed word by its number.
@@ -47,9 +45,7 @@ pub fn put_word(buffer: &mut [u8], at: usize, which: u8) -> usize
     ensures value { result ≡ place_after buffer.old at (spelled which) }
     ensures buffer_after { buffer.new ≡ put buffer.old at (spelled which) }
 {
-    let word = words::spelling(which);
-    let bytes = word.bytes;
-    put_bytes(buffer, at, &bytes[..word.length])
+    put_bytes(buffer, at, words::spelling(which))
 }
 
 pub fn put_spaces(buffer: &mut [u8], at: usize, n: usize) -> usize
@@ -59,12 +55,9 @@ pub fn put_spaces(buffer: &mut [u8], at: usize, n: usize) -> usize
     if !has_room(buffer.len(), at, n) {
         return at;
     }
-    let mut i: usize = 0;
-    while i < n {
-        buffer[at + i] = b' ';
-        i += 1;
-    }
-    at + i
+    let end = at + n;
+    buffer[at..end].fill(b' ');
+    end
 }
 
 // How many bytes the name or string has whose length stands at word o: as many as the table has words for.
@@ -90,42 +83,17 @@ pub fn put_name(table: &[u64], o: usize, buffer: &mut [u8], at: usize) -> usize
     if !has_room(buffer.len(), at, n) {
         return at;
     }
-    let mut i: usize = 0;
-    while i < n {
+    for i in 0..n {
         buffer[at + i] = (table[o + 1 + i] % 256) as u8;
-        i += 1;
     }
     at + n
-}
-
-// How many digits a number of up to four digits has.
-fn few_digits(n: u64) -> usize
-    requires { n < 10000 }
-    ensures { result ≡ length (decimal n) }
-{
-    if n < 10 {
-        return 1;
-    }
-    if n < 100 {
-        return 2;
-    }
-    if n < 1000 {
-        return 3;
-    }
-    4
 }
 
 // How many digits a number has.
 pub fn digit_count(n: u64) -> usize
     ensures { result ≡ length (decimal n) }
 {
-    let mut rest = n;
-    let mut count: usize = 0;
-    while 10000 <= rest {
-        rest = rest / 10000;
-        count += 4;
-    }
-    count + few_digits(rest)
+    n.max(1).ilog10() as usize + 1
 }
 
 // So many digits of a number, which are all, the last first.
@@ -134,16 +102,12 @@ fn store_digits(buffer: &mut [u8], at: usize, count: usize, n: u64) -> usize
     requires count_in_bounds { at + count ≤ length buffer.old }
     ensures { Put buffer.old at (decimal n) result buffer.new }
 {
-    let end = at + count;
     let mut rest = n;
-    let mut i = end;
-    while 10 <= rest {
-        i -= 1;
+    for i in (at..at + count).rev() {
         buffer[i] = b'0' + (rest % 10) as u8;
         rest = rest / 10;
     }
-    buffer[at] = b'0' + rest as u8;
-    end
+    at + count
 }
 
 // The digits of a number.

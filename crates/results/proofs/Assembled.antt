@@ -26,8 +26,9 @@ use Rattle.results.specs.Private.{Ready, ReadyValue}
 use Rattle.results.specs.declared.Report.{Report}
 use Rattle.results.specs.declared.Report.TheVariants.{Ruled, Sent, Held}
 use Rattle.results.specs.declared.Report.TheVariants as report
-use Rattle.results.specs.declared.Written.{Written}
-use Rattle.results.specs.declared.Written.TheVariants.{Wrote, Refused}
+use Rattle.std.specs.Prelude.{Result, Ok, Err}
+use Rattle.questions.specs.declared.Question.{Question}
+use Rattle.questions.specs.declared.Question.TheVariants as ask
 use Rattle.results.proofs.Rows.{Row, party_row, asset_row, state_row, string_row}
 use Rattle.results.proofs.Ranges.{state_below, party_below, asset_below, value_below, string_below}
 
@@ -239,62 +240,62 @@ module _ {old new : List ℕ} {n : ℕ} where
 -- ---- the answers
 
 -- an answer and the buffer after it
-abbrev pub Answers : List ℕ → Report → List ℕ → Written → List ℕ → Type 0
+abbrev pub Answers : List ℕ → Report → List ℕ → Result ℕ Question → List ℕ → Type 0
 Answers w report old r new = record { value : r ≡ written w report (length old); buffer_after : new ≡ buffer_after w report old }
 
-refused_after : {old : List ℕ} (line : List ℕ) {r : Written} {q : ℕ} → Refused q ≡ r → old ≡ after r line old
+refused_after : {old : List ℕ} (line : List ℕ) {r : Result ℕ Question} {q : Question} → Err q ≡ r → old ≡ after r line old
 unfolding after
-refused_after {old} line e = ap (λ (a : Written). after a line old) e
+refused_after {old} line e = ap (λ (a : Result ℕ Question). after a line old) e
 
-wrote_after : {old line new : List ℕ} {r : Written} {n : ℕ} → Wrote n ≡ r → Put old 0 line n new → new ≡ after r line old
+wrote_after : {old line new : List ℕ} {r : Result ℕ Question} {n : ℕ} → Ok n ≡ r → Put old 0 line n new → new ≡ after r line old
 unfolding after
-wrote_after {old} {line} e p = over p ∙ ap (λ (a : Written). after a line old) e
+wrote_after {old} {line} e p = over p ∙ ap (λ (a : Result ℕ Question). after a line old) e
 
 module _ (w : List ℕ) (report : Report) (old : List ℕ) where
-  pub no_space : length old < 128 → Answers w report old (Refused 52) old
+  pub no_space : length old < 128 → Answers w report old (Err ask.ResultRoom) old
   unfolding written
   no_space h =
-      let e : Refused 52 ≡ written w report (length old) = sym (pick_true _ _ _ (lt-ltb (length old) 128 h)) in
+      let e : Err ask.ResultRoom ≡ written w report (length old) = sym (pick_true _ _ _ (lt-ltb (length old) 128 h)) in
       record { value = e; buffer_after = refused_after _ e }
 
-  pub no_table : 128 ≤ length old → passes w ≡ false → Answers w report old (Refused 3) old
+  pub no_table : 128 ≤ length old → passes w ≡ false → Answers w report old (Err ask.TableCheck) old
   unfolding written
   no_table h t =
-      let e : Refused 3 ≡ written w report (length old) = sym (pick_false _ _ _ (le-ltb (length old) 128 h) ∙ pick_false _ _ _ t) in
+      let e : Err ask.TableCheck ≡ written w report (length old) = sym (pick_false _ _ _ (le-ltb (length old) 128 h) ∙ pick_false _ _ _ t) in
       record { value = e; buffer_after = refused_after _ e }
 
-  pub no_kind : 128 ≤ length old → passes w ≡ true → report_ok (contract_of w) report ≡ false → Answers w report old (Refused 53) old
+  pub no_kind : 128 ≤ length old → passes w ≡ true → report_ok (contract_of w) report ≡ false → Answers w report old (Err ask.ResultKinds) old
   unfolding written
   no_kind h t k =
-      let e : Refused 53 ≡ written w report (length old) = sym (pick_false _ _ _ (le-ltb (length old) 128 h) ∙ pick_true _ _ _ t ∙ pick_false _ _ _ k) in
+      let e : Err ask.ResultKinds ≡ written w report (length old) = sym (pick_false _ _ _ (le-ltb (length old) 128 h) ∙ pick_true _ _ _ t ∙ pick_false _ _ _ k) in
       record { value = e; buffer_after = refused_after _ e }
 
-  pub wrote : {n : ℕ} {new : List ℕ} → Ready w report (length old) → Put old 0 (line_of (contract_of w) report) n new → Answers w report old (Wrote n) new
+  pub wrote : {n : ℕ} {new : List ℕ} → Ready w report (length old) → Put old 0 (line_of (contract_of w) report) n new → Answers w report old (Ok n) new
   unfolding written
   wrote {n} r p =
-      let e : Wrote n ≡ written w report (length old) =
-      ap Wrote (line_end_lem p) ∙ sym (pick_false _ _ _ (le-ltb (length old) 128 r.room) ∙ pick_true _ _ _ r.table ∙ pick_true _ _ _ r.range) in
+      let e : Ok n ≡ written w report (length old) =
+      ap Ok (line_end_lem p) ∙ sym (pick_false _ _ _ (le-ltb (length old) 128 r.room) ∙ pick_true _ _ _ r.table ∙ pick_true _ _ _ r.range) in
       record { value = e; buffer_after = wrote_after e p }
 
-abbrev pub TextAnswers : ℕ → ℕ → List ℕ → Written → List ℕ → Type 0
+abbrev pub TextAnswers : ℕ → ℕ → List ℕ → Result ℕ Question → List ℕ → Type 0
 TextAnswers k place old r new = record { value : r ≡ text_written k place (length old); buffer_after : new ≡ text_buffer_after k place old }
 
 module _ (k place : ℕ) (old : List ℕ) where
-  pub text_no_space : length old < 128 → TextAnswers k place old (Refused 52) old
+  pub text_no_space : length old < 128 → TextAnswers k place old (Err ask.ResultRoom) old
   unfolding text_written
   text_no_space h =
-      let e : Refused 52 ≡ text_written k place (length old) = sym (pick_true _ _ _ (lt-ltb (length old) 128 h)) in
+      let e : Err ask.ResultRoom ≡ text_written k place (length old) = sym (pick_true _ _ _ (lt-ltb (length old) 128 h)) in
       record { value = e; buffer_after = refused_after _ e }
 
-  pub text_no_kind : 128 ≤ length old → text_refusal k ≡ false → TextAnswers k place old (Refused 53) old
+  pub text_no_kind : 128 ≤ length old → text_refusal k ≡ false → TextAnswers k place old (Err ask.ResultKinds) old
   unfolding text_written
   text_no_kind h t =
-      let e : Refused 53 ≡ text_written k place (length old) = sym (pick_false _ _ _ (le-ltb (length old) 128 h) ∙ pick_false _ _ _ t) in
+      let e : Err ask.ResultKinds ≡ text_written k place (length old) = sym (pick_false _ _ _ (le-ltb (length old) 128 h) ∙ pick_false _ _ _ t) in
       record { value = e; buffer_after = refused_after _ e }
 
-  pub text_wrote : {n : ℕ} {new : List ℕ} → 128 ≤ length old → text_refusal k ≡ true → Put old 0 (text_line k place) n new → TextAnswers k place old (Wrote n) new
+  pub text_wrote : {n : ℕ} {new : List ℕ} → 128 ≤ length old → text_refusal k ≡ true → Put old 0 (text_line k place) n new → TextAnswers k place old (Ok n) new
   unfolding text_written
   text_wrote {n} h t p =
-      let e : Wrote n ≡ text_written k place (length old) =
-      ap Wrote (line_end_lem p) ∙ sym (pick_false _ _ _ (le-ltb (length old) 128 h) ∙ pick_true _ _ _ t) in
+      let e : Ok n ≡ text_written k place (length old) =
+      ap Ok (line_end_lem p) ∙ sym (pick_false _ _ _ (le-ltb (length old) 128 h) ∙ pick_true _ _ _ t) in
       record { value = e; buffer_after = wrote_after e p }

@@ -21,6 +21,8 @@ use Rattle.contract_laws.proofs.Sound.{passed, counts}
 use Rattle.results.specs.Coded.{coded, integer_of, coded_all, integers_of, no_report, report_from, whole_of, report_at, reports_from}
 use Rattle.results.specs.Lines.{refusal, report_ok}
 use Rattle.results.specs.Results.{first_reports, lines_of, batch_of, batch, batch_after}
+use Rattle.std.specs.Prelude.{Result, Ok}
+use Rattle.questions.specs.declared.Question.{Question}
 use Rattle.results.specs.declared.Batch.{Batch}
 use Rattle.results.specs.declared.Report.{Report}
 use Rattle.results.specs.declared.Report.TheVariants.{Ruled, Sent, Held, Refused, Failed}
@@ -129,16 +131,16 @@ module _ (w : List ℕ) (rs : List Report) (old : List ℕ) (room : 128 ≤ leng
   all_first : first_reports (length old) rs ≡ rs
   all_first = take_all (length old / 128) rs (omega (arith, each))
 
-  pub batch_whole : batch w rs (length old) ≡ record { question = 0; many = length rs; used = length (lines_of (contract_of w) rs) }
+  pub batch_whole : batch w rs (length old) ≡ Ok (record { many = length rs; used = length (lines_of (contract_of w) rs) })
   unfolding batch batch_of
   batch_whole =
       pick_false _ _ _ (le-ltb (length old) 128 room)
       ∙ pick_true _ _ _ t
       ∙ pick_true _ _ _ (ap (every (report_ok (contract_of w))) all_first ∙ ok)
-      ∙ λ j. record { question = 0; many = length (all_first j); used = length (lines_of (contract_of w) (all_first j)) }
+      ∙ λ j. Ok (record { many = length (all_first j); used = length (lines_of (contract_of w) (all_first j)) })
 
   pub lines_whole : batch_after (contract_of w) rs (batch w rs (length old)) old ≡ lines_of (contract_of w) rs ++ drop (length (lines_of (contract_of w) rs)) old
   unfolding batch_after
   lines_whole =
-      ap (λ (b : Batch). batch_after (contract_of w) rs b old) batch_whole
+      ap (λ (b : Result Batch Question). batch_after (contract_of w) rs b old) batch_whole
       ∙ ap (λ (l : List Report). lines_of (contract_of w) l ++ drop (length (lines_of (contract_of w) rs)) old) (take-length rs)

@@ -1,7 +1,6 @@
 -- What the code's proofs use.
 pub mod Rows
 pub mod Ranges
-pub mod Texts
 pub mod Assembled
 pub mod Turns
 -- What holds of the definitions.

@@ -7,23 +7,26 @@ use native.Mathlib.Nat.{add-zero}
 use native.Mathlib.Omega.{arith}
 use lib.ListN.{length, get_or, take, drop}
 use lib.IntN.{ℤ, pos}
-use lib.Dec.{eqb, leb, ltb}
-use borrow.Author.Tests.{eq-eqb, ne_eqb, lt-ltb, le-ltb, le-leb, eqb-true, eqb-false, ltb-true, leb-true, leb-false}
+use lib.Dec.{eqb}
+use borrow.Author.Tests.{eq-eqb, ne_eqb, lt-ltb, le-ltb, eqb-true, eqb-false}
 use borrow.Rule.Slice.PartMut.{mid_of, put_mid, mid_len}
 use Rattle.laws.specs.Choice.{pick}
 use Rattle.laws.specs.Lists.{every}
-use Rattle.laws.proofs.Choice.{pick_true, pick_false, true_false}
-use Rattle.laws.proofs.Truths.{both_left, both_right, both_true, first_true, second_true}
+use Rattle.laws.proofs.Choice.{pick_true, pick_false}
+use Rattle.laws.proofs.Truths.{both_left, both_right}
 use Rattle.contract.specs.Tree.{Contract}
 use Rattle.contract.specs.Decode.{contract_of}
-use Rattle.contract.specs.Check.{ranges, passes}
-use Rattle.contract_laws.proofs.Inversions.{by_test, of_either}
+use Rattle.contract.specs.Check.{passes}
+use Rattle.contract_laws.proofs.Inversions.{by_test}
 use Rattle.printing.specs.Pieces.{Put}
 use Rattle.printing.proofs.Puts.{kept, then, same, part_put, over, line_end_lem}
 use Rattle.results.specs.Coded.{no_report, report_from, whole_of, report_at, reports_from}
-use Rattle.results.specs.Lines.{refusal, report_ok, line_of}
-use Rattle.results.specs.Results.{nothing, first_reports, batch_of, batch, lines_of, batch_after}
-use Rattle.results.specs.Private.{AllReady, all_whole}
+use Rattle.results.specs.Lines.{report_ok, line_of}
+use Rattle.results.specs.Results.{first_reports, batch_of, batch, lines_of, batch_after}
+use Rattle.results.specs.Private.{AllReady}
+use Rattle.std.specs.Prelude.{Result, Ok, Err}
+use Rattle.questions.specs.declared.Question.{Question}
+use Rattle.questions.specs.declared.Question.TheVariants as ask
 use Rattle.results.specs.declared.Batch.{Batch}
 use Rattle.results.specs.declared.Report.{Report}
 use Rattle.results.specs.declared.Report.TheVariants.{Ruled, Sent, Held, Refused, Failed}
@@ -68,10 +71,6 @@ module _ (which a b c : ℕ) (z : ℤ) where
 
 -- ---- reports in a row
 
-none-refused : (c : Contract) → report_ok c no_report ≡ false
-unfolding report_ok refusal ranges
-none-refused c = refl
-
 module _ (ns : List ℕ) (zs : List ℤ) where
   -- a report that stands there whole
   pub at_whole : (i : ℕ) → i < whole_of ns zs → {x : ℤ} → x ≡ get_or zs i (pos 0)
@@ -81,12 +80,9 @@ module _ (ns : List ℕ) (zs : List ℤ) where
       ap (report_from (get_or ns (4 * i) 0) (get_or ns (4 * i + 1) 0) (get_or ns (4 * i + 2) 0) (get_or ns (4 * i + 3) 0)) e
       ∙ sym (pick_true _ _ _ (lt-ltb i (whole_of ns zs) h))
 
-  -- one that question 53 passes does
-  ok_whole : (c : Contract) (i : ℕ) → report_ok c (report_at ns zs i) ≡ true → i < whole_of ns zs
+  pub at_end : (i : ℕ) → whole_of ns zs ≤ i → no_report ≡ report_at ns zs i
   unfolding report_at
-  ok_whole c i k =
-      by_test (ltb i (whole_of ns zs)) (ltb-true i (whole_of ns zs)) λ t.
-      true_false (sym k ∙ ap (report_ok c) (pick_false _ _ _ t) ∙ none-refused c)
+  at_end i h = sym (pick_false _ _ _ (le-ltb i (whole_of ns zs) h))
 
   first_reports_lem : (i k n m : ℕ) → m ≡ min k n → take k (reports_from ns zs i n) ≡ reports_from ns zs i m
   unfolding reports_from
@@ -141,9 +137,6 @@ module _ {w ns : List ℕ} {zs : List ℤ} {from to size : ℕ} (a : AllReady w 
       let l : j < from + (to - from) = omega (arith, h, k) in
       ap (report_ok (contract_of w)) e ∙ each_report ns zs (report_ok (contract_of w)) (to - from) from a.range j h l
 
-  pub ready_whole : from ≤ j → j < to → j < whole_of ns zs
-  ready_whole h k = ok_whole ns zs (contract_of w) j (ready_at refl h k)
-
 -- ---- question 53 of all reports
 
 -- the reports before report i pass it, so that those from there on decide
@@ -151,30 +144,11 @@ pub record Asked (c : Contract) (ns : List ℕ) (zs : List ℤ) (from to i : ℕ
   pub first : from ≤ i
   pub answer : every (report_ok c) (reports_from ns zs i (to - i)) ≡ every (report_ok c) (reports_from ns zs from (to - from))
 
--- the last report is none
-pub not_whole : (c : Contract) (ns : List ℕ) (zs : List ℤ) (from to : ℕ) → all_whole ns zs from to ≡ false → false ≡ every (report_ok c) (reports_from ns zs from (to - from))
-not_whole c ns zs from to h =
-    by_test (every (report_ok c) (reports_from ns zs from (to - from)))
-    (λ t.
-    by_test (leb to from) (λ l. true_false (sym (first_true _ l) ∙ h)) λ l.
-    let f : from < to = leb-false to from l in
-    let w : to - 1 < whole_of ns zs = ok_whole ns zs c (to - 1) (each_report ns zs (report_ok c) (to - from) from t (to - 1) (omega arith) (omega arith)) in
-    true_false
-    (sym (second_true (leb to from) (both_true _ _ (le-leb to (length ns / 4) (omega (arith, w))) (le-leb to (length zs) (omega (arith, w))))) ∙ h))
-    λ t. sym t
-
 module _ {c : Contract} {ns : List ℕ} {zs : List ℤ} {from to : ℕ} where
   pub asked_none : Asked c ns zs from to from
   asked_none = record { first = omega arith; answer = refl }
 
   module _ {i : ℕ} (a : Asked c ns zs from to i) where
-    pub asked_whole : all_whole ns zs from to ≡ true → i < to → i < whole_of ns zs
-    asked_whole h l =
-        of_either (leb to from) _ h (λ t. absurd (omega (arith, leb-true to from t, a.first))) λ t.
-        let p = leb-true to (length ns / 4) (both_left (leb to (length ns / 4)) _ t) in
-        let q = leb-true to (length zs) (both_right (leb to (length ns / 4)) _ t) in
-        omega (arith, p, q)
-
     module _ (l : i < to) {r : Report} (e : r ≡ report_at ns zs i) where
       split : every (report_ok c) (reports_from ns zs i (to - i)) ≡ (report_ok c r && every (report_ok c) (reports_from ns zs (i + 1) (to - (i + 1))))
       unfolding every
@@ -263,7 +237,7 @@ module _ {c : Contract} {ns : List ℕ} {zs : List ℤ} {from to : ℕ} {old : L
 
 -- ---- the answer and the buffer after many lines
 
-abbrev pub BatchAnswers : Contract → List Report → List ℕ → Batch → List ℕ → Type 0
+abbrev pub BatchAnswers : Contract → List Report → List ℕ → Result Batch Question → List ℕ → Type 0
 BatchAnswers c rs old r new = record { value : r ≡ batch_of c rs (length old); buffer_after : new ≡ batch_after c rs r old }
 
 module _ (ns : List ℕ) (zs : List ℤ) (from to : ℕ) (old : List ℕ) {end : ℕ} (e : end ≡ from + min (length old / 128) (to - from)) where
@@ -277,32 +251,32 @@ module _ (ns : List ℕ) (zs : List ℤ) (from to : ℕ) (old : List ℕ) {end :
   module _ (c : Contract) where
     pub all_written : {used : ℕ} {new : List ℕ} → every (report_ok c) (reports_from ns zs from (end - from)) ≡ true
         → Put old 0 (lines_of c (reports_from ns zs from (end - from))) used new
-        → BatchAnswers c (reports_from ns zs from (to - from)) old (record { question = 0; many = end - from; used = used }) new
+        → BatchAnswers c (reports_from ns zs from (to - from)) old (Ok (record { many = end - from; used = used })) new
     unfolding batch_of batch_after
     all_written {used} k p =
         let m : end - from ≡ min (end - from) (to - from) = omega (arith, e) in
         let many : end - from ≡ length (first_reports (length old) (reports_from ns zs from (to - from))) = sym (ap length firsts ∙ reports_long ns zs from (end - from)) in
-        let bytes : used ≡ length (lines_of c (first_reports (length old) (reports_from ns zs from (to - from)))) = line_end_lem p ∙ sym (ap (λ (rs : List Report). length (lines_of c rs)) firsts) in record { value = (λ j. record { question = 0; many = many j; used = bytes j }) ∙ sym (pick_true _ _ _ (ap (every (report_ok c)) firsts ∙ k)); buffer_after = over p ∙ ap (λ (rs : List Report). lines_of c rs ++ drop used old) (sym (first_reports_lem ns zs from (end - from) (to - from) (end - from) m)) }
+        let bytes : used ≡ length (lines_of c (first_reports (length old) (reports_from ns zs from (to - from)))) = line_end_lem p ∙ sym (ap (λ (rs : List Report). length (lines_of c rs)) firsts) in record { value = (λ j. Ok (record { many = many j; used = bytes j })) ∙ sym (pick_true _ _ _ (ap (every (report_ok c)) firsts ∙ k)); buffer_after = over p ∙ ap (λ (rs : List Report). lines_of c rs ++ drop used old) (sym (first_reports_lem ns zs from (end - from) (to - from) (end - from) m)) }
 
-    pub none_written : every (report_ok c) (reports_from ns zs from (end - from)) ≡ false → BatchAnswers c (reports_from ns zs from (to - from)) old (nothing 53) old
+    pub none_written : every (report_ok c) (reports_from ns zs from (end - from)) ≡ false → BatchAnswers c (reports_from ns zs from (to - from)) old (Err ask.ResultKinds) old
     unfolding batch_of batch_after lines_of
     none_written k = record { value = sym (pick_false _ _ _ (ap (every (report_ok c)) firsts ∙ k)); buffer_after = refl }
 
 -- ---- questions 52 and 3
 
 -- the same with them
-abbrev pub AllAnswers : List ℕ → List Report → List ℕ → Batch → List ℕ → Type 0
+abbrev pub AllAnswers : List ℕ → List Report → List ℕ → Result Batch Question → List ℕ → Type 0
 AllAnswers w rs old r new = record { value : r ≡ batch w rs (length old); buffer_after : new ≡ batch_after (contract_of w) rs r old }
 
 module _ (w : List ℕ) (rs : List Report) (old : List ℕ) where
-  pub none_space : length old < 128 → AllAnswers w rs old (nothing 52) old
+  pub none_space : length old < 128 → AllAnswers w rs old (Err ask.ResultRoom) old
   unfolding batch batch_after lines_of
   none_space h = record { value = sym (pick_true _ _ _ (lt-ltb (length old) 128 h)); buffer_after = refl }
 
-  pub none_table : 128 ≤ length old → passes w ≡ false → AllAnswers w rs old (nothing 3) old
+  pub none_table : 128 ≤ length old → passes w ≡ false → AllAnswers w rs old (Err ask.TableCheck) old
   unfolding batch batch_after lines_of
   none_table h t = record { value = sym (pick_false _ _ _ (le-ltb (length old) 128 h) ∙ pick_false _ _ _ t); buffer_after = refl }
 
-  pub some_lines : {r : Batch} {new : List ℕ} → 128 ≤ length old → passes w ≡ true → BatchAnswers (contract_of w) rs old r new → AllAnswers w rs old r new
+  pub some_lines : {r : Result Batch Question} {new : List ℕ} → 128 ≤ length old → passes w ≡ true → BatchAnswers (contract_of w) rs old r new → AllAnswers w rs old r new
   unfolding batch
   some_lines h t a = record { value = a.value ∙ sym (pick_false _ _ _ (le-ltb (length old) 128 h) ∙ pick_true _ _ _ t); buffer_after = a.buffer_after }

@@ -1,5 +1,5 @@
 -- For private functions only: what is known of a report that is in range.
-use Rattle.std.specs.Prelude.{◌≡◌, Bool, true, ◌&&◌, ◌||◌, List, ℕ, ◌-◌, ◌*◌, ◌/◌, ◌≤◌, length, ℤ, leb}
+use Rattle.std.specs.Prelude.{◌≡◌, true, List, ℕ, ◌-◌, ◌*◌, ◌≤◌, ℤ}
 use Rattle.laws.specs.Lists.{every}
 use Rattle.contract.specs.Decode.{contract_of}
 use Rattle.contract.specs.Check.{passes}
@@ -24,7 +24,3 @@ pub record AllReady (w ns : List ℕ) (zs : List ℤ) (from to size : ℕ) : Typ
   pub room : 128 * (to - from) ≤ size
   pub table : passes w ≡ true
   pub range : every (report_ok (contract_of w)) (reports_from ns zs from (to - from)) ≡ true
-
--- whether these reports stand there whole
-abbrev pub all_whole : List ℕ → List ℤ → ℕ → ℕ → Bool
-all_whole numbers integers from to = leb to from || (leb to (length numbers / 4) && leb to (length integers))

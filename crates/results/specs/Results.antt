@@ -1,5 +1,7 @@
 -- What writing a line answers, and what it leaves in the lent buffer.
-use Rattle.std.specs.Prelude.{◌≡◌, Bool, true, false, not, ℕ, ◌/◌, List, [], ◌∷◌, ◌++◌, length, take, drop, eqb, ltb}
+use Rattle.std.specs.Prelude.{◌≡◌, Bool, true, false, ℕ, ◌/◌, List, [], ◌∷◌, ◌++◌, length, take, drop, ltb, Result, Ok, Err}
+use Rattle.questions.specs.declared.Question.{Question}
+use Rattle.questions.specs.declared.Question.TheVariants as ask
 use Rattle.laws.specs.Choice.{pick}
 use Rattle.laws.specs.Lists.{every}
 use Rattle.contract.specs.Tree.{Contract}
@@ -7,26 +9,24 @@ use Rattle.contract.specs.Decode.{contract_of}
 use Rattle.contract.specs.Check.{passes}
 use Rattle.results.specs.Lines.{report_ok, line_of, text_refusal, text_line}
 use Rattle.results.specs.declared.Report.{Report}
-use Rattle.results.specs.declared.Written.{Written}
 use Rattle.results.specs.declared.Batch.{Batch}
-use Rattle.results.specs.declared.Written.TheVariants.{Wrote, Refused}
 
 -- what writing answers, for a table, a report and the buffer's length: questions 52, 3 and 53, else how many bytes the line has (`buffer_after` has the bytes)
-unfoldable pub written : List ℕ → Report → ℕ → Written
+unfoldable pub written : List ℕ → Report → ℕ → Result ℕ Question
 written w report size =
-    pick (ltb size 128) (Refused 52)
+    pick (ltb size 128) (Err ask.ResultRoom)
     (pick (passes w)
-    (pick (report_ok (contract_of w) report) (Wrote (length (line_of (contract_of w) report))) (Refused 53))
-    (Refused 3))
+    (pick (report_ok (contract_of w) report) (Ok (length (line_of (contract_of w) report))) (Err ask.ResultKinds))
+    (Err ask.TableCheck))
 
 -- the same of a refused text: questions 52 and 53, else how many bytes its line has
-unfoldable pub text_written : ℕ → ℕ → ℕ → Written
-text_written n place size = pick (ltb size 128) (Refused 52) (pick (text_refusal n) (Wrote (length (text_line n place))) (Refused 53))
+unfoldable pub text_written : ℕ → ℕ → ℕ → Result ℕ Question
+text_written n place size = pick (ltb size 128) (Err ask.ResultRoom) (pick (text_refusal n) (Ok (length (text_line n place))) (Err ask.ResultKinds))
 
 -- the buffer after an answer: a line that was written stands first, and the bytes after it are as they were
-unfoldable pub after : Written → List ℕ → List ℕ → List ℕ
-after (Wrote n) line old = line ++ drop n old
-after (Refused q) line old = old
+unfoldable pub after : Result ℕ Question → List ℕ → List ℕ → List ℕ
+after (Ok n) line old = line ++ drop n old
+after (Err q) line old = old
 
 abbrev pub buffer_after : List ℕ → Report → List ℕ → List ℕ
 buffer_after w report old = after (written w report (length old)) (line_of (contract_of w) report) old
@@ -41,28 +41,26 @@ unfoldable pub lines_of : Contract → List Report → List ℕ
 lines_of c [] = []
 lines_of c (r ∷ rs) = line_of c r ++ lines_of c rs
 
--- nothing is written, for question q
-abbrev pub nothing : ℕ → Batch
-nothing q = record { question = q; many = 0; used = 0 }
-
 -- the reports whose lines one call writes: as many as surely fit into a buffer of so many bytes, 128 to each, since no line is longer
 abbrev pub first_reports : ℕ → List Report → List Report
 first_reports size rs = take (size / 128) rs
 
 -- question 53 is asked of all of these before the first is written; which one it refuses is not told (`written` of each tells it)
-unfoldable pub batch_of : Contract → List Report → ℕ → Batch
+unfoldable pub batch_of : Contract → List Report → ℕ → Result Batch Question
 batch_of c rs size =
     pick (every (report_ok c) (first_reports size rs))
-    (record { question = 0; many = length (first_reports size rs); used = length (lines_of c (first_reports size rs)) })
-    (nothing 53)
+    (Ok (record { many = length (first_reports size rs); used = length (lines_of c (first_reports size rs)) }))
+    (Err ask.ResultKinds)
 
 -- questions 52 and 3 come first, once
-unfoldable pub batch : List ℕ → List Report → ℕ → Batch
-batch w rs size = pick (ltb size 128) (nothing 52) (pick (passes w) (batch_of (contract_of w) rs size) (nothing 3))
+unfoldable pub batch : List ℕ → List Report → ℕ → Result Batch Question
+batch w rs size =
+    pick (ltb size 128) (Err ask.ResultRoom) (pick (passes w) (batch_of (contract_of w) rs size) (Err ask.TableCheck))
 
--- the lines that were written stand first, and the bytes after them are as they were; a refused batch has none
-unfoldable pub batch_after : Contract → List Report → Batch → List ℕ → List ℕ
-batch_after c rs b old = lines_of c (take b.many rs) ++ drop b.used old
+-- the lines that were written stand first, and the bytes after them are as they were; a refused batch writes none
+unfoldable pub batch_after : Contract → List Report → Result Batch Question → List ℕ → List ℕ
+batch_after c rs (Ok b) old = lines_of c (take b.many rs) ++ drop b.used old
+batch_after c rs (Err q) old = old
 
 -- ---- a refused writing leaves the lent buffer as it was
 
@@ -72,15 +70,15 @@ pub data Writing : Type 0 where
   write_text_refusal : ℕ → ℕ → Writing
   write_batch : List ℕ → List Report → Writing
 
-abbrev pub is_refused : Written → Bool
-is_refused (Wrote n) = false
-is_refused (Refused q) = true
+abbrev pub is_refused : {A : Type 0} → Result A Question → Bool
+is_refused (Ok a) = false
+is_refused (Err q) = true
 
 -- whether it is refused, for the buffer's length
 abbrev pub refuses : Writing → ℕ → Bool
 refuses (write w report) size = is_refused (written w report size)
 refuses (write_text_refusal n place) size = is_refused (text_written n place size)
-refuses (write_batch w rs) size = not (eqb (batch w rs size).question 0)
+refuses (write_batch w rs) size = is_refused (batch w rs size)
 
 -- the buffer after it
 abbrev pub leaves : Writing → List ℕ → List ℕ

@@ -6,10 +6,15 @@ ghost use Rattle.contract.specs.Decode.{contract_of};
 ghost use Rattle.results.specs.Coded.{reports_from};
 ghost use Rattle.results.specs.Results.{written, text_written, buffer_after, text_buffer_after, batch, batch_after};
 
+use questions::Question;
+
 mod many;
 mod reports;
 
+pub use many::report_at;
+
 // A line that the desk prints.
+// Kept: the numbers of a lent buffer give it (`write_batch`), and question 53 judges each, so that a wrong one has to be sayable.
 #[derive(Clone, Copy)]
 pub enum Report {
     // A rule (0 an agreement, 1 a call, 2 a firing, 3 a tick or a jump), and the state's number and the clock after it.
@@ -31,53 +36,45 @@ impl Report {
     pub const WORDS: usize = 4;
 }
 
-// How many bytes were written, or the number of the question that refused; then nothing was.
-#[derive(Clone, Copy)]
-pub enum Written {
-    Wrote(usize),
-    Refused(u8),
-}
-
-// What came of many lines: the question that refused them or 0, how many were written, and how many bytes they have; none where refused.
+// What came of many lines: how many were written, and how many bytes they have.
 #[derive(Clone, Copy)]
 pub struct Batch {
-    pub question: u8,
     pub many: usize,
     pub used: usize,
 }
 
-// The line of a report on the contract in a table.
-pub fn write(table: &[u64], report: Report, buffer: &mut [u8]) -> Written
+// The line of a report on the contract in a table: how many bytes it has. A refusal leaves the buffer as it was.
+pub fn write(table: &[u64], report: Report, buffer: &mut [u8]) -> Result<usize, Question>
     ensures value { result ≡ written table.now report (length buffer.old) }
     ensures buffer_after { buffer.new ≡ buffer_after table.now report buffer.old }
 {
     if buffer.len() < Report::ROOM {
-        return Written::Refused(questions::RESULT_ROOM);
+        return Err(Question::ResultRoom);
     }
-    if tables::table_passes(table) {
-        if reports::report_ok(table, report) {
-            return Written::Wrote(reports::write_line(table, report, buffer));
-        }
-        return Written::Refused(questions::RESULT_KINDS);
+    if !tables::table_passes(table) {
+        return Err(Question::TableCheck);
     }
-    Written::Refused(questions::TABLE_CHECK)
+    if !reports::report_ok(table, report) {
+        return Err(Question::ResultKinds);
+    }
+    Ok(reports::write_line(table, report, buffer))
 }
 
 // The line of a refused text, by the question's number and the place.
-pub fn write_text_refusal(number: u8, place: usize, buffer: &mut [u8]) -> Written
+pub fn write_text_refusal(number: u8, place: usize, buffer: &mut [u8]) -> Result<usize, Question>
     ensures value { result ≡ text_written number place (length buffer.old) }
     ensures buffer_after { buffer.new ≡ text_buffer_after number place buffer.old }
 {
     if buffer.len() < Report::ROOM {
-        return Written::Refused(questions::RESULT_ROOM);
+        return Err(Question::ResultRoom);
     }
-    if reports::is_text_refusal(number) {
-        let space = reports::put_refused(buffer, 0, number);
-        let second = printing::put_byte(buffer, space, b' ');
-        let end = printing::put_number(buffer, second, place as u64);
-        return Written::Wrote(printing::put_byte(buffer, end, b'\n'));
+    if !reports::is_text_refusal(number) {
+        return Err(Question::ResultKinds);
     }
-    Written::Refused(questions::RESULT_KINDS)
+    let space = reports::put_refused(buffer, 0, number);
+    let second = printing::put_byte(buffer, space, b' ');
+    let end = printing::put_number(buffer, second, place as u64);
+    Ok(printing::put_byte(buffer, end, b'\n'))
 }
 
 // The lines of the reports numbered from `from` up to, not including, `to`: of as many as surely fit, 128 bytes to each. Question 53 is
@@ -89,23 +86,15 @@ pub fn write_batch(
     from: usize,
     to: usize,
     buffer: &mut [u8],
-) -> Batch
+) -> Result<Batch, Question>
     ensures value { result ≡ batch table.now (reports_from numbers.now integers.now from (to - from)) (length buffer.old) }
     ensures buffer_after { buffer.new ≡ batch_after (contract_of table.now) (reports_from numbers.now integers.now from (to - from)) result buffer.old }
 {
     if buffer.len() < Report::ROOM {
-        return Batch {
-            question: questions::RESULT_ROOM,
-            many: 0,
-            used: 0,
-        };
+        return Err(Question::ResultRoom);
     }
-    if tables::table_passes(table) {
-        return many::write_lines(table, numbers, integers, from, to, buffer);
+    if !tables::table_passes(table) {
+        return Err(Question::TableCheck);
     }
-    Batch {
-        question: questions::TABLE_CHECK,
-        many: 0,
-        used: 0,
-    }
+    many::write_lines(table, numbers, integers, from, to, buffer)
 }

@@ -13,28 +13,27 @@ use crate::Report;
 use contract::Contract;
 use printing::{put_byte, put_bytes, put_integer, put_name, put_number, put_word};
 
+#[tactic(auto, unfolding(contract::specs::Check::ranges))]
 fn between(lo: u8, n: u8, hi: u8) -> bool
     ensures { result ≡ ranges lo n hi }
 {
-    (lo <= n) & (n <= hi)
+    lo <= n && n <= hi
 }
 
+// The numbers that refuse a step or a session line.
+#[tactic(auto, unfolding(crate::specs::Lines::refusal, contract::specs::Check::ranges))]
 fn is_refusal(n: u8) -> bool
     ensures { result ≡ refusal n }
 {
-    (n == questions::TABLE_CHECK)
-        | ((n == questions::STATE_RANGES)
-            | (between(questions::LABEL_ROOM, n, questions::PARAMETERS_EMPTY)
-                | (between(questions::PENDING_ROOM, n, questions::SOMETHING_DUE)
-                    | (between(questions::LINE_LENGTH, n, questions::LINE_FORM)
-                        | (n == questions::TIME_NOT_PAST)))))
+    matches!(n, 3 | 4 | 20..=37 | 39..=41 | 50..=51 | 62)
 }
 
+// The numbers that refuse a text.
+#[tactic(auto, unfolding(crate::specs::Lines::text_refusal, contract::specs::Check::ranges))]
 pub(crate) fn is_text_refusal(n: u8) -> bool
     ensures { result ≡ text_refusal n }
 {
-    (n == questions::TEXT_LENGTH)
-        | ((n == questions::TABLE_LENGTH) | between(questions::BYTE, n, questions::FUNCTION_NEW))
+    matches!(n, 1 | 2 | 5..=15)
 }
 
 fn value_ok(table: &[u64], kind: u8, value: i64) -> bool
@@ -58,16 +57,18 @@ pub(crate) fn report_ok(table: &[u64], report: Report) -> bool
 {
     match report {
         Report::Ruled(rule, state, clock) => {
-            (rule <= 3) & (((state as u64) < contract::word(table, 3)) & (clock <= Contract::TOP))
+            rule <= 3 && (state as u64) < contract::word(table, 3) && clock <= Contract::TOP
         }
         Report::Sent(kind, party, value) => {
             between(1, kind, 3)
-                & (((party as u64) < contract::word(table, 0)) & value_ok(table, kind, value))
+                && (party as u64) < contract::word(table, 0)
+                && value_ok(table, kind, value)
         }
-        Report::Held(asset, amount) => ((asset as u64) < contract::word(table, 1))
-            & (amount <= Contract::TOP),
+        Report::Held(asset, amount) => {
+            (asset as u64) < contract::word(table, 1) && amount <= Contract::TOP
+        }
         Report::Refused(n) => is_refusal(n),
-        Report::Failed(n) => between(questions::FIELD_VALUE, n, questions::SUM_FITS),
+        Report::Failed(n) => between(30, n, 36),
     }
 }
 
@@ -81,21 +82,17 @@ pub(crate) fn put_refused(buffer: &mut [u8], at: usize, n: u8) -> usize
     put_number(buffer, first, n as u64)
 }
 
-// The name of a rule.
-fn put_rule_name(buffer: &mut [u8], at: usize, rule: u8) -> usize
-    ensures value { result ≡ place_after buffer.old at (rule_name rule) }
-    ensures buffer_after { buffer.new ≡ put buffer.old at (rule_name rule) }
+// The word that a rule is called by.
+#[tactic(auto, unfolding(crate::specs::Lines::rule_name, laws::specs::Choice::pick))]
+fn rule_word(rule: u8) -> u8
+    ensures { spelled result ≡ rule_name rule }
 {
-    if rule == 0 {
-        return put_word(buffer, at, words::AGREE);
+    match rule {
+        0 => words::AGREE,
+        1 => words::FUNCTION,
+        2 => words::EVENT_MATCH,
+        _ => words::TICK,
     }
-    if rule == 1 {
-        return put_word(buffer, at, words::FUNCTION);
-    }
-    if rule == 2 {
-        return put_word(buffer, at, words::EVENT_MATCH);
-    }
-    put_word(buffer, at, words::TICK)
 }
 
 // The name of a rule in its brackets, and a space.
@@ -104,7 +101,7 @@ fn put_rule(buffer: &mut [u8], rule: u8) -> usize
     ensures { Put buffer.old 0 (bytes "[" ++ (rule_name rule ++ bytes "] ")) result buffer.new }
 {
     let name = put_byte(buffer, 0, b'[');
-    let end = put_rule_name(buffer, name, rule);
+    let end = put_word(buffer, name, rule_word(rule));
     put_bytes(buffer, end, b"] ")
 }
 
@@ -138,15 +135,15 @@ fn put_value(table: &[u64], kind: u8, value: i64, buffer: &mut [u8]) -> usize
     put_integer(buffer, 0, value)
 }
 
-// The arrow of a label.
-fn put_mark(buffer: &mut [u8], at: usize, kind: u8) -> usize
-    ensures value { result ≡ place_after buffer.old at (arrow kind) }
-    ensures buffer_after { buffer.new ≡ put buffer.old at (arrow kind) }
+// The word that is a label's arrow.
+#[tactic(auto, unfolding(crate::specs::Lines::arrow, laws::specs::Choice::pick))]
+fn arrow_word(kind: u8) -> u8
+    ensures { spelled result ≡ arrow kind }
 {
-    if kind == 3 {
-        return put_word(buffer, at, words::ASSET_ARROW);
+    match kind {
+        3 => words::ASSET_ARROW,
+        _ => words::VALUE_ARROW,
     }
-    put_word(buffer, at, words::VALUE_ARROW)
 }
 
 // The arrow of a label, between spaces.
@@ -155,7 +152,7 @@ fn put_arrow(buffer: &mut [u8], at: usize, kind: u8) -> usize
     ensures { Put buffer.old at (bytes " " ++ (arrow kind ++ bytes " ")) result buffer.new }
 {
     let mark = put_byte(buffer, at, b' ');
-    let end = put_mark(buffer, mark, kind);
+    let end = put_word(buffer, mark, arrow_word(kind));
     put_byte(buffer, end, b' ')
 }
 

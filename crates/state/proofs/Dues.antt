@@ -3,11 +3,13 @@ use mathlib.Core.Path.{◌≡◌, refl, sym, ap, subst, ◌∙◌}
 use mathlib.Core.Bool.{Bool, true, false, not, ◌&&◌}
 use mathlib.Core.List.{List}
 use Prim.Native.Nat.{ℕ, zero, suc, ◌+◌, ◌<◌, ◌≤◌}
+use native.Mathlib.Numerals.{add-one}
 use native.Mathlib.Omega.{arith}
 use lib.ListN.{length, get_or, drop, drop_of_length-le}
 use lib.Seq.{drop-cons}
 use lib.Dec.{eqb, ltb}
 use borrow.Author.Tests.{ltb-true, eqb-true, eqb-false, lt-ltb, eq-eqb, ne_eqb}
+use Rattle.std.proofs.lemmas.List.{get_or_default}
 use Rattle.laws.specs.Choice.{pick}
 use Rattle.laws.proofs.Choice.{pick_true, pick_false, by_cases, true_false}
 use Rattle.laws.proofs.Truths.{both_left, both_right, both_of, both_true, not_true, not_so}
@@ -17,8 +19,7 @@ use Rattle.state.specs.States.{blank, live, is_due, stands_before, is_foremost, 
 use Rattle.state.specs.Private.{takes_over}
 use Rattle.state.specs.declared.State.{State}
 use Rattle.state.specs.declared.Pending.{Pending}
-use Rattle.state.specs.declared.Due.{Due}
-use Rattle.state.specs.declared.Due.TheVariants.{At, Nothing}
+use Rattle.std.specs.Prelude.{Option, Some, None, option_map}
 use Rattle.state.proofs.First.{searched, one_turn, turns_end}
 
 -- ---- the text's order
@@ -91,19 +92,14 @@ module _ (test : Pending → Bool) (l : List Pending) where
     none_before : (j : ℕ) → j < i → test (event j) ≡ true → stands_before (event j) (event k) ≡ false
     none_older : (j : ℕ) → j < k → test (event j) ≡ true → (event j).function ≡ (event k).function → (event j).event ≡ (event k).event → ⊥
 
-  -- what has been found among the first i
-  abbrev Says : ℕ → Due → Type 0
-  Says i (At k) = FirstOf i k
-  Says i Nothing = (j : ℕ) → j < i → test (event j) ≡ false
-
-  -- the event of what has been found
-  abbrev Its : Due → Pending → Type 0
-  Its (At k) p = p ≡ event k
-  Its Nothing p = Unit {0}
+  -- what has been found among the first i: an event with its place
+  abbrev Says : ℕ → Option (ℕ × Pending) → Type 0
+  Says i (Some (k, p)) = FirstOf i k × (p ≡ event k)
+  Says i None = (j : ℕ) → j < i → test (event j) ≡ false
 
   -- the event at place i takes the place of what was found
-  taken : (i : ℕ) (d : Due) (p : Pending) → Says i d → Its d p → test (event i) ≡ true → takes_over d p (event i) ≡ true → FirstOf (suc i) i
-  taken i (At k) p f q e b =
+  taken : (i : ℕ) (d : Option (ℕ × Pending)) → Says i d → test (event i) ≡ true → takes_over d (event i) ≡ true → FirstOf (suc i) i
+  taken i (Some (k, p)) (f, q) e b =
       let c : stands_before (event i) (event k) ≡ true = subst (λ (r : Pending). stands_before (event i) r ≡ true) q b in
       record {
         below = omega arith;
@@ -114,7 +110,7 @@ module _ (test : Pending → Bool) (l : List Pending) where
             (λ t. not_so _ (before_itself (event i)));
         none_older = λ j h t u v. true_false (sym (same_before (event j) (event i) u v (event k) c) ∙ f.none_before j h t);
       }
-  taken i Nothing p f q e b =
+  taken i None f e b =
       record {
         below = omega arith;
         passes = e;
@@ -123,36 +119,39 @@ module _ (test : Pending → Bool) (l : List Pending) where
       }
 
   -- it does not, or fails the test
-  left : (i : ℕ) (d : Due) (p : Pending) → Says i d → Its d p → (test (event i) && takes_over d p (event i)) ≡ false → Says (suc i) d
-  left i (At k) p f q b =
-      record {
-        below = omega (arith, f.below);
-        passes = f.passes;
-        none_before =
-            up_to i f.none_before
-            (λ t. not_so _ λ x. true_false (sym (both_true _ _ t (subst (λ (r : Pending). stands_before (event i) r ≡ true) (sym q) x)) ∙ b));
-        none_older = f.none_older;
-      }
-  left i Nothing p f q b = up_to i f (not_so _ λ x. true_false (sym (both_true _ _ x refl) ∙ b))
+  left : (i : ℕ) (d : Option (ℕ × Pending)) → Says i d → (test (event i) && takes_over d (event i)) ≡ false → Says (suc i) d
+  left i (Some (k, p)) (f, q) b = (
+    record {
+      below = omega (arith, f.below);
+      passes = f.passes;
+      none_before =
+          up_to i f.none_before
+          (λ t. not_so _ λ x. true_false (sym (both_true _ _ t (subst (λ (r : Pending). stands_before (event i) r ≡ true) (sym q) x)) ∙ b));
+      none_older = f.none_older;
+    },
+    q,
+  )
+  left i None f b = up_to i f (not_so _ λ x. true_false (sym (both_true _ _ x refl) ∙ b))
 
   -- from place i on, n places before the end
-  search_says : (n i : ℕ) → i + n ≡ length l → (d : Due) (p : Pending) → Says i d → Its d p → Says (length l) (searched test d p i (drop i l))
-  search_says zero i e d p f q = subst (Says (length l)) (sym (turns_end test l d p i (omega arith))) (subst (λ (m : ℕ). Says m d) (omega arith) f)
-  search_says (suc n) i e d p f q =
-      subst (Says (length l)) (sym (one_turn test l d p i (omega arith)))
-      (by_cases (Says (length l)) (test (event i) && takes_over d p (event i)) _ _
-      (λ b.
-      let x = both_of (test (event i)) (takes_over d p (event i)) b in
-      search_says n (suc i) (omega arith) (At i) (event i) (taken i d p f q x.0 x.1) refl)
-      (λ b. search_says n (suc i) (omega arith) d p (left i d p f q b) q))
+  search_says : (n i : ℕ) → i + n ≡ length l → (d : Option (ℕ × Pending)) → Says i d → Says (length l) (searched test d i (drop i l))
+  search_says zero i e d f = subst (Says (length l)) (sym (turns_end test l d i (omega arith))) (subst (λ (m : ℕ). Says m d) (omega arith) f)
+  search_says (suc n) i e d f =
+      let h : i < length l = omega arith in
+      subst (Says (length l)) (sym (one_turn test l d i (event i) h (get_or_default l i blank (event i) h)))
+      (rw (add-one)
+      (search_says n (suc i) (omega arith) (pick (test (event i) && takes_over d (event i)) (Some (i, event i)) d)
+      (by_cases (Says (suc i)) (test (event i) && takes_over d (event i)) (Some (i, event i)) d
+      (λ b. let x = both_of (test (event i)) (takes_over d (event i)) b in (taken i d f x.0 x.1, refl))
+      (left i d f))))
 
 -- ---- the first that is foremost
 
 module _ (c : Contract) (s : State) where
   -- what the definition says, by places
-  abbrev Tells : Due → Type 0
-  Tells (At k) = (k < length (live s)) × (is_foremost c s (pending_at s k) ≡ true) × ((j : ℕ) → j < k → is_foremost c s (pending_at s j) ≡ false)
-  Tells Nothing = (j : ℕ) → j < length (live s) → is_foremost c s (pending_at s j) ≡ false
+  abbrev Tells : Option ℕ → Type 0
+  Tells (Some k) = (k < length (live s)) × (is_foremost c s (pending_at s k) ≡ true) × ((j : ℕ) → j < k → is_foremost c s (pending_at s j) ≡ false)
+  Tells None = (j : ℕ) → j < length (live s) → is_foremost c s (pending_at s j) ≡ false
 
   from_place : (n i : ℕ) → i + n ≡ length (live s) → ((j : ℕ) → j < i → is_foremost c s (pending_at s j) ≡ false) → Tells (first_due c s i (drop i (live s)))
   unfolding first_due
@@ -183,10 +182,10 @@ module _ (c : Contract) (s : State) where
       (λ j h. ap not (not_so (is_due c s (pending_at s j) && stands_before (pending_at s j) p) λ b. let x = both_of _ _ b in true_false (sym x.1 ∙ f j h x.0))))
 
   -- document 02's words of the event that is found
-  pub first_to_fire : (k : ℕ) → due_in c s ≡ At k → FirstToFire c s k
+  pub first_to_fire : (k : ℕ) → due_in c s ≡ Some k → FirstToFire c s k
   unfolding is_foremost
   first_to_fire k e =
-      let f : Tells (At k) = subst Tells e due_tells in
+      let f : Tells (Some k) = subst Tells e due_tells in
       record {
         is_pending = f.0;
         is-due = both_left (is_due c s (pending_at s k)) _ f.1;
@@ -208,43 +207,43 @@ module _ (c : Contract) (s : State) where
       let y : (m < k → ⊥) = not_later g f in
       omega arith
 
-  abbrev search : Due
-  search = searched (is_due c s) Nothing blank 0 (live s)
+  abbrev search : Option (ℕ × Pending)
+  search = searched (is_due c s) None 0 (live s)
 
   search_told : Says (is_due c s) (live s) (length (live s)) search
-  search_told = search_says (is_due c s) (live s) (length (live s)) 0 (omega arith) Nothing blank (λ j h. absurd (omega arith)) tt
+  search_told = search_says (is_due c s) (live s) (length (live s)) 0 (omega arith) None (λ j h. absurd (omega arith))
 
   of_search : {k : ℕ} → FirstOf (is_due c s) (live s) (length (live s)) k → FirstToFire c s k
   of_search f = record { is_pending = f.below; is-due = f.passes; none_before = f.none_before; none_older = f.none_older }
 
   -- none is found only if none is due: else the search finds one, and it is foremost
-  pub none_to_fire : due_in c s ≡ Nothing → (j : ℕ) → j < length (live s) → is_due c s (pending_at s j) ≡ false
+  pub none_to_fire : due_in c s ≡ None → (j : ℕ) → j < length (live s) → is_due c s (pending_at s j) ≡ false
   none_to_fire e = go search search_told
     where
-      go : (d : Due) → Says (is_due c s) (live s) (length (live s)) d → (j : ℕ) → j < length (live s) → is_due c s (pending_at s j) ≡ false
-      go (At k) f j h = true_false (sym (is_foremost_lem (pending_at s k) f.passes f.none_before) ∙ subst Tells e due_tells k f.below)
-      go Nothing f j h = f j h
+      go : (d : Option (ℕ × Pending)) → Says (is_due c s) (live s) (length (live s)) d → (j : ℕ) → j < length (live s) → is_due c s (pending_at s j) ≡ false
+      go (Some (k, p)) (f, q) j h = true_false (sym (is_foremost_lem (pending_at s k) f.passes f.none_before) ∙ subst Tells e due_tells k f.below)
+      go None f j h = f j h
 
   -- no other place is the one
-  pub one_to_fire : {k : ℕ} → FirstToFire c s k → due_in c s ≡ At k
+  pub one_to_fire : {k : ℕ} → FirstToFire c s k → due_in c s ≡ Some k
   one_to_fire {k} f = go (due_in c s) refl
     where
-      go : (d : Due) → due_in c s ≡ d → d ≡ At k
-      go (At m) e = ap At (one_place (first_to_fire m e) f)
-      go Nothing e = true_false (sym f.is-due ∙ none_to_fire e k f.is_pending)
+      go : (d : Option ℕ) → due_in c s ≡ d → d ≡ Some k
+      go (Some m) e = ap Some (one_place (first_to_fire m e) f)
+      go None e = true_false (sym f.is-due ∙ none_to_fire e k f.is_pending)
 
   -- where none is due, none is found
-  pub due_none : ((j : ℕ) → j < length (live s) → is_due c s (pending_at s j) ≡ false) → due_in c s ≡ Nothing
+  pub due_none : ((j : ℕ) → j < length (live s) → is_due c s (pending_at s j) ≡ false) → due_in c s ≡ None
   due_none f = go (due_in c s) refl
     where
-      go : (d : Due) → due_in c s ≡ d → d ≡ Nothing
-      go (At m) e = let x = first_to_fire m e in true_false (sym x.is-due ∙ f m x.is_pending)
-      go Nothing e = refl
+      go : (d : Option ℕ) → due_in c s ≡ d → d ≡ None
+      go (Some m) e = let x = first_to_fire m e in true_false (sym x.is-due ∙ f m x.is_pending)
+      go None e = refl
 
   -- the search finds it
-  pub search_finds : search ≡ due_in c s
+  pub search_finds : option_map (λ x. x.0) search ≡ due_in c s
   search_finds = go search search_told
     where
-      go : (d : Due) → Says (is_due c s) (live s) (length (live s)) d → d ≡ due_in c s
-      go (At k) f = sym (one_to_fire (of_search f))
-      go Nothing f = sym (due_none f)
+      go : (d : Option (ℕ × Pending)) → Says (is_due c s) (live s) (length (live s)) d → option_map (λ x. x.0) d ≡ due_in c s
+      go (Some (k, p)) (f, q) = sym (one_to_fire (of_search f))
+      go None f = sym (due_none f)

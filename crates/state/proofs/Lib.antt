@@ -1,6 +1,5 @@
 pub mod Decoded
 pub mod Lengths
-pub mod Parts
 pub mod Rows
 pub mod First
 pub mod Dues
@@ -9,3 +8,4 @@ pub mod Each
 pub mod Fresh
 pub mod Within
 pub mod Passing
+pub mod Ranges

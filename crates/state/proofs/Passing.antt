@@ -6,7 +6,7 @@ use Prim.Native.Nat.{ℕ, zero, suc, ◌+◌, ◌-◌, ◌<◌, ◌≤◌}
 use native.Mathlib.Nat.{add-zero}
 use native.Mathlib.Omega.{arith}
 use lib.ListN.{length, take, get_or, length-take}
-use lib.Seq.{take_all, get_or-take}
+use lib.Seq.{take_all}
 use lib.Dec.{eqb, leb, ltb}
 use borrow.Author.Tests.{lt-ltb, le-ltb, le-leb, lt-leb, ltb-true, ltb-false, leb-true, leb-false, eqb-true, eqb-false, eq-eqb, ne_eqb}
 use Rattle.laws.specs.Choice.{pick}
@@ -18,14 +18,13 @@ use Rattle.contract.specs.Limits.{top}
 use Rattle.contract.specs.Tree.{Contract}
 use Rattle.state.specs.declared.State.{State}
 use Rattle.state.specs.declared.Pending.{Pending}
-use Rattle.state.specs.declared.Due.{Due}
-use Rattle.state.specs.declared.Due.TheVariants.{At, Nothing}
+use Rattle.std.specs.Prelude.{Option, Some, None}
 use Rattle.state.specs.States.{max_pending, blank, live, event_of, field_slot_ok, asset_slot_ok, pending_ok, state_ok, is_due, due_in, pending_at, with_pending, with_times, later, lapsed, time_passed, passed_times, unless_due, times_until_due, FirstStop}
 use Rattle.state.specs.Private.{not_dropped, comes_due, due_at}
 use Rattle.state.proofs.Kept.{one_more}
 use Rattle.state.proofs.Each.{Each, none, more, each_append, each_get_or, each_of, each_keep}
 use Rattle.state.proofs.Dues.{none_to_fire, due_none}
-use Rattle.state.proofs.First.{other_time, due_now, in_take}
+use Rattle.state.proofs.First.{other_time, due_now}
 use Rattle.state.proofs.Within.{Within, within, is_ok, slots_ok, lapsed_later, live_lapsed}
 
 -- ---- lists
@@ -203,13 +202,13 @@ module _ (c : Contract) (s : State) (n : ℕ) where
       other_time c (s.clock + n) s.state p λ q.
       true_false (sym (late_stays s.clock (s.clock + n) p.time (omega arith)) ∙ e)
 
-  nothing_then : due_in c (passed_times n s) ≡ Nothing → Each (λ p. due_at c (s.clock + n) s.state p ≡ false) (live s)
+  nothing_then : due_in c (passed_times n s) ≡ None → Each (λ p. due_at c (s.clock + n) s.state p ≡ false) (live s)
   nothing_then d =
       kept_each (λ p. not_dropped s.clock (s.clock + n) p.time) (due_at c (s.clock + n) s.state) dropped_idle (live s)
       (subst (Each (λ p. due_at c (s.clock + n) s.state p ≡ false)) (passed_live n s)
       (each_of (live (passed_times n s)) blank λ j h. (λ i. sym due_then i (pending_at (passed_times n s) j)) ∙ none_to_fire c (passed_times n s) d j h))
 
-  then_nothing : Each (λ p. due_at c (s.clock + n) s.state p ≡ false) (live s) → due_in c (passed_times n s) ≡ Nothing
+  then_nothing : Each (λ p. due_at c (s.clock + n) s.state p ≡ false) (live s) → due_in c (passed_times n s) ≡ None
   then_nothing e =
       due_none c (passed_times n s) λ j h.
       (λ i. due_then i (pending_at (passed_times n s) j))
@@ -222,18 +221,18 @@ unfolding times_until_due passed_times
 first_stop c zero s = record { no_further = omega arith; not_before = λ k h. absurd (omega arith); due_or_most = λ d. refl }
 first_stop c (suc most) s = go (due_in c s) refl (first_stop c most (time_passed s))
   where
-    before : due_in c s ≡ Nothing → {n : ℕ} → FirstStop c most (time_passed s) n → (k : ℕ) → k < suc n → due_in c (passed_times k s) ≡ Nothing
+    before : due_in c s ≡ None → {n : ℕ} → FirstStop c most (time_passed s) n → (k : ℕ) → k < suc n → due_in c (passed_times k s) ≡ None
     before d f zero h = d
     before d f (suc k) h = f.not_before k (omega arith)
 
-    go : (x : Due) → due_in c s ≡ x → FirstStop c most (time_passed s) (times_until_due c most (time_passed s)) → FirstStop c (suc most) s (unless_due (suc (times_until_due c most (time_passed s))) x)
-    go (At k) d f =
+    go : (x : Option ℕ) → due_in c s ≡ x → FirstStop c most (time_passed s) (times_until_due c most (time_passed s)) → FirstStop c (suc most) s (unless_due (suc (times_until_due c most (time_passed s))) x)
+    go (Some k) d f =
         record {
           no_further = omega arith;
           not_before = λ k h. absurd (omega arith);
-          due_or_most = λ e. let g : At k ≡ Nothing = sym d ∙ e in let z : ◌≡◌ {A = ℕ} 0 1 = cc in absurd (omega arith);
+          due_or_most = λ e. let g : Some k ≡ None = sym d ∙ e in let z : ◌≡◌ {A = ℕ} 0 1 = cc in absurd (omega arith);
         }
-    go Nothing d f =
+    go None d f =
         record {
           no_further = omega (arith, f.no_further);
           not_before = before d f;
@@ -306,11 +305,11 @@ module _ (c : Contract) (state clock : ℕ) where
   pub soonest_none : (to : ℕ) (ps : List Pending) → clock ≤ to → Soonest c state clock to ps 0 to
   soonest_none to ps h = record { not_early = h; not_late = omega arith; none_sooner = none; stands = at_end refl }
 
-  module _ (to n : ℕ) (l : List Pending) (i stop : ℕ) (h : Soonest c state clock to (take n l) i stop) (k : i < n) (m : i < length l) where
-    pub soonest_more : Soonest c state clock to (take n l) (i + 1) (pick (comes_due c state clock stop (get_or l i blank)) (get_or l i blank).time stop)
+  module _ (to : ℕ) (l : List Pending) (i stop : ℕ) (h : Soonest c state clock to l i stop) (m : i < length l) where
+    pub soonest_more : Soonest c state clock to l (i + 1) (pick (comes_due c state clock stop (get_or l i blank)) (get_or l i blank).time stop)
     soonest_more =
         let p : Pending = get_or l i blank in
-        by_cases (Soonest c state clock to (take n l) (i + 1)) (comes_due c state clock stop p) p.time stop
+        by_cases (Soonest c state clock to l (i + 1)) (comes_due c state clock stop p) p.time stop
         (λ e.
         let x = comes_true stop p e in
         record {
@@ -318,14 +317,13 @@ module _ (c : Contract) (state clock : ℕ) where
           not_late = omega (arith, x.1, h.not_late);
           none_sooner = and_this p.time (each_map (comes_less stop p.time (omega (arith, x.1))) h.none_sooner) (comes_not p);
           stands =
-              at_event i (in_take n l i k m)
-              (ap (due_at c p.time state) (get_or-take n l i blank k) ∙ due_now c p.time state p refl x.2);
+              at_event i m (due_now c p.time state p refl x.2);
         })
         (λ e. record { not_early = h.not_early; not_late = h.not_late; none_sooner = and_this stop h.none_sooner e; stands = h.stands })
       where
-        and_this : (z : ℕ) → Each (λ p. comes_due c state clock z p ≡ false) (take i (take n l)) → comes_due c state clock z (get_or l i blank) ≡ false
-            → Each (λ p. comes_due c state clock z p ≡ false) (take (i + 1) (take n l))
-        and_this z e q = subst (Each (λ p. comes_due c state clock z p ≡ false)) (sym (one_more n l i blank k m)) (each_append e (more q none))
+        and_this : (z : ℕ) → Each (λ p. comes_due c state clock z p ≡ false) (take i l) → comes_due c state clock z (get_or l i blank) ≡ false
+            → Each (λ p. comes_due c state clock z p ≡ false) (take (i + 1) l)
+        and_this z e q = subst (Each (λ p. comes_due c state clock z p ≡ false)) (sym (one_more l i blank m)) (each_append e (more q none))
 
   -- what does not come before the stop is not due before it
   idle_before : (stop t : ℕ) → clock ≤ t → t < stop → (p : Pending) → comes_due c state clock stop p ≡ false → due_at c t state p ≡ false

@@ -1,16 +1,8 @@
--- How the pending events stand in their slots, which of them is due, and takes another's place, and which of them time passing drops or meets.
-use Rattle.std.specs.Prelude.{Bool, true, ◌&&◌, ◌||◌, List, ◌++◌, ℕ, ◌-◌, eqb, leb, ltb, length}
+-- Which pending event is due, which takes another's place, and which of them time passing drops or meets.
+use Rattle.std.specs.Prelude.{Bool, true, ◌&&◌, ◌||◌, ℕ, eqb, leb, ltb, Option, Some, None}
 use Rattle.contract.specs.Tree.{Contract}
-use Rattle.state.specs.States.{max_pending, blank, event_of, stands_before}
-use Rattle.laws.specs.Lists.{repeated}
+use Rattle.state.specs.States.{event_of, stands_before}
 use Rattle.state.specs.declared.Pending.{Pending}
-use Rattle.state.specs.declared.Slots.{Slots}
-use Rattle.state.specs.declared.Due.{Due}
-use Rattle.state.specs.declared.Due.TheVariants.{At, Nothing}
-
--- these in front, and blank slots after them
-unfoldable pub slots_of : List Pending → Slots
-slots_of ps = record { pending = length ps; events = ps ++ repeated (max_pending - length ps) blank }
 
 -- an event of this time is not dropped while the clock rises from one value to another
 unfoldable pub not_dropped : ℕ → ℕ → ℕ → Bool
@@ -24,7 +16,7 @@ comes_due c state from stop p = leb from p.time && (ltb p.time stop && eqb (even
 unfoldable pub due_at : Contract → ℕ → ℕ → Pending → Bool
 due_at c clock state p = eqb p.time clock && eqb (event_of c p).state state
 
--- event p takes the place of what was found so far: of nothing always, of the event `first` if p stands before that in the text
-abbrev pub takes_over : Due → Pending → Pending → Bool
-takes_over Nothing first p = true
-takes_over (At k) first p = stands_before p first
+-- event p takes the place of what was found so far: of nothing always, of an event with its place if p stands before that in the text
+abbrev pub takes_over : Option (ℕ × Pending) → Pending → Bool
+takes_over None p = true
+takes_over (Some (k, first)) p = stands_before p first

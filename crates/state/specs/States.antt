@@ -1,6 +1,6 @@
 -- The state of a contract: fresh, within its ranges (question 4), which pending events are due and which of them comes first, and how time
 -- passes.
-use Rattle.std.specs.Prelude.{ℕ, zero, suc, ◌-◌, ◌≤◌, ◌<◌, Bool, true, false, not, ◌&&◌, List, [], ◌∷◌, ◌++◌, ◌≡◌, length, get_or, take, drop, set, eqb, leb, ltb, ℤ, pos}
+use Rattle.std.specs.Prelude.{ℕ, zero, suc, ◌-◌, ◌≤◌, ◌<◌, Bool, true, false, not, ◌&&◌, List, [], ◌∷◌, ◌++◌, ◌≡◌, length, get_or, take, drop, set, eqb, leb, ltb, ℤ, pos, Option, Some, None}
 use Rattle.laws.specs.Choice.{pick}
 use Rattle.numbers.specs.Numbers.{eq_z}
 use Rattle.contract.specs.Limits.{top, max_assets, max_fields}
@@ -8,8 +8,6 @@ use Rattle.laws.specs.Lists.{all_below}
 use Rattle.contract.specs.Tree.{Word, Contract, Function, Event, none, omitted, broken_expression}
 use Rattle.state.specs.declared.State.{State}
 use Rattle.state.specs.declared.Pending.{Pending}
-use Rattle.state.specs.declared.Due.{Due}
-use Rattle.state.specs.declared.Due.TheVariants.{At, Nothing}
 use Rattle.laws.specs.Lists.{every, repeated, keep}
 
 -- at most so many events are pending
@@ -114,13 +112,13 @@ unfoldable pub is_foremost : Contract → State → Pending → Bool
 is_foremost c s p = is_due c s p && every (λ r. not (is_due c s r && stands_before r p)) (live s)
 
 -- the place of the first of these that is foremost, counted from i
-unfoldable pub first_due : Contract → State → ℕ → List Pending → Due
-first_due c s i [] = Nothing
-first_due c s i (p ∷ ps) = pick (is_foremost c s p) (At i) (first_due c s (suc i) ps)
+unfoldable pub first_due : Contract → State → ℕ → List Pending → Option ℕ
+first_due c s i [] = None
+first_due c s i (p ∷ ps) = pick (is_foremost c s p) (Some i) (first_due c s (suc i) ps)
 
 -- where the first due event is: among due events the one that stands first in the contract's text; for two of the same event in the text,
--- the older (document 02, F-4); Nothing if none is due
-unfoldable pub due_in : Contract → State → Due
+-- the older (document 02, F-4); None if none is due
+unfoldable pub due_in : Contract → State → Option ℕ
 due_in c s = first_due c s 0 (live s)
 
 -- the pending event at a place, the oldest at 0
@@ -225,9 +223,9 @@ passed_times zero s = s
 passed_times (suc n) s = passed_times n (time_passed s)
 
 -- 0 where an event is due
-abbrev pub unless_due : ℕ → Due → ℕ
-unless_due n (At k) = 0
-unless_due n Nothing = n
+abbrev pub unless_due : ℕ → Option ℕ → ℕ
+unless_due n (Some k) = 0
+unless_due n None = n
 
 -- how many times time passes until an event is due, `most` if none is due before
 unfoldable pub times_until_due : Contract → ℕ → State → ℕ
@@ -238,8 +236,8 @@ times_until_due c (suc most) s = unless_due (suc (times_until_due c most (time_p
 -- `times_until_due c most s`, and of no other number (`one_stop`)
 pub record FirstStop (c : Contract) (most : ℕ) (s : State) (n : ℕ) : Type 0 where
   pub no_further : n ≤ most
-  pub not_before : (k : ℕ) → k < n → due_in c (passed_times k s) ≡ Nothing
-  pub due_or_most : due_in c (passed_times n s) ≡ Nothing → n ≡ most
+  pub not_before : (k : ℕ) → k < n → due_in c (passed_times k s) ≡ None
+  pub due_or_most : due_in c (passed_times n s) ≡ None → n ≡ most
 
 -- ---- names
 

@@ -5,12 +5,14 @@ use mathlib.Core.List.{List}
 use Prim.Native.Nat.{ℕ, ◌-◌, ◌<◌, ◌≤◌}
 use native.Mathlib.Omega.{arith}
 use lib.IntN.{ℤ}
-use lib.Dec.{eqb, leb, ltb}
-use borrow.Author.Tests.{le-leb, lt-leb, le-ltb, lt-ltb, eq-eqb, ne_eqb, eqb-true, eqb-false, ltb-false, leb-true}
+use lib.Dec.{eqb, ltb}
+use borrow.Author.Tests.{le-leb, lt-leb, le-ltb, eq-eqb, ne_eqb, eqb-true, eqb-false, ltb-false, leb-true}
+use Rattle.std.specs.Prelude.{Option, None, Some, is_none, Result, Ok, Err}
 use Rattle.laws.specs.Choice.{pick}
+use Rattle.questions.specs.declared.Question.{Question}
+use Rattle.questions.specs.declared.Question.TheVariants as ask
 use Rattle.laws.proofs.Choice.{pick_true, pick_false, true_false}
-use Rattle.numbers.specs.declared.Truth.{Truth}
-use Rattle.numbers.specs.declared.Truth.TheVariants.{Holds, Refused}
+use Rattle.numbers.specs.Numbers.{Truth}
 use Rattle.contract.specs.Tree.{perform, conditional, broken_block}
 use Rattle.contract.specs.Table.{kind_at, argument_at, size_at}
 use Rattle.contract.specs.Rows.{node_of}
@@ -19,8 +21,9 @@ use Rattle.contract.specs.Decode.{block_between, condition_at}
 use Rattle.contract_laws.proofs.Levels.{block_step}
 use Rattle.evaluation.specs.Meaning.{truth_of}
 use Rattle.statements.specs.declared.Work.{Work}
-use Rattle.statements.specs.Running.{memory_in, stopped, onward, performed, by_truth, ran, work_from}
-use Rattle.statements.specs.Private.{truth_refusal, end_before, action_at, statement_at, branched, performed_at}
+use Rattle.statements.specs.declared.Halt.{Halt}
+use Rattle.statements.specs.Running.{memory_in, stopped, onward, performed, by_truth, ran, sent_unless, Ended, end_of}
+use Rattle.statements.specs.Private.{end_before, action_at, statement_at, branched, performed_at}
 
 -- the block before the statement at node k ends there or before
 pub before_falls : (w : List ℕ) (k : ℕ) → end_before w k ≤ k
@@ -89,30 +92,24 @@ module _ (w : List ℕ) (from end : ℕ) (h : from < end) where
 
 -- ---- running it
 
+-- an end with the lists of a work
+abbrev ended_by : Work → Result ℕ Halt → Ended
+ended_by x r = record { kinds = x.kinds; numbers = x.numbers; texts = x.texts; holdings = x.holdings; labels = x.labels; sent = r }
+
 -- before the first statement, which must start where the block does
-pub ran_none : (v : List ℤ) (c : ℕ) (x : Work) (w : List ℕ) (from end : ℕ) → end ≤ from → x.refusal ≡ 0 → (n m : ℕ) → n ≡ x.count → m ≡ pick (eqb end from) 0 3
-    → work_from x.kinds x.numbers x.texts x.holdings x.labels n m ≡ ran v c x (block_between w from end)
+pub ran_none : (v : List ℤ) (c : ℕ) (x : Work) (w : List ℕ) (from end : ℕ) → end ≤ from → x.refusal ≡ None → (r : Result ℕ Halt)
+    → r ≡ pick (eqb end from) (Ok x.count) (Err (record { question = ask.TableCheck; count = x.count })) → ended_by x r ≡ end_of (ran v c x (block_between w from end))
 unfolding ran
-ran_none v c x w from end h z n m en em =
-    (λ i. work_from x.kinds x.numbers x.texts x.holdings x.labels (en i) (em i)) ∙ go (eqb end from) refl
+ran_none v c x w from end h z r er = ap (ended_by x) er ∙ go (eqb end from) refl
   where
-    go : (b : Bool) → eqb end from ≡ b → stopped x (pick (eqb end from) 0 3) ≡ ran v c x (block_between w from end)
-    go true e = ap (stopped x) (pick_true _ _ _ e ∙ sym z) ∙ sym (ap (ran v c x) (block_step w from end ∙ pick_true _ _ _ (le-leb end from h) ∙ pick_true _ _ _ e))
-    go false e = ap (stopped x) (pick_false _ _ _ e) ∙ sym (ap (ran v c x) (block_step w from end ∙ pick_true _ _ _ (le-leb end from h) ∙ pick_false _ _ _ e))
+    go : (b : Bool) → eqb end from ≡ b → ended_by x (pick (eqb end from) (Ok x.count) (Err (record { question = ask.TableCheck; count = x.count }))) ≡ end_of (ran v c x (block_between w from end))
+    go true e =
+        ap (ended_by x) (pick_true _ _ _ e ∙ ap (λ (o : Option Question). sent_unless o x.count) (sym z))
+        ∙ sym (ap (λ b. end_of (ran v c x b)) (block_step w from end ∙ pick_true _ _ _ (le-leb end from h) ∙ pick_true _ _ _ e))
+    go false e =
+        ap (ended_by x) (pick_false _ _ _ e) ∙ sym (ap (λ b. end_of (ran v c x b)) (block_step w from end ∙ pick_true _ _ _ (le-leb end from h) ∙ pick_false _ _ _ e))
 
 -- ---- where a statement ends
-
-pub statement_below : (w : List ℕ) (j : ℕ) (node : Node) → node ≡ node_of w j → node.kind < 24 → false ≡ statement_at w j
-unfolding statement_at
-statement_below w j node en u =
-    let e : node.kind ≡ kind_at w j = λ i. (en i).kind in
-    sym (pick_true _ _ _ (lt-ltb (kind_at w j) 24 (omega arith)))
-
-pub statement_above : (w : List ℕ) (j : ℕ) (node : Node) → node ≡ node_of w j → 24 ≤ node.kind → leb node.kind 27 ≡ statement_at w j
-unfolding statement_at
-statement_above w j node en l =
-    let e : node.kind ≡ kind_at w j = λ i. (en i).kind in
-    (λ i. leb (e i) 27) ∙ sym (pick_false _ _ _ (le-ltb (kind_at w j) 24 (omega arith)))
 
 from_first : (w : List ℕ) (j : ℕ) → statement_at w j ≡ true → 24 ≤ kind_at w j
 unfolding statement_at
@@ -143,12 +140,10 @@ module _ (v : List ℤ) (c : ℕ) (x : Work) (w : List ℕ) (from end : ℕ) (h 
   abbrev last : Work → Work
   last y = performed_at v c y w (end - 1)
 
-  pub ran_broken : statement_at w (end - 1) ≡ false → (n m : ℕ) → n ≡ x.count → m ≡ 3
-      → work_from x.kinds x.numbers x.texts x.holdings x.labels n m ≡ ran v c x (block_between w from end)
+  pub ran_broken : statement_at w (end - 1) ≡ false → stopped x ask.TableCheck ≡ ran v c x (block_between w from end)
   unfolding ran
-  ran_broken e n m en em =
-      (λ i. work_from x.kinds x.numbers x.texts x.holdings x.labels (en i) (em i))
-      ∙ sym
+  ran_broken e =
+      sym
       (ap (ran v c x)
       (broken w from end h
       (not_within w (end - 1) 24 e (omega arith) (omega arith))
@@ -184,14 +179,14 @@ module _ (v : List ℤ) (c : ℕ) (x : Work) (w : List ℕ) (from end : ℕ) (h 
             (performed v c z (action_at w (end - 1))) e i))
             ∙ sym (ap (ran v c x) (action_last w from end h l (omega arith)))
 
-    pub ran_refused : (y.refusal ≡ 0 → ⊥) → y ≡ ran v c x (block_between w from end)
+    pub ran_refused : (q : Question) → y.refusal ≡ Some q → y ≡ ran v c x (block_between w from end)
     unfolding onward
-    ran_refused n = sym (pick_false _ _ _ (ne_eqb y.refusal 0 n)) ∙ ran_last
+    ran_refused q e = sym (pick_false _ _ _ (ap is_none e)) ∙ ran_last
 
     -- what goes on starts with no refusal
-    pub ran_on : y.refusal ≡ 0 → (r : Work) → r ≡ performed_at v c (stopped y 0) w (end - 1) → r ≡ ran v c x (block_between w from end)
+    pub ran_on : y.refusal ≡ None → performed_at v c y w (end - 1) ≡ ran v c x (block_between w from end)
     unfolding onward
-    ran_on e r q = q ∙ ap last (λ i. stopped y (sym e i)) ∙ sym (pick_true _ _ _ (eq-eqb y.refusal 0 e)) ∙ ran_last
+    ran_on e = sym (pick_true _ _ _ (ap is_none e)) ∙ ran_last
 
 -- ---- the statement at node k
 
@@ -199,16 +194,14 @@ module _ (v : List ℤ) (c : ℕ) (y : Work) (w : List ℕ) (k : ℕ) (node : No
   same_kind : node.kind ≡ kind_at w k
   same_kind = λ i. (en i).kind
 
-  pub one_action : (node.kind ≡ 27 → ⊥) → (r : Work) → r ≡ performed v c y (action_at w k) → r ≡ performed_at v c y w k
+  pub one_action : (node.kind ≡ 27 → ⊥) → performed v c y (action_at w k) ≡ performed_at v c y w k
   unfolding performed_at
-  one_action n r q = q ∙ sym (pick_false _ _ _ (ne_eqb (kind_at w k) 27 (λ q. n (same_kind ∙ q))))
+  one_action n = sym (pick_false _ _ _ (ne_eqb (kind_at w k) 27 (λ q. n (same_kind ∙ q))))
 
-  pub one_branch : node.kind ≡ 27 → (x first : ℕ) → x ≡ argument_at w k → first ≡ k - x → (r : Work) → r ≡ branched v c y w first k
-      → r ≡ performed_at v c y w k
+  pub one_branch : node.kind ≡ 27 → (x first : ℕ) → x ≡ argument_at w k → first ≡ k - x → branched v c y w first k ≡ performed_at v c y w k
   unfolding performed_at
-  one_branch q x first ex ef r e =
-      e
-      ∙ ap (λ (i : ℕ). branched v c y w i k) (ef ∙ (λ i. k - ex i))
+  one_branch q x first ex ef =
+      ap (λ (i : ℕ). branched v c y w i k) (ef ∙ (λ i. k - ex i))
       ∙ sym (pick_true _ _ _ (eq-eqb (kind_at w k) 27 (sym same_kind ∙ q)))
 
 -- ---- the conditional at node k whose block starts at node first
@@ -221,11 +214,11 @@ module _ (v : List ℤ) (c : ℕ) (y : Work) (w : List ℕ) (first k : ℕ) (m :
       ap (λ (d : Truth). by_truth y d (ran v c y (block_between w first k)))
       (sym z ∙ ea ∙ ap (λ (n : ℕ). truth_of (memory_in v c y) (condition_at w n)) em)
 
-  pub branch_stopped : (n p : ℕ) (r : Work) → a ≡ Refused n → p ≡ truth_refusal a → r ≡ stopped y p → r ≡ branched v c y w first k
-  branch_stopped n p r z ep s = s ∙ ap (stopped y) (ep ∙ ap truth_refusal z) ∙ by_truth_lem (Refused n) z
+  pub branch_stopped : (q : Question) → a ≡ Err q → stopped y q ≡ branched v c y w first k
+  branch_stopped q z = by_truth_lem (Err q) z
 
-  pub branch_held : (b : Bool) (r : Work) → a ≡ Holds b → b ≡ true → r ≡ ran v c y (block_between w first k) → r ≡ branched v c y w first k
-  branch_held b r z t s = s ∙ by_truth_lem (Holds true) (z ∙ ap Holds t)
+  pub branch_held : (b : Bool) → a ≡ Ok b → b ≡ true → ran v c y (block_between w first k) ≡ branched v c y w first k
+  branch_held b z t = by_truth_lem (Ok true) (z ∙ ap Ok t)
 
-  pub branch_skipped : (b : Bool) → a ≡ Holds b → b ≡ false → y ≡ branched v c y w first k
-  branch_skipped b z t = by_truth_lem (Holds false) (z ∙ ap Holds t)
+  pub branch_skipped : (b : Bool) → a ≡ Ok b → b ≡ false → y ≡ branched v c y w first k
+  branch_skipped b z t = by_truth_lem (Ok false) (z ∙ ap Ok t)

@@ -4,3 +4,4 @@ pub mod Parted
 pub mod Actions
 pub mod Blocks
 pub mod Silent
+pub mod Ended

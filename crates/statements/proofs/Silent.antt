@@ -7,13 +7,12 @@ use native.Mathlib.Omega.{arith}
 use lib.ListN.{set}
 use lib.Dec.{eqb, leb, ltb}
 use lib.IntN.{ℤ, pos, negsuc}
+use Rattle.std.specs.Prelude.{is_none, Ok, Err}
 use Rattle.laws.specs.Choice.{pick}
+use Rattle.questions.specs.declared.Question.TheVariants as ask
 use Rattle.numbers.specs.declared.Value.{Value}
 use Rattle.numbers.specs.declared.Value.TheVariants.{Integer, Text}
-use Rattle.numbers.specs.declared.Answer.{Answer}
-use Rattle.numbers.specs.declared.Answer.TheVariants as answer
-use Rattle.numbers.specs.declared.Truth.{Truth}
-use Rattle.numbers.specs.declared.Truth.TheVariants as truth
+use Rattle.numbers.specs.Numbers.{Answer, Truth}
 use Rattle.contract.specs.Limits.{top}
 use Rattle.contract.specs.Tree.{Action, held, assign, send, move, pay, move_all, pay_all, Block, none, perform, conditional, broken_block}
 use Rattle.evaluation.specs.Meaning.{value_of, truth_of}
@@ -67,10 +66,10 @@ moved_silent w i j n = go (ltb (amount_at w i) n) (leb 20 j) (eqb i j) (ltb top 
   where
     go : (p q r s : Bool)
         → Silent w
-        (pick p (stopped w 35)
-        (pick q (stopped w 3)
+        (pick p (stopped w ask.AmountHeld)
+        (pick q (stopped w ask.TableCheck)
         (pick r w
-        (pick s (stopped w 36) (with_holdings w (set (set w.holdings i (amount_at w i - n)) j (amount_at w j + n)))))))
+        (pick s (stopped w ask.SumFits) (with_holdings w (set (set w.holdings i (amount_at w i - n)) j (amount_at w j + n)))))))
     go true q r s e = (e, refl)
     go false true r s e = (e, refl)
     go false false true s e = (e, refl)
@@ -84,19 +83,19 @@ paid_silent w i a n = go (ltb (amount_at w i) n)
     after : Work
     after = with_holdings w (set w.holdings i (amount_at w i - n))
 
-    go : (b : Bool) → Silent w (pick b (stopped w 35) (labelled after 3 a (pos n)))
+    go : (b : Bool) → Silent w (pick b (stopped w ask.AmountHeld) (labelled after 3 a (pos n)))
     go true e = (e, refl)
     go false e = labelled_silent after 3 a (pos n) e
 
 value_silent : (w : Work) (a : Answer) (f : Value → Work) → ((v : Value) → Silent w (f v)) → Silent w (with_value w a f)
-value_silent w (answer.Refused n) f h = same w
-value_silent w (answer.Is v) f h = h v
+value_silent w (Err q) f h = same w
+value_silent w (Ok v) f h = h v
 
 amount_silent : (w : Work) (a : Answer) (f : ℕ → Work) → ((n : ℕ) → Silent w (f n)) → Silent w (with_amount w a f)
-amount_silent w (answer.Refused n) f h = same w
-amount_silent w (answer.Is (Text t)) f h = same w
-amount_silent w (answer.Is (Integer (pos n))) f h = h n
-amount_silent w (answer.Is (Integer (negsuc n))) f h = same w
+amount_silent w (Err q) f h = same w
+amount_silent w (Ok (Text t)) f h = same w
+amount_silent w (Ok (Integer (pos n))) f h = h n
+amount_silent w (Ok (Integer (negsuc n))) f h = same w
 
 module _ (v : List ℤ) (t : ℕ) where
   performed_silent : (w : Work) (a : Action) → Silent w (performed v t w a)
@@ -110,16 +109,16 @@ module _ (v : List ℤ) (t : ℕ) where
 
   onward_silent : (w : Work) (f : Work → Work) → Silent w (f w) → Silent w (onward w f)
   unfolding onward pick
-  onward_silent w f h = go (eqb w.refusal 0)
+  onward_silent w f h = go (is_none w.refusal)
     where
       go : (b : Bool) → Silent w (pick b (f w) w)
       go true = h
       go false = same w
 
   truth_silent : (w : Work) (b : Truth) (after : Work) → Silent w after → Silent w (by_truth w b after)
-  truth_silent w (truth.Refused n) after h = same w
-  truth_silent w (truth.Holds true) after h = h
-  truth_silent w (truth.Holds false) after h = same w
+  truth_silent w (Err q) after h = same w
+  truth_silent w (Ok true) after h = h
+  truth_silent w (Ok false) after h = same w
 
   pub ran_silent : (w : Work) (b : Block) → Silent w (ran v t w b)
   unfolding ran

@@ -1,11 +1,11 @@
 -- What the parts of the code work out: where blocks stand, and what a statement does with a value.
-use Rattle.std.specs.Prelude.{ℕ, suc, ◌-◌, Bool, false, List, [], get_or, set, eqb, leb, ltb, ℤ, pos}
+use Rattle.std.specs.Prelude.{ℕ, suc, ◌-◌, Bool, false, List, [], get_or, set, eqb, leb, ltb, ℤ, pos, Option, None, Some}
 use Rattle.laws.specs.Choice.{pick}
 use Rattle.numbers.specs.declared.Value.{Value}
 use Rattle.numbers.specs.declared.Value.TheVariants.{Integer, Text}
-use Rattle.numbers.specs.declared.Answer.{Answer}
-use Rattle.numbers.specs.declared.Truth.{Truth}
-use Rattle.numbers.specs.declared.Truth.TheVariants.{Holds, Refused}
+use Rattle.questions.specs.declared.Question.{Question}
+use Rattle.questions.specs.declared.Question.TheVariants as ask
+use Rattle.numbers.specs.Numbers.{Answer}
 use Rattle.contract.specs.Tree.{Action, held}
 use Rattle.contract.specs.Table.{kind_at, argument_at, size_at, party_kind, value_move_kind, asset_move_kind, whole_move_kind, conditional_kind}
 use Rattle.contract.specs.Decode.{holder_at, expression_at, condition_at, value_move_at, asset_move_at, whole_move_at, block_between}
@@ -14,11 +14,6 @@ use Rattle.evaluation.specs.Meaning.{value_of, truth_of}
 use Rattle.statements.specs.declared.Label.{Label}
 use Rattle.statements.specs.declared.Work.{Work}
 use Rattle.statements.specs.Running.{max_labels, memory_in, stored, sent, moved, paid, receiver, place, with_value, with_amount, performed, by_truth, ran, work_from}
-
--- the number of the question that refused, and 0 of a truth
-abbrev pub truth_refusal : Truth → ℕ
-truth_refusal (Holds b) = 0
-truth_refusal (Refused n) = n
 
 -- where the block before the statement at node k ends
 unfoldable pub end_before : List ℕ → ℕ → ℕ
@@ -61,12 +56,12 @@ count_with n = pick (ltb n max_labels) (suc n) n
 unfoldable pub taken_from : List ℕ → ℕ → ℕ → List ℕ
 taken_from l i n = pick (ltb (get_or l i 0) n) l (set l i (get_or l i 0 - n))
 
-unfoldable pub taken_refusal : List ℕ → ℕ → ℕ → ℕ
-taken_refusal l i n = pick (ltb (get_or l i 0) n) 35 0
+unfoldable pub taken_refusal : List ℕ → ℕ → ℕ → Option Question
+taken_refusal l i n = pick (ltb (get_or l i 0) n) (Some ask.AmountHeld) None
 
 -- a work of which only the holdings and the refusal count
-abbrev pub only_holdings : List ℕ → ℕ → Work
-only_holdings l n = work_from [] [] [] l [] 0 n
+abbrev pub only_holdings : List ℕ → Option Question → Work
+only_holdings l o = work_from [] [] [] l [] 0 o
 
 -- E -> t at node k, with the answer of E
 unfoldable pub value_given : Work → List ℕ → ℕ → Answer → Work

@@ -1,18 +1,18 @@
 -- Statements at work: memory, the labels sent so far, and the refusal met, if any.
-use Rattle.std.specs.Prelude.{ℕ, suc, ◌+◌, ◌-◌, min, true, false, List, [], ◌∷◌, get_or, set, eqb, leb, ltb, ℤ, pos, negsuc, nat_abs}
+use Rattle.std.specs.Prelude.{ℕ, suc, ◌+◌, ◌-◌, min, true, false, List, [], ◌∷◌, get_or, set, eqb, leb, ltb, ℤ, pos, negsuc, nat_abs, Option, None, Some, is_none, Result, Ok, Err}
 use Rattle.laws.specs.Choice.{pick}
+use Rattle.questions.specs.declared.Question.{Question}
+use Rattle.questions.specs.declared.Question.TheVariants as ask
 use Rattle.numbers.specs.declared.Value.{Value}
 use Rattle.numbers.specs.declared.Value.TheVariants.{Integer, Text}
-use Rattle.numbers.specs.declared.Answer.{Answer}
-use Rattle.numbers.specs.declared.Answer.TheVariants as answer
-use Rattle.numbers.specs.declared.Truth.{Truth}
-use Rattle.numbers.specs.declared.Truth.TheVariants as truth
+use Rattle.numbers.specs.Numbers.{Answer, Truth}
 use Rattle.contract.specs.Limits.{top, max_parties}
 use Rattle.contract.specs.Tree.{Holder, held, Action, assign, send, move, pay, move_all, pay_all, Block, none, perform, conditional, broken_block}
 use Rattle.evaluation.specs.Memory.{Memory, memory_of, place_of}
 use Rattle.evaluation.specs.Meaning.{value_of, truth_of}
 use Rattle.statements.specs.declared.Label.{Label}
 use Rattle.statements.specs.declared.Work.{Work}
+use Rattle.statements.specs.declared.Halt.{Halt}
 
 -- the kinds of labels
 abbrev pub integer_label : ℕ
@@ -36,13 +36,13 @@ abbrev pub memory_in : List ℤ → ℕ → Work → Memory
 memory_in v t w = memory_of w.kinds w.numbers w.texts w.holdings v t
 
 -- the work ends with a refusal
-abbrev pub stopped : Work → ℕ → Work
-stopped w n =
-    record { kinds = w.kinds; numbers = w.numbers; texts = w.texts; holdings = w.holdings; labels = w.labels; count = w.count; refusal = n }
+abbrev pub stopped : Work → Question → Work
+stopped w q =
+    record { kinds = w.kinds; numbers = w.numbers; texts = w.texts; holdings = w.holdings; labels = w.labels; count = w.count; refusal = Some q }
 
 -- the work goes on if no refusal was met
 unfoldable pub onward : Work → (Work → Work) → Work
-onward w f = pick (eqb w.refusal 0) (f w) w
+onward w f = pick (is_none w.refusal) (f w) w
 
 -- field x holds what its kind says: an integer, or a string by its number
 abbrev pub filled : Work → ℕ → ℕ → ℤ → ℕ → Work
@@ -100,30 +100,30 @@ amount_at w i = get_or w.holdings i 0
 -- n moves from place i to place j: questions 35 and 36; a move to itself changes nothing
 unfoldable pub moved : Work → ℕ → ℕ → ℕ → Work
 moved w i j n =
-    pick (ltb (amount_at w i) n) (stopped w 35)
+    pick (ltb (amount_at w i) n) (stopped w ask.AmountHeld)
     -- of no contract that was read
-    (pick (leb max_holdings j) (stopped w 3)
+    (pick (leb max_holdings j) (stopped w ask.TableCheck)
     (pick (eqb i j) w
-    (pick (ltb top (amount_at w j + n)) (stopped w 36)
+    (pick (ltb top (amount_at w j + n)) (stopped w ask.SumFits)
     (with_holdings w (set (set w.holdings i (amount_at w i - n)) j (amount_at w j + n))))))
 
 -- n is paid from place i to party a: question 35
 unfoldable pub paid : Work → ℕ → ℕ → ℕ → Work
 paid w i a n =
-    pick (ltb (amount_at w i) n) (stopped w 35)
+    pick (ltb (amount_at w i) n) (stopped w ask.AmountHeld)
     (labelled (with_holdings w (set w.holdings i (amount_at w i - n))) asset_label a (pos n))
 
 -- with a value
 abbrev pub with_value : Work → Answer → (Value → Work) → Work
-with_value w (answer.Refused n) f = stopped w n
-with_value w (answer.Is v) f = f v
+with_value w (Err q) f = stopped w q
+with_value w (Ok v) f = f v
 
 -- with an amount: an integer, question 31, that is 0 or more, question 34
 abbrev pub with_amount : Work → Answer → (ℕ → Work) → Work
-with_amount w (answer.Refused n) f = stopped w n
-with_amount w (answer.Is (Text t)) f = stopped w 31
-with_amount w (answer.Is (Integer (pos n))) f = f n
-with_amount w (answer.Is (Integer (negsuc n))) f = stopped w 34
+with_amount w (Err q) f = stopped w q
+with_amount w (Ok (Text t)) f = stopped w ask.OperandKind
+with_amount w (Ok (Integer (pos n))) f = f n
+with_amount w (Ok (Integer (negsuc n))) f = stopped w ask.AmountSign
 
 -- `h -o t` means all of h
 unfoldable pub performed : List ℤ → ℕ → Work → Action → Work
@@ -136,9 +136,9 @@ performed v t w (pay_all h a) = with_amount w (value_of (memory_in v t w) (held 
 
 -- the block of a conditional is run if its condition holds
 abbrev pub by_truth : Work → Truth → Work → Work
-by_truth w (truth.Refused n) after = stopped w n
-by_truth w (truth.Holds true) after = after
-by_truth w (truth.Holds false) after = w
+by_truth w (Err q) after = stopped w q
+by_truth w (Ok true) after = after
+by_truth w (Ok false) after = w
 
 -- the statements of a block in order
 unfoldable pub ran : List ℤ → ℕ → Work → Block → Work
@@ -146,7 +146,7 @@ ran v t w none = w
 ran v t w (perform b a) = onward (ran v t w b) (λ x. performed v t x a)
 ran v t w (conditional b c s) = onward (ran v t w b) (λ x. by_truth x (truth_of (memory_in v t x) c) (ran v t x s))
 -- of no contract that was read
-ran v t w broken_block = stopped w 3
+ran v t w broken_block = stopped w ask.TableCheck
 
 -- ---- a work whose parts stand apart
 
@@ -161,10 +161,32 @@ labels_from (k ∷ []) = []
 labels_from (k ∷ p ∷ []) = []
 labels_from (k ∷ p ∷ v ∷ ws) = record { kind = nat_abs k; party = nat_abs p; value = v } ∷ labels_from ws
 
-abbrev pub work_from : List ℕ → List ℤ → List ℕ → List ℕ → List Label → ℕ → ℕ → Work
+abbrev pub work_from : List ℕ → List ℤ → List ℕ → List ℕ → List Label → ℕ → Option Question → Work
 work_from kinds numbers texts holdings labels count refusal =
     record { kinds = kinds; numbers = numbers; texts = texts; holdings = holdings; labels = labels; count = count; refusal = refusal }
 
 -- the same, the labels standing in a list of words
-abbrev pub work_in : List ℕ → List ℤ → List ℕ → List ℕ → List ℤ → ℕ → ℕ → Work
+abbrev pub work_in : List ℕ → List ℤ → List ℕ → List ℕ → List ℤ → ℕ → Option Question → Work
 work_in kinds numbers texts holdings words count refusal = work_from kinds numbers texts holdings (labels_from words) count refusal
+
+-- how a work ends: its lists, and how many labels are sent, or the question that refused and how many were sent by then
+pub record Ended : Type 0 where
+  pub kinds : List ℕ
+  pub numbers : List ℤ
+  pub texts : List ℕ
+  pub holdings : List ℕ
+  pub labels : List Label
+  pub sent : Result ℕ Halt
+
+abbrev pub sent_unless : Option Question → ℕ → Result ℕ Halt
+sent_unless None n = Ok n
+sent_unless (Some q) n = Err (record { question = q; count = n })
+
+abbrev pub end_of : Work → Ended
+end_of w =
+    record { kinds = w.kinds; numbers = w.numbers; texts = w.texts; holdings = w.holdings; labels = w.labels; sent = sent_unless w.refusal w.count }
+
+-- the same, the labels standing in a list of words
+abbrev pub ended_in : List ℕ → List ℤ → List ℕ → List ℕ → List ℤ → Result ℕ Halt → Ended
+ended_in kinds numbers texts holdings words sent =
+    record { kinds = kinds; numbers = numbers; texts = texts; holdings = holdings; labels = labels_from words; sent = sent }

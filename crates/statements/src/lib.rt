@@ -1,18 +1,22 @@
 // Runs the statements of a block, which stand in a table with their parts before them.
 #![tactic(auto)]
 
-ghost use Rattle.std.specs.Prelude.{◌≡◌, List, [], ℕ, ◌-◌, ◌<◌, get_or, set, ℤ, eqb};
+ghost use Rattle.std.specs.Prelude.{◌≡◌, List, [], ℕ, ◌<◌, get_or, set, ℤ, eqb, None, Ok, Err};
+ghost use Rattle.std.specs.Result.{result_err};
 ghost use Rattle.laws.specs.Choice.{pick};
+ghost use Rattle.questions.specs.declared.Question.TheVariants as ask;
 ghost use Rattle.contract.specs.Table.{argument_at, size_at};
 ghost use Rattle.contract.specs.Decode.{holder_of, block_between};
-ghost use Rattle.evaluation.specs.Memory.{memory_of, place_of};
-ghost use Rattle.statements.specs.Running.{receiver, place, moved, paid, with_amount, performed, ran, labels_from, work_in};
-ghost use Rattle.statements.specs.Private.{truth_refusal, end_before, action_at, sort_of, number_of, text_of, amount_of, labels_with, count_with, taken_from, taken_refusal, only_holdings, value_given, amount_given, answer_at, statement_at, branched, performed_at};
+ghost use Rattle.evaluation.specs.Memory.{lent, place_of};
+ghost use Rattle.statements.specs.Running.{receiver, place, moved, paid, with_amount, performed, ran, labels_from, work_in, end_of, ended_in};
+ghost use Rattle.statements.specs.Private.{end_before, action_at, sort_of, number_of, text_of, amount_of, labels_with, count_with, taken_from, taken_refusal, only_holdings, value_given, amount_given, answer_at, statement_at, branched, performed_at};
 
-use contract::{Contract, Function, Node};
-use evaluation::Holdings;
-use numbers::{Answer, Truth, Value};
+use contract::{Contract, Node};
+use evaluation::{Holdings, Memory};
+use numbers::Value;
+use questions::Question;
 
+// Kept: a label's kind is a number, and a label is three words below the core, as document 01 has it (decision 54).
 // What a send leaves: kind (1 integer, 2 string, 3 asset), party, and value, a string's being its number.
 #[derive(Clone, Copy)]
 pub struct Label {
@@ -36,7 +40,7 @@ impl Label {
     pub const ROOM: usize = Label::MOST * Label::WORDS;
 }
 
-// A memory that statements work on, with the labels that they have sent and the question that refused, 0 where none did. Definitions speak
+// A memory that statements work on, with the labels that they have sent and the question that refused, if one did. Definitions speak
 // of it whole; the code has its parts in lent arrays.
 #[derive(Clone, Copy)]
 pub struct Work {
@@ -47,53 +51,17 @@ pub struct Work {
     pub holdings: [u64; Holdings::MOST],
     pub labels: [Label; Label::MOST],
     pub count: usize,
-    pub refusal: u8,
+    pub refusal: Option<Question>,
 }
 
-// How statements ended: how many labels are sent, and the question that refused, 0 where none did.
+// What ends a run: the question that refused, and how many labels were sent by then.
 #[derive(Clone, Copy)]
-pub struct Ran {
+pub struct Halt {
+    pub question: Question,
     pub count: usize,
-    pub refusal: u8,
 }
 
-// The difference, or 0 where it would fall below.
-fn minus(a: usize, b: usize) -> usize
-    ensures { result ≡ a - b }
-{
-    if b < a { a - b } else { 0 }
-}
-
-// The number of the question that refused, and 0 of a truth.
-fn truth_refusal(t: Truth) -> u8
-    ensures { result ≡ truth_refusal t }
-{
-    match t {
-        Truth::Holds(_) => 0,
-        Truth::Refused(n) => n,
-    }
-}
-
-// Byte i of a list becomes another; past the end nothing changes.
-fn set_byte(list: &mut [u8], i: usize, n: u8)
-    ensures { list.new ≡ set list.old i n }
-{
-    if list.len() <= i {
-        return;
-    }
-    list[i] = n;
-}
-
-// Number i of a list becomes another; past the end nothing changes.
-fn set_integer(list: &mut [i64], i: usize, z: i64)
-    ensures { list.new ≡ set list.old i z }
-{
-    if list.len() <= i {
-        return;
-    }
-    list[i] = z;
-}
-
+// Kept: the lent lists stand apart: in a struct of references each contract has to say of each field that it is still the same list.
 // Field x holds what its kind says: an integer, or a string by its number.
 fn fill(
     kinds: &mut [u8; Contract::FIELDS],
@@ -108,9 +76,9 @@ fn fill(
     ensures numbers_after { numbers.new ≡ set numbers.old x number }
     ensures texts_after { texts.new ≡ set texts.old x text }
 {
-    set_byte(kinds, x, kind);
-    set_integer(numbers, x, number);
-    set_byte(texts, x, text);
+    items::set(kinds, x, kind);
+    items::set(numbers, x, number);
+    items::set(texts, x, text);
 }
 
 // Field x gets a value.
@@ -168,115 +136,92 @@ fn send(labels: &mut [i64; Label::ROOM], count: usize, party: u8, value: Value) 
 fn receiver_of(argument: u64) -> u8
     ensures { result ≡ receiver argument }
 {
-    if Contract::PARTIES as u64 <= argument {
-        return Contract::PARTIES as u8;
-    }
-    argument as u8
-}
-
-// The amount at place i, and 0 where there is none.
-fn amount(holdings: &[u64], i: usize) -> u64
-    ensures { result ≡ get_or holdings.now i 0 }
-{
-    if i < holdings.len() { holdings[i] } else { 0 }
-}
-
-// Another amount at place i; past the end nothing changes.
-fn set_amount(holdings: &mut [u64], i: usize, n: u64)
-    ensures { holdings.new ≡ set holdings.old i n }
-{
-    if holdings.len() <= i {
-        return;
-    }
-    holdings[i] = n;
+    argument.min(Contract::PARTIES as u64) as u8
 }
 
 // The place of the holder that a node names: the assets, then the asset parameters.
+#[tactic(auto, unfolding(laws::specs::Choice::pick))]
 fn place_of(kind: u64, argument: u64) -> usize
     ensures { result ≡ place (holder_of kind argument) }
 {
-    if Holdings::MOST as u64 <= argument {
-        return Holdings::MOST;
-    }
-    let i = argument as usize;
-    if kind == Node::ASSET {
-        return i;
-    }
-    if i < Function::PARAMETERS {
-        Contract::ASSETS + i
+    let first = if kind == Node::ASSET {
+        0
     } else {
-        Holdings::MOST
-    }
+        Contract::ASSETS as u64
+    };
+    argument.saturating_add(first).min(Holdings::MOST as u64) as usize
 }
 
 // All that the holder that a node names holds.
-fn held_amount(holdings: &[u64], kind: u64, argument: u64) -> u64
+fn held_amount(holdings: &[u64; Holdings::MOST], kind: u64, argument: u64) -> u64
     ensures { result ≡ get_or holdings.now (place_of (holder_of kind argument)) 0 }
 {
-    let i = argument as usize;
-    if kind == Node::ASSET {
-        return amount(holdings, i);
-    }
-    if holdings.len() <= i {
-        return 0;
-    }
-    amount(holdings, Contract::ASSETS + i)
+    evaluation::at(holdings, place_of(kind, argument), 0)
 }
 
-// n goes from place i to place j: the question that refuses it, 0 where none does.
-fn move_amount(holdings: &mut [u64; Holdings::MOST], i: usize, j: usize, n: u64) -> u8
-    ensures { only_holdings holdings.new result ≡ moved (only_holdings holdings.old 0) i j n }
+// n goes from place i to place j, unless a question refuses it.
+#[tactic(auto, unfolding(laws::specs::Choice::pick, crate::specs::Running::moved))]
+fn move_amount(
+    holdings: &mut [u64; Holdings::MOST],
+    i: usize,
+    j: usize,
+    n: u64,
+) -> Result<(), Question>
+    ensures { only_holdings holdings.new (result_err result) ≡ moved (only_holdings holdings.old None) i j n }
 {
-    let source = amount(holdings, i);
+    let source = evaluation::at(holdings, i, 0);
     if source < n {
-        return questions::AMOUNT_HELD;
+        return Err(Question::AmountHeld);
     }
     if Holdings::MOST <= j {
-        return questions::TABLE_CHECK;
+        return Err(Question::TableCheck);
     }
     let itself = i == j;
     if itself {
-        return 0;
+        return Ok(());
     }
-    let target = amount(holdings, j);
-    if Contract::TOP < target {
-        return questions::SUM_FITS;
+    let target = holdings[j];
+    if Contract::TOP < target || Contract::TOP - target < n {
+        return Err(Question::SumFits);
     }
-    if Contract::TOP - target < n {
-        return questions::SUM_FITS;
-    }
-    set_amount(holdings, i, source - n);
-    set_amount(holdings, j, target + n);
-    0
+    items::set(holdings, i, source - n);
+    holdings[j] = target + n;
+    Ok(())
 }
 
-// n is taken from place i: the question that refuses it, 0 where none does.
-fn take_amount(holdings: &mut [u64; Holdings::MOST], i: usize, n: u64) -> u8
+// n is taken from place i, unless a question refuses it.
+#[tactic(auto, unfolding(laws::specs::Choice::pick, crate::specs::Private::taken_from, crate::specs::Private::taken_refusal))]
+fn take_amount(holdings: &mut [u64; Holdings::MOST], i: usize, n: u64) -> Result<(), Question>
     ensures holdings_after { holdings.new ≡ taken_from holdings.old i n }
-    ensures value { result ≡ taken_refusal holdings.old i n }
+    ensures value { result_err result ≡ taken_refusal holdings.old i n }
 {
-    let held = amount(holdings, i);
+    let held = evaluation::at(holdings, i, 0);
     if held < n {
-        return questions::AMOUNT_HELD;
+        return Err(Question::AmountHeld);
     }
-    set_amount(holdings, i, held - n);
-    0
+    items::set(holdings, i, held - n);
+    Ok(())
 }
 
-// n goes from place i to place j, n being a value: the question that refuses it, 0 where none does.
-fn move_value(holdings: &mut [u64; Holdings::MOST], i: usize, j: usize, value: Value) -> u8
-    ensures { only_holdings holdings.new result ≡ with_amount (only_holdings holdings.old 0) (Answer.Is value) (moved (only_holdings holdings.old 0) i j) }
+// n goes from place i to place j, n being a value, unless a question refuses it.
+fn move_value(
+    holdings: &mut [u64; Holdings::MOST],
+    i: usize,
+    j: usize,
+    value: Value,
+) -> Result<(), Question>
+    ensures { only_holdings holdings.new (result_err result) ≡ with_amount (only_holdings holdings.old None) (Ok value) (moved (only_holdings holdings.old None) i j) }
 {
     let Value::Integer(z) = value else {
-        return questions::OPERAND_KIND;
+        return Err(Question::OperandKind);
     };
     if z < 0 {
-        return questions::AMOUNT_SIGN;
+        return Err(Question::AmountSign);
     }
     move_amount(holdings, i, j, numbers::magnitude(z))
 }
 
-// n is paid from place i to a party, n being a value.
+// n is paid from place i to a party, n being a value: how many labels are sent then.
 fn pay_value(
     holdings: &mut [u64; Holdings::MOST],
     labels: &mut [i64; Label::ROOM],
@@ -284,29 +229,27 @@ fn pay_value(
     i: usize,
     party: u8,
     value: Value,
-) -> Ran
-    ensures { work_in [] [] [] holdings.new labels.new result.count result.refusal
-        ≡ with_amount (work_in [] [] [] holdings.old labels.old count 0) (Answer.Is value)
-        (paid (work_in [] [] [] holdings.old labels.old count 0) i party) }
+) -> Result<usize, Halt>
+    ensures { ended_in [] [] [] holdings.new labels.new result
+        ≡ end_of (with_amount (work_in [] [] [] holdings.old labels.old count None) (Ok value)
+        (paid (work_in [] [] [] holdings.old labels.old count None) i party)) }
 {
     let Value::Integer(z) = value else {
-        return Ran {
+        return Err(Halt {
+            question: Question::OperandKind,
             count,
-            refusal: questions::OPERAND_KIND,
-        };
+        });
     };
     if z < 0 {
-        return Ran {
+        return Err(Halt {
+            question: Question::AmountSign,
             count,
-            refusal: questions::AMOUNT_SIGN,
-        };
+        });
     }
-    let refusal = take_amount(holdings, i, numbers::magnitude(z));
-    if refusal != 0 {
-        return Ran { count, refusal };
+    if let Err(question) = take_amount(holdings, i, numbers::magnitude(z)) {
+        return Err(Halt { question, count });
     }
-    let count = add_label(labels, count, Label::ASSET, party, z);
-    Ran { count, refusal: 0 }
+    Ok(add_label(labels, count, Label::ASSET, party, z))
 }
 
 // E -> t at node k, with the answer of E: a party is sent the value, or a field gets it.
@@ -318,29 +261,29 @@ fn give_value(
     labels: &mut [i64; Label::ROOM],
     count: usize,
     k: usize,
-    answer: Answer,
-) -> Ran
+    answer: Result<Value, Question>,
+) -> Result<usize, Halt>
     ensures { (hs : List ℕ)
-        → work_in kinds.new numbers.new texts.new hs labels.new result.count result.refusal
-        ≡ value_given
-        (work_in kinds.old numbers.old texts.old hs labels.old count 0)
-        table.now k answer }
+        → ended_in kinds.new numbers.new texts.new hs labels.new result
+        ≡ end_of (value_given
+        (work_in kinds.old numbers.old texts.old hs labels.old count None)
+        table.now k answer) }
 {
-    let Answer::Is(value) = answer else {
-        return Ran {
+    // Kept: document 01 opens an evaluation answer by let .. else.
+    let Ok(value) = answer else {
+        return Err(Halt {
+            question: answer.unwrap_err(),
             count,
-            refusal: evaluation::refusal(answer),
-        };
+        });
     };
-    let target = contract::node_at(table, minus(k, 1));
+    let target = contract::node_at(table, k.saturating_sub(1));
     if target.kind == Node::PARTY {
         let party = receiver_of(target.argument);
-        let count = send(labels, count, party, value);
-        return Ran { count, refusal: 0 };
+        return Ok(send(labels, count, party, value));
     }
     let i = target.argument as usize;
     store(kinds, numbers, texts, i, value);
-    Ran { count, refusal: 0 }
+    Ok(count)
 }
 
 // A move at node k, with the answer of its amount: it goes where the two nodes before node k say.
@@ -350,55 +293,50 @@ fn give_amount(
     labels: &mut [i64; Label::ROOM],
     count: usize,
     k: usize,
-    answer: Answer,
-) -> Ran
+    answer: Result<Value, Question>,
+) -> Result<usize, Halt>
     ensures { (ks : List ℕ) (ns : List ℤ) (ts : List ℕ)
-        → work_in ks ns ts holdings.new labels.new result.count result.refusal
-        ≡ amount_given
-        (work_in ks ns ts holdings.old labels.old count 0)
-        table.now k answer }
+        → ended_in ks ns ts holdings.new labels.new result
+        ≡ end_of (amount_given
+        (work_in ks ns ts holdings.old labels.old count None)
+        table.now k answer) }
 {
-    let Answer::Is(value) = answer else {
-        return Ran {
+    // Kept: document 01 opens an evaluation answer by let .. else.
+    let Ok(value) = answer else {
+        return Err(Halt {
+            question: answer.unwrap_err(),
             count,
-            refusal: evaluation::refusal(answer),
-        };
+        });
     };
-    let source = contract::node_at(table, minus(k, 2));
-    let target = contract::node_at(table, minus(k, 1));
+    let source = contract::node_at(table, k.saturating_sub(2));
+    let target = contract::node_at(table, k.saturating_sub(1));
     let i = place_of(source.kind, source.argument);
     if target.kind == Node::PARTY {
         let party = receiver_of(target.argument);
         return pay_value(holdings, labels, count, i, party, value);
     }
     let j = place_of(target.kind, target.argument);
-    let refusal = move_value(holdings, i, j, value);
-    Ran { count, refusal }
+    if let Err(question) = move_value(holdings, i, j, value) {
+        return Err(Halt { question, count });
+    }
+    Ok(count)
 }
 
 // What the statement at node k, of a kind that is no conditional's, hands on: what its expression gives, or all that its source holds.
-fn answer_of(
-    table: &[u64],
-    kinds: &[u8; Contract::FIELDS],
-    numbers: &[i64; Contract::FIELDS],
-    texts: &[u8; Contract::FIELDS],
-    holdings: &[u64; Holdings::MOST],
-    values: &[i64],
-    clock: u64,
-    k: usize,
-    kind: u64,
-) -> Answer
-    ensures { result ≡ answer_at (memory_of kinds.now numbers.now texts.now holdings.now values.now clock) table.now k kind }
+#[tactic(auto, unfolding(laws::specs::Choice::pick, crate::specs::Private::answer_at, evaluation::specs::Meaning::value_of))]
+fn answer_of(table: &[u64], memory: &Memory, k: usize, kind: u64) -> Result<Value, Question>
+    ensures { result ≡ answer_at (lent memory.now) table.now k kind }
 {
     if kind == Node::VALUE_MOVE {
-        let e = minus(k, 2);
-        return evaluation::value(table, kinds, numbers, texts, holdings, values, clock, e);
+        let e = k.saturating_sub(2);
+        return evaluation::value(table, memory, e);
     }
     if kind == Node::ASSET_MOVE {
-        let e = minus(k, 3);
-        return evaluation::value(table, kinds, numbers, texts, holdings, values, clock, e);
+        let e = k.saturating_sub(3);
+        return evaluation::value(table, memory, e);
     }
-    let source = contract::node_at(table, minus(k, 2));
+    let source = contract::node_at(table, k.saturating_sub(2));
+    let holdings = memory.holdings;
     numbers::natural(held_amount(holdings, source.kind, source.argument))
 }
 
@@ -414,15 +352,21 @@ fn act(
     values: &[i64],
     clock: u64,
     k: usize,
-) -> Ran
-    ensures { work_in kinds.new numbers.new texts.new holdings.new labels.new result.count result.refusal
-        ≡ performed values.now clock
-        (work_in kinds.old numbers.old texts.old holdings.old labels.old count 0) (action_at table.now k) }
+) -> Result<usize, Halt>
+    ensures { ended_in kinds.new numbers.new texts.new holdings.new labels.new result
+        ≡ end_of (performed values.now clock
+        (work_in kinds.old numbers.old texts.old holdings.old labels.old count None) (action_at table.now k)) }
 {
     let kind = contract::node_at(table, k).kind;
-    let answer = answer_of(
-        table, kinds, numbers, texts, holdings, values, clock, k, kind,
-    );
+    let memory = Memory {
+        kinds,
+        numbers,
+        texts,
+        holdings,
+        values,
+        clock,
+    };
+    let answer = answer_of(table, &memory, k, kind);
     if kind == Node::VALUE_MOVE {
         return give_value(table, kinds, numbers, texts, labels, count, k, answer);
     }
@@ -446,55 +390,51 @@ fn argument_at(table: &[u64], k: usize) -> usize
 }
 
 // Where the block before the statement at node k ends.
+#[tactic(auto, unfolding(laws::specs::Choice::pick, crate::specs::Private::end_before))]
 fn end_before(table: &[u64], k: usize) -> usize
     ensures { result ≡ end_before table.now k }
 {
     let node = contract::node_at(table, k);
     if node.kind == Node::VALUE_MOVE {
-        return minus(minus(k, 1), size_at(table, minus(k, 2)));
+        return k
+            .saturating_sub(1)
+            .saturating_sub(size_at(table, k.saturating_sub(2)));
     }
     if node.kind == Node::ASSET_MOVE {
-        return minus(minus(k, 2), size_at(table, minus(k, 3)));
+        return k
+            .saturating_sub(2)
+            .saturating_sub(size_at(table, k.saturating_sub(3)));
     }
     if node.kind == Node::WHOLE_MOVE {
-        return minus(k, 2);
+        return k.saturating_sub(2);
     }
-    let first = minus(k, argument_at(table, k));
-    minus(first, size_at(table, minus(first, 1)))
+    let first = k.saturating_sub(argument_at(table, k));
+    first.saturating_sub(size_at(table, first.saturating_sub(1)))
 }
 
 // Whether a statement ends at node k.
+#[tactic(auto, unfolding(laws::specs::Choice::pick, crate::specs::Private::statement_at))]
 fn is_statement(table: &[u64], k: usize) -> bool
     ensures { result ≡ statement_at table.now k }
 {
     let node = contract::node_at(table, k);
-    if node.kind < Node::VALUE_MOVE {
-        return false;
-    }
-    node.kind <= Node::CONDITIONAL
-}
-
-// The end at a node that is no statement's last, of no contract that was read.
-fn broken(count: usize) -> Ran
-    ensures count_value { result.count ≡ count }
-    ensures refusal_value { result.refusal ≡ 3 }
-{
-    Ran {
-        count,
-        refusal: questions::TABLE_CHECK,
-    }
+    matches!(node.kind, Node::VALUE_MOVE..=Node::CONDITIONAL)
 }
 
 // A block up to its first statement: nothing is done, and it is broken where that statement starts before it.
-fn begin(count: usize, from: usize, end: usize) -> Ran
-    ensures count_value { result.count ≡ count }
-    ensures refusal_value { result.refusal ≡ pick (eqb end from) 0 3 }
+#[tactic(auto, unfolding(laws::specs::Choice::pick))]
+fn begin(count: usize, from: usize, end: usize) -> Result<usize, Halt>
+    ensures { result ≡ pick (eqb end from) (Ok count) (Err (record { question = ask.TableCheck; count = count })) }
 {
     let empty = end == from;
     if empty {
-        return Ran { count, refusal: 0 };
+        Ok(count)
+    } else {
+        Err(Halt {
+            question: Question::TableCheck,
+            count,
+        })
     }
-    broken(count)
 }
 
 // The conditional at node k whose block starts at node `first`: the block is run where the condition before it holds.
@@ -511,33 +451,33 @@ fn branch(
     clock: u64,
     first: usize,
     k: usize,
-) -> Ran
-    ensures { work_in kinds.new numbers.new texts.new holdings.new labels.new result.count result.refusal
-        ≡ branched values.now clock
-        (work_in kinds.old numbers.old texts.old holdings.old labels.old count 0) table.now first k }
+) -> Result<usize, Halt>
+    ensures { ended_in kinds.new numbers.new texts.new holdings.new labels.new result
+        ≡ end_of (branched values.now clock
+        (work_in kinds.old numbers.old texts.old holdings.old labels.old count None) table.now first k) }
 {
-    let answer = evaluation::truth(
-        table,
+    let memory = Memory {
         kinds,
         numbers,
         texts,
         holdings,
         values,
         clock,
-        minus(first, 1),
-    );
-    let Truth::Holds(holds) = answer else {
-        return Ran {
+    };
+    let answer = evaluation::truth(table, &memory, first.saturating_sub(1));
+    // Kept: document 01 opens an evaluation answer by let .. else.
+    let Ok(holds) = answer else {
+        return Err(Halt {
+            question: answer.unwrap_err(),
             count,
-            refusal: truth_refusal(answer),
-        };
+        });
     };
     if holds {
         return run(
             table, kinds, numbers, texts, holdings, labels, count, values, clock, first, k,
         );
     }
-    Ran { count, refusal: 0 }
+    Ok(count)
 }
 
 // The statement at node k.
@@ -553,10 +493,10 @@ fn perform_one(
     values: &[i64],
     clock: u64,
     k: usize,
-) -> Ran
-    ensures { work_in kinds.new numbers.new texts.new holdings.new labels.new result.count result.refusal
-        ≡ performed_at values.now clock
-        (work_in kinds.old numbers.old texts.old holdings.old labels.old count 0) table.now k }
+) -> Result<usize, Halt>
+    ensures { ended_in kinds.new numbers.new texts.new holdings.new labels.new result
+        ≡ end_of (performed_at values.now clock
+        (work_in kinds.old numbers.old texts.old holdings.old labels.old count None) table.now k) }
 {
     let node = contract::node_at(table, k);
     if node.kind != Node::CONDITIONAL {
@@ -564,7 +504,7 @@ fn perform_one(
             table, kinds, numbers, texts, holdings, labels, count, values, clock, k,
         );
     }
-    let first = minus(k, argument_at(table, k));
+    let first = k.saturating_sub(argument_at(table, k));
     branch(
         table, kinds, numbers, texts, holdings, labels, count, values, clock, first, k,
     )
@@ -585,17 +525,20 @@ pub fn run(
     clock: u64,
     from: usize,
     end: usize,
-) -> Ran
-    ensures { work_in kinds.new numbers.new texts.new holdings.new labels.new result.count result.refusal
-        ≡ ran values.now clock
-        (work_in kinds.old numbers.old texts.old holdings.old labels.old count 0) (block_between table.now from end) }
+) -> Result<usize, Halt>
+    ensures { ended_in kinds.new numbers.new texts.new holdings.new labels.new result
+        ≡ end_of (ran values.now clock
+        (work_in kinds.old numbers.old texts.old holdings.old labels.old count None) (block_between table.now from end)) }
 {
     if end <= from {
         return begin(count, from, end);
     }
     let k = end - 1;
     if !is_statement(table, k) {
-        return broken(count);
+        return Err(Halt {
+            question: Question::TableCheck,
+            count,
+        });
     }
     let before = run(
         table,
@@ -610,11 +553,7 @@ pub fn run(
         from,
         end_before(table, k),
     );
-    let stopped = before.refusal != 0;
-    if stopped {
-        return before;
-    }
-    let sent = before.count;
+    let sent = before?;
     perform_one(
         table, kinds, numbers, texts, holdings, labels, sent, values, clock, k,
     )

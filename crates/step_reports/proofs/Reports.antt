@@ -11,6 +11,8 @@ use lib.IntN.{ℤ}
 use lib.ListN.{length, set, take, length-append}
 use lib.Seq.{sets, length-sets, take-suc, take_all}
 use borrow.Author.Tests.{ltb-true, ltb-false, le-leb, lt-leb, leb-true, leb-false}
+use Rattle.questions.specs.declared.Question.{Question}
+use Rattle.questions.specs.Numbers.{number_of}
 use Rattle.statements.specs.declared.Label.{Label}
 use Rattle.statements.specs.Running.{labels_from}
 use Rattle.results.specs.declared.Report.{Report}
@@ -200,13 +202,13 @@ module _ (o : Outcome) (state clock : ℕ) where
   unfolding report_of
   ruled r k e f = ap (λ (x : ℕ). report.Ruled x state clock) f ∙ ap (λ (x : Outcome). report_of x state clock) (sym e)
 
-  pub failed : (q : ℕ) → o ≡ outcome.Failed q → report.Failed q ≡ report_of o state clock
+  pub failed : (q : Question) (k : ℕ) → o ≡ outcome.Failed q → k ≡ number_of q → report.Failed k ≡ report_of o state clock
   unfolding report_of
-  failed q e = ap (λ (x : Outcome). report_of x state clock) (sym e)
+  failed q k e f = ap report.Failed f ∙ ap (λ (x : Outcome). report_of x state clock) (sym e)
 
-  pub turned_down : (q : ℕ) → o ≡ outcome.Refused q → report.Refused q ≡ report_of o state clock
+  pub turned_down : (q : Question) (k : ℕ) → o ≡ outcome.Refused q → k ≡ number_of q → report.Refused k ≡ report_of o state clock
   unfolding report_of
-  turned_down q e = ap (λ (x : Outcome). report_of x state clock) (sym e)
+  turned_down q k e f = ap report.Refused f ∙ ap (λ (x : Outcome). report_of x state clock) (sym e)
 
 -- the numbers of a report are those of an equal one
 pub same_report : (numbers told : List ℕ) (integers values : List ℤ) (n : ℕ) (r u : Report) → r ≡ u → told ≡ sets numbers (4 * n) (coded r) → values ≡ sets integers n (integer_of r ∷ []) → (told ≡ sets numbers (4 * n) (coded u)) × (values ≡ sets integers n (integer_of u ∷ []))

@@ -1,5 +1,6 @@
 -- The result lines of a step: what came of it, then its labels.
 use Rattle.std.specs.Prelude.{ℕ, zero, suc, ◌+◌, ◌/◌, min, Bool, List, [], ◌∷◌, ◌++◌, length, take, leb, ℤ}
+use Rattle.questions.specs.Numbers.{number_of}
 use Rattle.statements.specs.declared.Label.{Label}
 use Rattle.statements.specs.Running.{max_labels}
 use Rattle.results.specs.declared.Report.{Report}
@@ -21,8 +22,8 @@ rule_number Tick = 3
 -- what came of a step, with the state's number and the clock after it
 unfoldable pub report_of : Outcome → ℕ → ℕ → Report
 report_of (outcome.Accepted r) state clock = report.Ruled (rule_number r) state clock
-report_of (outcome.Failed q) state clock = report.Failed q
-report_of (outcome.Refused q) state clock = report.Refused q
+report_of (outcome.Failed q) state clock = report.Failed (number_of q)
+report_of (outcome.Refused q) state clock = report.Refused (number_of q)
 
 abbrev pub label_report : Label → Report
 label_report l = report.Sent l.kind l.party l.value

@@ -38,12 +38,7 @@ fn tell(
 fn rule_number(rule: Rule) -> u64
     ensures { result ≡ rule_number rule }
 {
-    match rule {
-        Rule::Agree => 0,
-        Rule::Call => 1,
-        Rule::EventMatch => 2,
-        Rule::Tick => 3,
-    }
+    rule as u64
 }
 
 // What came of a step, as result line n.
@@ -64,8 +59,8 @@ fn tell_outcome(
             let r = rule_number(rule);
             tell(numbers, integers, n, 1, r, state as u64, clock, 0);
         }
-        Outcome::Failed(q) => tell(numbers, integers, n, 5, q as u64, 0, 0, 0),
-        Outcome::Refused(q) => tell(numbers, integers, n, 4, q as u64, 0, 0, 0),
+        Outcome::Failed(q) => tell(numbers, integers, n, 5, q.number() as u64, 0, 0, 0),
+        Outcome::Refused(q) => tell(numbers, integers, n, 4, q.number() as u64, 0, 0, 0),
     }
 }
 
@@ -89,13 +84,11 @@ fn tell_labels(
     ensures numbers_after { numbers.new ≡ sets numbers.old (4 * n) (coded_all (sent count labels.now)) }
     ensures integers_after { integers.new ≡ sets integers.old n (integers_of (sent count labels.now)) }
 {
-    let mut i: usize = 0;
-    while i < count {
+    for i in 0..count {
         let at = Label::WORDS * i;
         let kind = word(labels, at);
         let party = word(labels, at + 1);
         tell(numbers, integers, n + i, 2, kind, party, 0, labels[at + 2]);
-        i += 1;
     }
 }
 
@@ -103,20 +96,14 @@ fn tell_labels(
 fn labels_told(count: usize) -> usize
     ensures { result ≡ min count 64 }
 {
-    if count < Label::MOST {
-        count
-    } else {
-        Label::MOST
-    }
+    count.min(Label::MOST)
 }
 
 // How many result lines there is room for.
 pub fn room_in(numbers: &[u64], integers: &[i64]) -> usize
     ensures { result ≡ room_in (length numbers.now) (length integers.now) }
 {
-    let a = numbers.len() / Report::WORDS;
-    let b = integers.len();
-    if a < b { a } else { b }
+    (numbers.len() / Report::WORDS).min(integers.len())
 }
 
 // Whether the result lines of any step fit from line n on.

@@ -1,4 +1,1 @@
-pub mod Pasted
-pub mod Fields
 pub mod Kept
-pub mod Handed

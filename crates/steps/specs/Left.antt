@@ -6,7 +6,6 @@ use Rattle.outcomes.specs.declared.Stepped.{Stepped}
 use Rattle.machine.specs.Steps.{step, called}
 use Rattle.agreements.specs.Agreement.{parts_in, agreed_on}
 use Rattle.steps.specs.declared.Left.{Left}
-use Rattle.steps.specs.declared.Out.{Out}
 
 -- how many entries are written into a slice of `slots` entries
 abbrev pub count_of : ℕ → ℕ → ℕ
@@ -19,9 +18,6 @@ copied_of old from n = take (count_of (length old) n) from ++ drop (count_of (le
 -- what a step leaves beside its labels
 abbrev pub left_of : Stepped → Left
 left_of r = record { outcome = r.outcome; state = r.state; count = r.count }
-
-abbrev pub out_of : Stepped → Out
-out_of r = record { left = left_of r; count = r.count; labels = r.labels }
 
 -- the slice after a step, which held `old` before it
 abbrev pub slots_of : List Label → Stepped → List Label

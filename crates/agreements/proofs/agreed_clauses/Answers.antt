@@ -30,26 +30,19 @@ overflow_add-at c =
     let p = placed s.args.table.now s.requires l.i (omega (arith, l.invariant.0)) in
     omega (arith, l.invariant.1, row_few s.args.table.now l.i _ c.clause_at-c.ensures p, p.number)
 
-pub overflow_add-i : goal.overflow_add-i
-overflow_add-i c =
-    let s = c in
-    let l = c.loop-i in
-    let p = placed s.args.table.now s.requires l.i (omega (arith, l.invariant.0)) in
-    omega (arith, p.number)
-
 pub loop-i-preserved : goal.loop-i-preserved
 loop-i-preserved c =
     let s = c in
     let table = s.args.table.now in
     let l = c.loop-i in
     let p = placed table s.requires l.i (omega (arith, l.invariant.0)) in
-    (l.invariant.0, (omega (arith, l.invariant.1, row_few table l.i _ c.clause_at-c.ensures p)), l.invariant.2 ∙ agreed_by_more (clause_at table) s.args.values.now (word_at table 5) l.i l.at s.args.s _ (omega (arith, l.invariant.0)) (row_count table l.i _ c.clause_at-c.ensures p) (sym c.agreed_clause.ensures ∙ c.if-agreed_clause.true))
+    (l.invariant.0, (omega (arith, l.invariant.1, row_few table l.i _ c.clause_at-c.ensures p)), l.invariant.2 ∙ agreed_by_more (clause_at table) s.args.values.now (word_at table 5) l.i l.at s.args.s _ (omega (arith, l.invariant.0)) (row_count table l.i _ c.clause_at-c.ensures p) (sym c.agreed_clause.ensures ∙ c.if-not-agreed_clause.false))
 
-pub returns-else-agreed_clause : goal.returns-else-agreed_clause
-returns-else-agreed_clause c =
+pub returns-then-not-agreed_clause : goal.returns-then-not-agreed_clause
+returns-then-not-agreed_clause c =
     let s = c in
     let l = c.loop-i in
-    sym (l.invariant.2 ∙ agreed_by_not (clause_at s.args.table.now) s.args.values.now (word_at s.args.table.now 5) l.i l.at s.args.s (omega (arith, l.invariant.0)) (sym c.agreed_clause.ensures ∙ c.if-agreed_clause.false))
+    sym (l.invariant.2 ∙ agreed_by_not (clause_at s.args.table.now) s.args.values.now (word_at s.args.table.now 5) l.i l.at s.args.s (omega (arith, l.invariant.0)) (sym c.agreed_clause.ensures ∙ c.if-not-agreed_clause.true))
 
 pub returns : goal.returns
 returns c =

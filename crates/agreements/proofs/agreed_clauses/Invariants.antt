@@ -10,7 +10,3 @@ use Rattle.agreements.proofs.agreed_clauses.Given as goal
 abbrev pub invariant-loop-i : goal.invariant-loop-i
 invariant-loop-i l =
     (l.count ≡ word_at l.table 5) × (l.at ≤ l.i * 32) × (agreed_by l.s (contract_of l.table).clauses l.values ≡ agreed_by l.s (each_from l.i (word_at l.table 5 - l.i) (clause_at l.table)) (drop l.at l.values))
-
-abbrev pub decreases-loop-i : goal.decreases-loop-i
-decreases-loop-i l =
-    l.count - l.i

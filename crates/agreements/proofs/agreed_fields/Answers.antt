@@ -30,42 +30,36 @@ returns-then-values-k c =
     let l = c.loop-j in
     sym (l.invariant ∙ agreed_short (clause_at s.args.table.now s.args.i).fields s.args.values.now s.args.at l.j s.args.s c.if-values-k.true)
 
-pub overflow_add-j : goal.overflow_add-j
-overflow_add-j c =
-    let s = c in
-    let p = placed s.args.table.now s.requires.0 s.args.i s.requires.1 in
-    omega (arith, p.many, row_fields s.args.table.now s.args.i _ c.clause_at-c.ensures)
-
 pub loop-j-preserved : goal.loop-j-preserved
 loop-j-preserved c =
     let s = c in
     let table = s.args.table.now in
     let l = c.loop-j in
     let p = placed table s.requires.0 s.args.i s.requires.1 in
-    let f : SFits w64 c.integer_at.result = record { sfits = c.integer_at.type_inv } in
+    let f : SFits w64 c.item.result = record { sfits = c.item.type_inv } in
     l.invariant
     ∙ agreed_more (clause_at table s.args.i).fields s.args.values.now s.args.at l.j s.args.s (omega (arith, fields_count table s.args.i p, row_fields table s.args.i _ c.clause_at-c.ensures))
-    (omega (arith, c.if-values-k.false)) c.clause_field.result c.integer_at.result (field_at table s.args.i p l.j (omega (arith, row_fields table s.args.i _ c.clause_at-c.ensures)) ∙ sym c.clause_field.ensures)
-    (sym c.integer_at.ensures) (ap (λ (z : ℤ). eqb (get_or s.args.s.kinds c.clause_field.result 0) 1 && eq_z (get_or s.args.s.numbers c.clause_field.result (pos 0)) z) (sym (to_z-of_z f)) ∙ sym c.has_integer.ensures ∙ c.if-has_integer.true)
+    (omega (arith, c.if-values-k.false)) c.clause_field.result c.item.result (field_at table s.args.i p l.j (omega (arith, row_fields table s.args.i _ c.clause_at-c.ensures)) ∙ sym c.clause_field.ensures)
+    (sym c.item.ensures) (ap (λ (z : ℤ). eqb (get_or s.args.s.kinds c.clause_field.result 0) 1 && eq_z (get_or s.args.s.numbers c.clause_field.result (pos 0)) z) (sym (to_z-of_z f)) ∙ sym c.has_integer.ensures ∙ c.if-not-has_integer.false)
 
-pub returns-else-has_integer : goal.returns-else-has_integer
-returns-else-has_integer c =
+pub returns-then-not-has_integer : goal.returns-then-not-has_integer
+returns-then-not-has_integer c =
     let s = c in
     let table = s.args.table.now in
     let l = c.loop-j in
     let p = placed table s.requires.0 s.args.i s.requires.1 in
-    let f : SFits w64 c.integer_at.result = record { sfits = c.integer_at.type_inv } in
+    let f : SFits w64 c.item.result = record { sfits = c.item.type_inv } in
     sym (l.invariant ∙ agreed_not (clause_at table s.args.i).fields s.args.values.now s.args.at l.j s.args.s (omega (
       arith,
       fields_count table s.args.i p,
       row_fields table s.args.i _
           c.clause_at-c.ensures,
-    )) (omega (arith, c.if-values-k.false)) c.clause_field.result c.integer_at.result (field_at table s.args.i p l.j (omega (
+    )) (omega (arith, c.if-values-k.false)) c.clause_field.result c.item.result (field_at table s.args.i p l.j (omega (
       arith,
       row_fields table s.args.i _
           c.clause_at-c.ensures,
-    )) ∙ sym c.clause_field.ensures) (sym c.integer_at.ensures) (ap (λ (z : ℤ). eqb (get_or s.args.s.kinds c.clause_field.result 0) 1 && eq_z (get_or s.args.s.numbers
-    c.clause_field.result (pos 0)) z) (sym (to_z-of_z f)) ∙ sym c.has_integer.ensures ∙ c.if-has_integer.false))
+    )) ∙ sym c.clause_field.ensures) (sym c.item.ensures) (ap (λ (z : ℤ). eqb (get_or s.args.s.kinds c.clause_field.result 0) 1 && eq_z (get_or s.args.s.numbers
+    c.clause_field.result (pos 0)) z) (sym (to_z-of_z f)) ∙ sym c.has_integer.ensures ∙ c.if-not-has_integer.true))
 
 pub returns : goal.returns
 returns c =

@@ -10,6 +10,3 @@ use Rattle.agreements.proofs.fields_in.Given as goal
 abbrev pub invariant-loop-j : goal.invariant-loop-j
 invariant-loop-j l =
     (l.j ≤ clause_word l.table l.i 2) × (l.mask ≡ fields_in (drop l.j (clause_at l.table l.i).fields))
-
-abbrev pub decreases-loop-j : goal.decreases-loop-j
-decreases-loop-j l = l.j

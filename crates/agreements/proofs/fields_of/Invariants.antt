@@ -10,6 +10,3 @@ use Rattle.agreements.proofs.fields_of.Given as goal
 abbrev pub invariant-loop-i : goal.invariant-loop-i
 invariant-loop-i l =
     (l.i ≤ word_at l.table 5) × (l.mask ≡ fields_of (verb_of l.verb) (each_from l.i (word_at l.table 5 - l.i) (clause_at l.table)))
-
-abbrev pub decreases-loop-i : goal.decreases-loop-i
-decreases-loop-i l = l.i

@@ -2,8 +2,8 @@
 use mathlib.Core.Path.{◌∙◌}
 use mir.Val.{SFits}
 use mir.Syntax.{w64}
-use mir.Facts.{to_z-of_z}
 use Rattle.numbers.specs.Numbers.{eq_z}
+use Rattle.numbers.proofs.Whole.{eq_bits}
 use Rattle.state.proofs.Lengths.{kinds_length}
 use Rattle.agreements.proofs.Agreements.{no_integer, other_kind, integer_kind}
 use Rattle.agreements.proofs.has_integer.Goals as goal
@@ -19,5 +19,5 @@ returns-then-kinds-x-ne1 c =
 
 pub returns : goal.returns
 returns c =
-    let f : SFits w64 c.integer_at.result = record { sfits = c.integer_at.type_inv } in
-    c.same_integer.ensures ∙ (λ i. eq_z ((to_z-of_z f ∙ c.integer_at.ensures) i) (to_z-of_z c.ranges.z i)) ∙ integer_kind _ _ c.if-kinds-x-ne1.false
+    let f : SFits w64 c.item.result = record { sfits = c.item.type_inv } in
+    eq_bits c.item.result c.args.z f c.ranges.z ∙ (λ i. eq_z (c.item.ensures i) c.args.z) ∙ integer_kind _ _ c.if-kinds-x-ne1.false

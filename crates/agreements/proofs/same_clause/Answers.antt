@@ -24,11 +24,11 @@ overflow_add-p c =
     let p = placed s.args.table.now s.requires.0 s.args.i s.requires.1 in
     omega (arith, p.number)
 
-pub returns-then-number_at-c : goal.returns-then-number_at-c
-returns-then-number_at-c c =
+pub returns-then-item-c : goal.returns-then-item-c
+returns-then-item-c c =
     let s = c in
     let p = placed s.args.table.now s.requires.0 s.args.i s.requires.1 in
-    other_count (contract_of s.args.table.now) (clause_at s.args.table.now s.args.i) s.args.line.now s.args.parts.now s.args.spans.now s.args.values.now s.args.i s.args.at s.requires.3 (λ e. c.if-number_at-c.true (c.number_at.ensures ∙ e ∙ row_count s.args.table.now s.args.i _ c.clause_at-c.ensures p))
+    other_count (contract_of s.args.table.now) (clause_at s.args.table.now s.args.i) s.args.line.now s.args.parts.now s.args.spans.now s.args.values.now s.args.i s.args.at s.requires.3 (λ e. c.if-item-c.true (c.item.ensures ∙ e ∙ row_count s.args.table.now s.args.i _ c.clause_at-c.ensures p))
 
 pub overflow_add-at : goal.overflow_add-at
 overflow_add-at c =
@@ -39,7 +39,7 @@ overflow_add-at c =
 pub returns-then-values-at : goal.returns-then-values-at
 returns-then-values-at c =
     let s = c in
-    values_short (contract_of s.args.table.now) (clause_at s.args.table.now s.args.i) s.args.line.now s.args.parts.now s.args.spans.now s.args.values.now s.args.i s.args.at s.requires.3 (omega (arith, c.if-values-at.true, c.if-number_at-c.false, c.number_at.ensures))
+    values_short (contract_of s.args.table.now) (clause_at s.args.table.now s.args.i) s.args.line.now s.args.parts.now s.args.spans.now s.args.values.now s.args.i s.args.at s.requires.3 (omega (arith, c.if-values-at.true, c.if-item-c.false, c.item.ensures))
 
 pub overflow_add-p-2 : goal.overflow_add-p-2
 overflow_add-p-2 c =
@@ -52,7 +52,7 @@ returns-then-not-same_verb c =
     let s = c in
     let table = s.args.table.now in
     other_verb (contract_of table) (clause_at table s.args.i) s.args.line.now s.args.parts.now s.args.spans.now s.args.values.now s.args.i s.args.at s.requires.3
-    (omega (arith, c.if-values-at.false, c.if-number_at-c.false, c.number_at.ensures)) ((λ t. same_verb (sym (row_verb table s.args.i _ c.clause_at-c.ensures) t) (verb_of (sym c.number_at-2.ensures t))) ∙ sym c.same_verb.ensures ∙ c.if-not-same_verb.true)
+    (omega (arith, c.if-values-at.false, c.if-item-c.false, c.item.ensures)) ((λ t. same_verb (sym (row_verb table s.args.i _ c.clause_at-c.ensures) t) (verb_of (sym c.item-2.ensures t))) ∙ sym c.same_verb.ensures ∙ c.if-not-same_verb.true)
 
 pub overflow_mul-c : goal.overflow_mul-c
 overflow_mul-c c =
@@ -80,10 +80,10 @@ returns-then-named c =
     let table = s.args.table.now in
     let p = placed table s.requires.0 s.args.i s.requires.1 in
     c.same_fields.ensures
-    ∙ ap (λ (m : ℕ). same_fields (contract_of table) (clause_at table s.args.i).fields (words_in line m (drop (s.args.at * 2) spans))) (sym (row_fields table s.args.i _ c.clause_at-c.ensures) ∙ sym c.if-number_at-c.false ∙ c.number_at.ensures)
-    ∙ by_fields (contract_of table) (clause_at table s.args.i) line s.args.parts.now spans s.args.values.now s.args.i s.args.at s.requires.3 (omega (arith, c.if-values-at.false, c.if-number_at-c.false, c.number_at.ensures))
-    ((λ t. same_bytes (between line (sym c.number_at-3.ensures t) (sym c.number_at-4.ensures t)) (row_party table s.args.i _ c.clause_at-c.ensures p t)) ∙ sym c.named.ensures ∙ c.if-named.true)
-    ((λ t. same_verb (sym (row_verb table s.args.i _ c.clause_at-c.ensures) t) (verb_of (sym c.number_at-2.ensures t))) ∙ sym c.same_verb.ensures ∙ c.if-not-same_verb.false)
+    ∙ ap (λ (m : ℕ). same_fields (contract_of table) (clause_at table s.args.i).fields (words_in line m (drop (s.args.at * 2) spans))) (sym (row_fields table s.args.i _ c.clause_at-c.ensures) ∙ sym c.if-item-c.false ∙ c.item.ensures)
+    ∙ by_fields (contract_of table) (clause_at table s.args.i) line s.args.parts.now spans s.args.values.now s.args.i s.args.at s.requires.3 (omega (arith, c.if-values-at.false, c.if-item-c.false, c.item.ensures))
+    ((λ t. same_bytes (between line (sym c.item-3.ensures t) (sym c.item-4.ensures t)) (row_party table s.args.i _ c.clause_at-c.ensures p t)) ∙ sym c.named.ensures ∙ c.if-named.true)
+    ((λ t. same_verb (sym (row_verb table s.args.i _ c.clause_at-c.ensures) t) (verb_of (sym c.item-2.ensures t))) ∙ sym c.same_verb.ensures ∙ c.if-not-same_verb.false)
 
 pub returns : goal.returns
 returns c =
@@ -91,5 +91,5 @@ returns c =
     let line = s.args.line.now in
     let table = s.args.table.now in
     let p = placed table s.requires.0 s.args.i s.requires.1 in
-    other_party (contract_of table) (clause_at table s.args.i) line s.args.parts.now s.args.spans.now s.args.values.now s.args.i s.args.at s.requires.3 (omega (arith, c.if-values-at.false, c.if-number_at-c.false, c.number_at.ensures))
-    ((λ t. same_bytes (between line (sym c.number_at-3.ensures t) (sym c.number_at-4.ensures t)) (row_party table s.args.i _ c.clause_at-c.ensures p t)) ∙ sym c.named.ensures ∙ c.if-named.false)
+    other_party (contract_of table) (clause_at table s.args.i) line s.args.parts.now s.args.spans.now s.args.values.now s.args.i s.args.at s.requires.3 (omega (arith, c.if-values-at.false, c.if-item-c.false, c.item.ensures))
+    ((λ t. same_bytes (between line (sym c.item-3.ensures t) (sym c.item-4.ensures t)) (row_party table s.args.i _ c.clause_at-c.ensures p t)) ∙ sym c.named.ensures ∙ c.if-named.false)

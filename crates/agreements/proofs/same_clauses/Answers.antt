@@ -40,13 +40,6 @@ overflow_add-at c =
     let p = placed s.args.table.now s.requires l.i (omega (arith, l.invariant.0)) in
     omega (arith, l.invariant.1, row_few s.args.table.now l.i _ c.clause_at-c.ensures p, p.number)
 
-pub overflow_add-i : goal.overflow_add-i
-overflow_add-i c =
-    let s = c in
-    let l = c.loop-i in
-    let p = placed s.args.table.now s.requires l.i (omega (arith, l.invariant.0)) in
-    omega (arith, p.number)
-
 pub loop-i-preserved : goal.loop-i-preserved
 loop-i-preserved c =
     let s = c in
@@ -57,15 +50,15 @@ loop-i-preserved c =
     let values = s.args.values.now in
     let l = c.loop-i in
     let p = placed table s.requires l.i (omega (arith, l.invariant.0)) in
-    let k = same_clause_counts (contract_of table) (clause_at table l.i) line parts spans values l.i l.at l.invariant.2 (sym c.same_clause.ensures ∙ c.if-same_clause.true) in
+    let k = same_clause_counts (contract_of table) (clause_at table l.i) line parts spans values l.i l.at l.invariant.2 (sym c.same_clause.ensures ∙ c.if-not-same_clause.false) in
     let q = k.0 ∙ row_count table l.i _ c.clause_at-c.ensures p in
-    (l.invariant.0, (omega (arith, l.invariant.1, row_few table l.i _ c.clause_at-c.ensures p)), omega (arith, k.1, q), omega arith, l.invariant.4 ∙ clauses_more (contract_of table) (clause_at table) line parts spans values (word_at table 5) l.i l.at _ (omega (arith, l.invariant.0)) q (sym c.same_clause.ensures ∙ c.if-same_clause.true))
+    (l.invariant.0, (omega (arith, l.invariant.1, row_few table l.i _ c.clause_at-c.ensures p)), omega (arith, k.1, q), omega arith, l.invariant.4 ∙ clauses_more (contract_of table) (clause_at table) line parts spans values (word_at table 5) l.i l.at _ (omega (arith, l.invariant.0)) q (sym c.same_clause.ensures ∙ c.if-not-same_clause.false))
 
-pub returns-else-same_clause : goal.returns-else-same_clause
-returns-else-same_clause c =
+pub returns-then-not-same_clause : goal.returns-then-not-same_clause
+returns-then-not-same_clause c =
     let s = c in
     let l = c.loop-i in
-    sym (l.invariant.4 ∙ clauses_not (contract_of s.args.table.now) (clause_at s.args.table.now) s.args.line.now s.args.parts.now s.args.spans.now s.args.values.now (word_at s.args.table.now 5) l.i l.at (omega (arith, l.invariant.0)) (sym c.same_clause.ensures ∙ c.if-same_clause.false))
+    sym (l.invariant.4 ∙ clauses_not (contract_of s.args.table.now) (clause_at s.args.table.now) s.args.line.now s.args.parts.now s.args.spans.now s.args.values.now (word_at s.args.table.now 5) l.i l.at (omega (arith, l.invariant.0)) (sym c.same_clause.ensures ∙ c.if-not-same_clause.true))
 
 pub overflow_mul-result : goal.overflow_mul-result
 overflow_mul-result c =

@@ -11,7 +11,3 @@ use Rattle.agreements.proofs.same_clauses.Given as goal
 abbrev pub invariant-loop-i : goal.invariant-loop-i
 invariant-loop-i l =
     (l.count ≡ word_at l.table 5) × (l.at ≤ l.i * 32) × (l.at ≤ length l.values) × (l.i ≤ l.count) × (same_clauses (contract_of l.table) (contract_of l.table).clauses (parts_in l.line (length l.parts / 4) l.parts l.spans l.values) ≡ same_clauses (contract_of l.table) (each_from l.i (word_at l.table 5 - l.i) (clause_at l.table)) (parts_from l.line l.parts l.spans l.values (word_at l.table 5) l.i l.at))
-
-abbrev pub decreases-loop-i : goal.decreases-loop-i
-decreases-loop-i l =
-    l.count - l.i

@@ -46,12 +46,6 @@ overflow_add-from-in-loop-j c =
     let p = placed s.args.table.now s.requires.0 s.args.i s.requires.1 in
     omega (arith, p.many, s.requires.2, row_fields s.args.table.now s.args.i _ c.clause_at-c.ensures)
 
-pub overflow_add-j : goal.overflow_add-j
-overflow_add-j c =
-    let s = c in
-    let p = placed s.args.table.now s.requires.0 s.args.i s.requires.1 in
-    omega (arith, p.many, row_fields s.args.table.now s.args.i _ c.clause_at-c.ensures)
-
 pub loop-j-preserved : goal.loop-j-preserved
 loop-j-preserved c =
     let s = c in
@@ -62,12 +56,12 @@ loop-j-preserved c =
     let p = placed table s.requires.0 s.args.i s.requires.1 in
     l.invariant
     ∙ fields_more (contract_of table) line (clause_at table s.args.i).fields (drop (s.args.at * 2) spans) (clause_word table s.args.i 2) l.j (fields_count table s.args.i p)
-    (omega (arith, row_fields table s.args.i _ c.clause_at-c.ensures)) (here table line spans s.args.at l.j _ _ c.number_at.ensures c.number_at-in-loop-j.ensures (clause_at table
+    (omega (arith, row_fields table s.args.i _ c.clause_at-c.ensures)) (here table line spans s.args.at l.j _ _ c.item.ensures c.item-in-loop-j.ensures (clause_at table
     s.args.i).fields c.clause_field.result (field_at table s.args.i p l.j (omega (arith, row_fields table s.args.i _ c.clause_at-c.ensures)) ∙ sym c.clause_field.ensures) (omega
-    (arith, p.field l.j (omega (arith, row_fields table s.args.i _ c.clause_at-c.ensures)), c.clause_field.ensures)) ∙ sym c.named.ensures ∙ c.if-named.true)
+    (arith, p.field l.j (omega (arith, row_fields table s.args.i _ c.clause_at-c.ensures)), c.clause_field.ensures)) ∙ sym c.named.ensures ∙ c.if-not-named.false)
 
-pub returns-else-named : goal.returns-else-named
-returns-else-named c =
+pub returns-then-not-named : goal.returns-then-not-named
+returns-then-not-named c =
     let s = c in
     let line = s.args.line.now in
     let spans = s.args.spans.now in
@@ -75,13 +69,13 @@ returns-else-named c =
     let l = c.loop-j in
     let p = placed table s.requires.0 s.args.i s.requires.1 in
     sym (l.invariant ∙ fields_not (contract_of table) line (clause_at table s.args.i).fields (drop (s.args.at * 2) spans) (clause_word table s.args.i 2) l.j (fields_count table s.args.i p) (omega
-    (arith, row_fields table s.args.i _ c.clause_at-c.ensures)) (here table line spans s.args.at l.j _ _ c.number_at.ensures c.number_at-in-loop-j.ensures (clause_at table s.args.i).fields
+    (arith, row_fields table s.args.i _ c.clause_at-c.ensures)) (here table line spans s.args.at l.j _ _ c.item.ensures c.item-in-loop-j.ensures (clause_at table s.args.i).fields
     c.clause_field.result (field_at table s.args.i p l.j (omega (arith, row_fields table s.args.i _ c.clause_at-c.ensures)) ∙ sym c.clause_field.ensures) (omega (
       arith,
       p.field l.j
           (omega (arith, row_fields table s.args.i _ c.clause_at-c.ensures)),
       c.clause_field.ensures,
-    )) ∙ sym c.named.ensures ∙ c.if-named.false))
+    )) ∙ sym c.named.ensures ∙ c.if-not-named.true))
 
 pub returns : goal.returns
 returns c =

@@ -10,7 +10,3 @@ use Rattle.agreements.proofs.same_fields.Given as goal
 abbrev pub invariant-loop-j : goal.invariant-loop-j
 invariant-loop-j l =
     same_fields (contract_of l.table) (clause_at l.table l.i).fields (words_in l.line (clause_word l.table l.i 2) (drop (l.at * 2) l.spans)) ≡ same_fields (contract_of l.table) (drop l.j (clause_at l.table l.i).fields) (words_in l.line (clause_word l.table l.i 2 - l.j) (drop (l.j * 2) (drop (l.at * 2) l.spans)))
-
-abbrev pub decreases-loop-j : goal.decreases-loop-j
-decreases-loop-j l =
-    l.n - l.j

@@ -7,7 +7,7 @@ returns-then-a-eq0 c =
     let s = c in
     verb_set s.args.a s.args.b c.if-a-eq0.true
 
-pub returns : goal.returns
-returns c =
+pub returns-else-a-eq0 : goal.returns-else-a-eq0
+returns-else-a-eq0 c =
     let s = c in
     verb_ok s.args.a s.args.b c.if-a-eq0.false

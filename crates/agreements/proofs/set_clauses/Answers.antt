@@ -30,13 +30,6 @@ overflow_add-at c =
     let p = placed s.args.table.now s.requires l.i (omega (arith, l.invariant.0)) in
     omega (arith, l.invariant.1, row_few s.args.table.now l.i _ c.clause_at-c.ensures p, p.number)
 
-pub overflow_add-i : goal.overflow_add-i
-overflow_add-i c =
-    let s = c in
-    let l = c.loop-i in
-    let p = placed s.args.table.now s.requires l.i (omega (arith, l.invariant.0)) in
-    omega (arith, p.number)
-
 pub loop-i-preserved : goal.loop-i-preserved
 loop-i-preserved c =
     let s = c in

@@ -10,7 +10,3 @@ use Rattle.agreements.proofs.set_clauses.Given as goal
 abbrev pub invariant-loop-i : goal.invariant-loop-i
 invariant-loop-i l =
     (l.count ≡ word_at l.table 5) × (l.at ≤ l.i * 32) × (set_by l.initial.next (contract_of l.table).clauses l.values ≡ set_by l.next (each_from l.i (word_at l.table 5 - l.i) (clause_at l.table)) (drop l.at l.values))
-
-abbrev pub decreases-loop-i : goal.decreases-loop-i
-decreases-loop-i l =
-    l.count - l.i

@@ -30,12 +30,6 @@ returns-then-values-k c =
     let l = c.loop-j in
     sym (l.invariant ∙ set_short (clause_at s.args.table.now s.args.i).fields s.args.values.now s.args.at l.j l.next c.if-values-k.true)
 
-pub overflow_add-j : goal.overflow_add-j
-overflow_add-j c =
-    let s = c in
-    let p = placed s.args.table.now s.requires.0 s.args.i s.requires.1 in
-    omega (arith, p.many, row_fields s.args.table.now s.args.i _ c.clause_at-c.ensures)
-
 pub loop-j-preserved : goal.loop-j-preserved
 loop-j-preserved c =
     let s = c in
@@ -43,11 +37,11 @@ loop-j-preserved c =
     let values = s.args.values.now in
     let l = c.loop-j in
     let p = placed table s.requires.0 s.args.i s.requires.1 in
-    let f : SFits w64 c.integer_at.result = record { sfits = c.integer_at.type_inv } in
+    let f : SFits w64 c.item.result = record { sfits = c.item.type_inv } in
     l.invariant
     ∙ set_more (clause_at table s.args.i).fields values s.args.at l.j l.next (omega (arith, fields_count table s.args.i p, row_fields table s.args.i _ c.clause_at-c.ensures))
-    (omega (arith, c.if-values-k.false)) c.clause_field.result c.integer_at.result (field_at table s.args.i p l.j (omega (arith, row_fields table s.args.i _ c.clause_at-c.ensures)) ∙ sym c.clause_field.ensures)
-    (sym c.integer_at.ensures)
+    (omega (arith, c.if-values-k.false)) c.clause_field.result c.item.result (field_at table s.args.i p l.j (omega (arith, row_fields table s.args.i _ c.clause_at-c.ensures)) ∙ sym c.clause_field.ensures)
+    (sym c.item.ensures)
     ∙ ap (λ (x : State). set_fields x (drop (l.j + 1) (clause_at table s.args.i).fields) (drop (l.j + 1) (drop s.args.at values))) (sym (c.with_integer-next.ensures ∙ ap (with_integer l.next c.clause_field.result) (to_z-of_z f)))
 
 pub returns : goal.returns

@@ -1,27 +1,18 @@
 -- `holdings::parameters_empty` meets its contract. Assumes nothing.
-use mathlib.Core.Path.{refl, sym, ◌∙◌}
-use Prim.Native.Nat.{ℕ}
-use native.Mathlib.Omega.{arith}
-use lib.Dec.{eqb}
-use borrow.Author.Tests.{eq-eqb, ne_eqb}
-use Rattle.holdings.proofs.Tests.{every_more, every_not, every_done}
+use Rattle.std.proofs.Common.{◌≡◌, ◌≤◌, eqb, drop, take, length, ap, ◌∙◌, rules, arith}
+use lib.ListN.{length-drop}
+use lib.Seq.{take_all}
+use Rattle.laws.specs.Lists.{every}
+use Rattle.std.proofs.lemmas.Iterator.{YieldsList-from_slice}
+use Rattle.std.proofs.lemmas.Iterator.Search.{all_from_yields_List}
+use Rattle.holdings.proofs.Copies.{all_every}
 use Rattle.holdings.proofs.parameters_empty.Goals as goal
-
-pub loop-i-init : goal.loop-i-init
-loop-i-init c =
-    (omega arith, refl)
-
-pub loop-i-preserved : goal.loop-i-preserved
-loop-i-preserved c =
-    let l = c.loop-i in
-    (omega arith, l.invariant.1 ∙ every_more (λ (a : ℕ). eqb a 0) c.args.holdings _ 0 (omega (arith, c.well_formed.0.1.0.1)) (eq-eqb _ 0 c.if-holdings-i-eq0.true))
-
-pub returns-else-holdings-i-eq0 : goal.returns-else-holdings-i-eq0
-returns-else-holdings-i-eq0 c =
-    let l = c.loop-i in
-    sym (l.invariant.1 ∙ every_not (λ (a : ℕ). eqb a 0) c.args.holdings _ 0 (omega (arith, c.well_formed.0.1.0.1)) (ne_eqb _ 0 c.if-holdings-i-eq0.false))
 
 pub returns : goal.returns
 returns c =
-    let l = c.loop-i in
-    sym (l.invariant.1 ∙ every_done (λ (a : ℕ). eqb a 0) c.args.holdings l.i 0 (omega (arith, c.well_formed.0.1.0.1)))
+    let l = take 4 (drop 16 c.args.holdings) in
+    let full : length c.args.holdings ≡ 20 = c.well_formed.0.1.0.1 in
+    let few : length (drop 16 c.args.holdings) ≤ 4 = omega (arith, length-drop 16 c.args.holdings) in
+    all_from_yields_List (λ a. eqb a 0) _ _ c.all.result c.all.ensures.ran (YieldsList-from_slice l c.iter.ensures.rest) (λ x b q k. search rules)
+    ∙ all_every (λ a. eqb a 0) l
+    ∙ ap (every (λ a. eqb a 0)) (take_all 4 (drop 16 c.args.holdings) few)

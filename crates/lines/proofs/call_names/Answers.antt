@@ -1,28 +1,25 @@
 -- `lines::call_names` meets its contract. Assumes nothing.
-use borrow.Author.Rules.{rules}
 use Rattle.lines.specs.Lines.{names}
-use Rattle.lines.proofs.Got.{name_got, name_missed, mark_got, mark_missed}
+use Rattle.lines.specs.Private.{span_in}
+use Rattle.lines.proofs.Got.{name_got, given_missed, place_got, place_missed}
 use Rattle.lines.proofs.call_names.Goals as goal
 
-pub enum_told-1 : goal.enum_told-1
-enum_told-1 c = search rules
-
-pub returns-in_default : goal.returns-in_default
+pub returns-in_err-party : goal.returns-in_err-party
 unfolding names
-returns-in_default c =
-    rw (name_missed _ _ c.name.ensures c.in_default.is)
+returns-in_err-party c =
+    rw (given_missed span_in _ c.in_err-party.ensures) c.from_residual.ensures
 
-pub returns-in_default-mark : goal.returns-in_default-mark
+pub returns-in_err-i : goal.returns-in_err-i
 unfolding names
-returns-in_default-mark c =
-    rw (name_got _ _ c.name.ensures c.in-At.is, mark_missed _ _ _ c.mark.ensures c.in_default-mark.is)
+returns-in_err-i c =
+    rw (name_got _ _ c.in_ok-party.ensures, place_missed _ c.in_err-i.ensures) c.from_residual-in_err-i.ensures
 
-pub returns-in_default-name : goal.returns-in_default-name
+pub returns-in_err-function : goal.returns-in_err-function
 unfolding names
-returns-in_default-name c =
-    rw (name_got _ _ c.name.ensures c.in-At.is, mark_got _ _ _ c.mark.ensures c.in-At-mark.is, name_missed _ _ c.name-2.ensures c.in_default-name.is)
+returns-in_err-function c =
+    rw (name_got _ _ c.in_ok-party.ensures, place_got _ c.in_ok-i.ensures, given_missed span_in _ c.in_err-function.ensures) c.from_residual-in_err-function.ensures
 
 pub returns : goal.returns
 unfolding names
 returns c =
-    rw (name_got _ _ c.name.ensures c.in-At.is, mark_got _ _ _ c.mark.ensures c.in-At-mark.is, name_got _ _ c.name-2.ensures c.in-At-name.is)
+    rw (name_got _ _ c.in_ok-party.ensures, place_got _ c.in_ok-i.ensures, name_got _ _ c.in_ok-function.ensures)

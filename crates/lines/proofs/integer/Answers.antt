@@ -1,17 +1,14 @@
 -- `lines::integer` meets its contract. Assumes nothing.
 use mathlib.Core.Path.{sym, ap, ◌∙◌}
-use Rattle.lines.specs.Private.{whole_of}
-use Rattle.lines.proofs.Parse.{integer_minus, integer_plain, integer_past}
+use lib.IntN.{ℤ}
+use Rattle.lines.specs.Private.{read_of}
+use Rattle.lines.proofs.Parse.{integer_minus, integer_plain}
 use Rattle.lines.proofs.integer.Goals as goal
 
-pub returns-then-line-i-eq45 : goal.returns-then-line-i-eq45
-returns-then-line-i-eq45 c =
-    c.negative_at.ensures ∙ sym (ap whole_of (integer_minus _ _ c.skip-i.ensures c.if-i-line.true c.if-line-i-eq45.true))
-
-pub returns-then-i-line : goal.returns-then-i-line
-returns-then-i-line c =
-    c.positive_at.ensures ∙ sym (ap whole_of (integer_plain _ _ c.skip-i.ensures c.if-i-line.true c.if-line-i-eq45.false))
+pub returns-then-minus : goal.returns-then-minus
+returns-then-minus c =
+    c.digits.ensures ∙ sym (ap (read_of (λ (z : ℤ). z)) (integer_minus _ _ c.skip-i.ensures (sym c.byte_at-minus.ensures ∙ c.if-minus.true)))
 
 pub returns : goal.returns
 returns c =
-    sym (ap whole_of (integer_past _ _ c.skip-i.ensures c.if-i-line.false))
+    c.digits-2.ensures ∙ sym (ap (read_of (λ (z : ℤ). z)) (integer_plain _ _ c.skip-i.ensures (λ e. c.if-minus.false (c.byte_at-minus.ensures ∙ e))))

@@ -1,50 +1,48 @@
--- `lines::integers_from` meets its contract. The invariant, `Integers`: what was read so far is stored, and what is left of the line gives the rest. Assumes nothing.
+-- `lines::integers_from` meets its contract. Assumes nothing.
 use borrow.Author.Rules.{rules}
-use mathlib.Core.Path.{refl, ◌∙◌}
+use mathlib.Core.Path.{◌≡◌, refl, ap, ◌∙◌}
+use mathlib.Core.List.{[], ◌∷◌}
 use native.Mathlib.Omega.{arith}
-use Rattle.lines.proofs.Got.{integer_got, integer_missed, mark_got, mark_missed}
-use Rattle.lines.proofs.Loops.{integers_length, integers_begin, integers_missing, integers_inside, integers_on, integers_turn, integers_last, integers_unclosed}
+use lib.IntN.{ℤ}
+use mir.Syntax.{w64}
+use mir.Val.{to_z, of_z}
+use Rattle.lines.specs.declared.Integers.{Integers}
+use Rattle.lines.specs.Private.{with_integers}
+use Rattle.lines.proofs.Got.{place_got, place_missed, integer_got, read_missed}
+use Rattle.lines.proofs.Ahead.{integer_ahead, mark_ahead}
+use Rattle.lines.proofs.Loops.{started, item_missing, turns_over, one_more, closing, no_integers, integer_more}
 use Rattle.lines.proofs.integers_from.Goals as goal
 
-pub loop-z-init : goal.loop-z-init
-loop-z-init c =
-    integers_begin _ _ _ _ _ c.requires
+pub loop-turn-init : goal.loop-turn-init
+loop-turn-init c =
+    started _ _ _ _ _ _ (no_integers _)
 
-pub enum_told-1 : goal.enum_told-1
-enum_told-1 c = search rules
+pub returns-in_err-read : goal.returns-in_err-read
+returns-in_err-read c =
+    item_missing _ _ _ _ _ c.loop-turn.invariant _ (read_missed (λ (z : ℤ). z) _ c.in_err-read.ensures) c.from_residual.ensures
 
-pub shape_of-out-in_default : goal.shape_of-out-in_default
-shape_of-out-in_default c =
-    integers_length c.loop-z.invariant
+pub add_integer-requires : goal.add_integer-requires
+add_integer-requires c =
+    let v = c.loop-turn.invariant in
+    let a = integer_ahead _ _ (integer_got _ _ c.in_ok-read.ensures) in
+    omega (arith, v.behind, a.more, a.inside, ap (λ (x : Integers). x.count) v.stored, c.requires.0)
 
 pub returns-in_default : goal.returns-in_default
 returns-in_default c =
-    integers_missing c.loop-z.invariant _ (integer_missed _ _ c.integer.ensures c.in_default.is) refl
+    let e : to_z w64 (of_z w64 c.in_ok-read.read.value) ≡ c.in_ok-read.read.value = search rules in
+    closing _ _ _ _ _ c.loop-turn.invariant (integer_got _ _ c.in_ok-read.ensures) c.loop-turn-test.true
+    (integer_more _ _ _ c.loop-turn.invariant.stored (c.add_integer.ensures ∙ ap (λ (z : ℤ). with_integers c.loop-turn.out (z ∷ [])) e))
+    (place_missed _ c.in_default.ensures) c.mark-in_default.ensures
 
-pub overflow_add-k : goal.overflow_add-k
-overflow_add-k c =
-    omega (arith, c.loop-z.invariant.behind, integers_inside c.loop-z.invariant (integer_got _ _ c.integer.ensures c.in-Is.is))
+pub loop-turn-preserved : goal.loop-turn-preserved
+loop-turn-preserved c =
+    let e : to_z w64 (of_z w64 c.in_ok-read.read.value) ≡ c.in_ok-read.read.value = search rules in
+    let got = integer_got _ _ c.in_ok-read.ensures in
+    let comma = place_got _ c.in-Some.ensures in
+    one_more _ _ _ _ _ c.loop-turn.invariant got c.loop-turn-test.true
+    (integer_more _ _ _ c.loop-turn.invariant.stored (c.add_integer.ensures ∙ ap (λ (z : ℤ). with_integers c.loop-turn.out (z ∷ [])) e))
+    comma (omega (arith, (integer_ahead _ _ got).more, (mark_ahead _ 44 [] _ comma).more))
 
-pub shape_of-out-in_default-mark-2 : goal.shape_of-out-in_default-mark-2
-shape_of-out-in_default-mark-2 c =
-    c.store.auto.out ∙ integers_length c.loop-z.invariant
-
-pub returns-in_default-mark-2 : goal.returns-in_default-mark-2
-returns-in_default-mark-2 c =
-    integers_unclosed c.loop-z.invariant (integer_got _ _ c.integer.ensures c.in-Is.is) _ (mark_missed _ _ _ c.mark.ensures c.in_default-mark.is) (mark_missed _ _ _ c.mark-in_default-mark.ensures c.in_default-mark-2.is) refl
-
-pub shape_of-out-in_default-mark : goal.shape_of-out-in_default-mark
-shape_of-out-in_default-mark c =
-    c.store.auto.out ∙ integers_length c.loop-z.invariant
-
-pub returns-in_default-mark : goal.returns-in_default-mark
-returns-in_default-mark c =
-    integers_last c.loop-z.invariant (integer_got _ _ c.integer.ensures c.in-Is.is) (record { sfits = c.in-Is.known_told-1-own.given.0.1 }) c.store.ensures (mark_missed _ _ _ c.mark.ensures c.in_default-mark.is) (mark_got _ _ _ c.mark-in_default-mark.ensures c.in-At-mark.is) refl
-
-pub loop-z-smaller : goal.loop-z-smaller
-loop-z-smaller c =
-    omega (arith, integers_inside c.loop-z.invariant (integer_got _ _ c.integer.ensures c.in-Is.is), integers_on c.loop-z.invariant (integer_got _ _ c.integer.ensures c.in-Is.is) (mark_got _ _ _ c.mark.ensures c.in-At.is))
-
-pub loop-z-preserved : goal.loop-z-preserved
-loop-z-preserved c =
-    integers_turn c.loop-z.invariant (integer_got _ _ c.integer.ensures c.in-Is.is) (record { sfits = c.in-Is.known_told-1-own.given.0.1 }) c.store.ensures (mark_got _ _ _ c.mark.ensures c.in-At.is)
+pub returns : goal.returns
+returns c =
+    turns_over _ _ _ _ _ c.loop-turn.invariant _ c.loop-turn-test.false refl

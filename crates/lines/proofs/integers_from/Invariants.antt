@@ -1,13 +1,10 @@
--- `lines::integers_from` meets its contract. The invariant, `Integers`: what was read so far is stored, and what is left of the line gives the rest. Assumes nothing.
-use Prim.Native.Nat.{◌-◌}
-use lib.ListN.{length}
-use Rattle.lines.proofs.Loops.{Integers}
+-- `lines::integers_from` meets its contract. Assumes nothing.
+use mathlib.Core.List.{[], ◌∷◌}
+use Rattle.lines.specs.Lines.{mark, integer}
+use Rattle.lines.specs.Private.{with_integers}
+use Rattle.lines.proofs.Loops.{SoFar}
 use Rattle.lines.proofs.integers_from.Given as goal
 
-abbrev pub invariant-loop-z : goal.invariant-loop-z
-invariant-loop-z l =
-    Integers l.line l.at l.close l.from l.initial.out l.out l.k l.i
-
-abbrev pub decreases-loop-z : goal.decreases-loop-z
-decreases-loop-z l =
-    length l.line - l.i
+abbrev pub invariant-loop-turn : goal.invariant-loop-turn
+invariant-loop-turn l =
+    SoFar l.line (integer l.line) (44 ∷ []) (mark l.line l.close) (with_integers l.initial.out) l.at l.turn l.i l.out

@@ -1,29 +1,34 @@
 -- `lines::jump_end` meets its contract. Assumes nothing.
 use borrow.Author.Rules.{rules}
-use mathlib.Core.Path.{sym, ap, ◌∙◌}
+use mathlib.Core.Path.{◌≡◌, sym, ap, ◌∙◌}
+use lib.IntN.{ℤ}
 use mir.Syntax.{w64}
-use mir.ValLaws.{to_z-of_z}
-use Rattle.lines.specs.declared.Time.TheVariants.{Jump}
-use Rattle.lines.proofs.Got.{integer_got, integer_missed, mark_got, mark_missed}
-use Rattle.lines.proofs.Times.{jump_none, jump_open, jump_whole, jump_more}
+use mir.Val.{to_z, of_z}
+use Rattle.std.specs.Prelude.{Some}
+use Rattle.lines.specs.Lines.{jump_end, closed}
+use Rattle.lines.specs.Answers.{line_of}
+use Rattle.lines.specs.declared.Request.TheVariants.{Jump}
+use Rattle.lines.proofs.Got.{integer_got, read_missed, place_got, place_missed, end_yes, end_no}
 use Rattle.lines.proofs.jump_end.Goals as goal
 
-pub enum_told-1 : goal.enum_told-1
-enum_told-1 c = search rules
+pub returns-in_err-clock : goal.returns-in_err-clock
+unfolding jump_end
+returns-in_err-clock c =
+    rw (read_missed (λ (z : ℤ). z) _ c.in_err-clock.ensures) c.from_residual.ensures
 
-pub returns-in_default : goal.returns-in_default
-returns-in_default c =
-    jump_none _ _ (integer_missed _ _ c.integer.ensures c.in_default.is)
-
-pub returns-in_default-mark : goal.returns-in_default-mark
-returns-in_default-mark c =
-    jump_open _ _ (integer_got _ _ c.integer.ensures c.in-Is.is) (mark_missed _ _ _ c.mark.ensures c.in_default-mark.is)
+pub returns-in_err-i : goal.returns-in_err-i
+unfolding jump_end closed
+returns-in_err-i c =
+    rw (integer_got _ _ c.in_ok-clock.ensures, place_missed _ c.in_err-i.ensures) c.from_residual-in_err-i.ensures
 
 pub returns-then-ends : goal.returns-then-ends
+unfolding jump_end closed line_of
 returns-then-ends c =
-    ap Jump (to_z-of_z w64 c.in-Is.z (record { sfits = c.in-Is.known_told-1-own.given.0.1 }))
-    ∙ jump_whole _ _ (integer_got _ _ c.integer.ensures c.in-Is.is) (mark_got _ _ _ c.mark.ensures c.in-At.is) (sym c.ends.ensures ∙ c.if-ends.true)
+    let e : to_z w64 (of_z w64 c.in_ok-clock.clock.value) ≡ c.in_ok-clock.clock.value = search rules in
+    rw (integer_got _ _ c.in_ok-clock.ensures, place_got _ c.in_ok-i.ensures, end_yes _ _ (sym c.ends.ensures ∙ c.if-ends.true))
+    (ap (λ (z : ℤ). Some (Jump z)) e)
 
 pub returns : goal.returns
+unfolding jump_end closed
 returns c =
-    jump_more _ _ (integer_got _ _ c.integer.ensures c.in-Is.is) (mark_got _ _ _ c.mark.ensures c.in-At.is) (sym c.ends.ensures ∙ c.if-ends.false)
+    rw (integer_got _ _ c.in_ok-clock.ensures, place_got _ c.in_ok-i.ensures, end_no _ _ (sym c.ends.ensures ∙ c.if-ends.false))

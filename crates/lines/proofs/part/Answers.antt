@@ -1,38 +1,38 @@
 -- `lines::part` meets its contract. Assumes nothing.
-use borrow.Author.Rules.{rules}
-use mathlib.Core.Path.{refl}
+use mathlib.Core.Path.{refl, ap}
 use native.Mathlib.Omega.{arith}
-use Rattle.lines.proofs.Got.{name_got, name_missed, verb_missed}
-use Rattle.lines.proofs.Agreed.{fields_got, fields_missed, verb_got, party_missing, party_on, verb_missing, verb_on, fields_missing, part_after, part_stored}
+use Rattle.lines.specs.declared.Agreement.{Agreement}
+use Rattle.lines.specs.Private.{span_in, verb_in}
+use Rattle.lines.proofs.Got.{name_got, given_missed, read_missed, added_got, added_missed, added_no}
+use Rattle.lines.proofs.Agreed.{verb_got, party_missing, party_on, verb_missing, verb_on, fields_missing, part_added}
 use Rattle.lines.proofs.part.Goals as goal
 
-pub enum_told-1 : goal.enum_told-1
-enum_told-1 c = search rules
+pub returns-in_err-party : goal.returns-in_err-party
+returns-in_err-party c =
+    added_no _ _ (party_missing _ _ (given_missed span_in _ c.in_err-party.ensures)) c.from_residual.ensures
 
-pub returns-in_default : goal.returns-in_default
-returns-in_default c =
-    party_missing _ _ _ _ _ _ _ _ _ _ (name_missed _ _ c.name.ensures c.in_default.is) refl
+pub returns-in_err-verb : goal.returns-in_err-verb
+returns-in_err-verb c =
+    added_no _ _ (verb_missing _ _ (name_got _ _ c.in_ok-party.ensures) (read_missed verb_in _ c.in_err-verb.ensures)) c.from_residual-in_err-verb.ensures
 
-pub returns-in_default-verb : goal.returns-in_default-verb
-returns-in_default-verb c =
-    verb_missing _ _ _ _ _ _ _ (name_got _ _ c.name.ensures c.in-At.is) _ _ _ (verb_missed _ _ c.verb.ensures c.in_default-verb.is) refl
+pub field_list-requires : goal.field_list-requires
+field_list-requires c =
+    omega (arith, c.requires.2, verb_on _ _ (name_got _ _ c.in_ok-party.ensures) (verb_got _ _ c.in_ok-verb.ensures))
 
-pub returns-in_default-fields : goal.returns-in_default-fields
-returns-in_default-fields c =
-    fields_missing _ _ _ _ _ _ _ (name_got _ _ c.name.ensures c.in-At.is) (verb_got _ _ c.verb.ensures c.in-At-verb.is) _ _ _ (fields_missed _ _ _ _ _ _ c.fields.ensures c.in_default-fields.is) refl
+pub returns-in_err-next : goal.returns-in_err-next
+returns-in_err-next c =
+    added_no _ _ (fields_missing _ _ (name_got _ _ c.in_ok-party.ensures) (verb_got _ _ c.in_ok-verb.ensures) (added_missed _ _ _ c.in_err-next.ensures)) c.from_residual-in_err-next.ensures
 
-pub overflow_sub-all : goal.overflow_sub-all
-overflow_sub-all c =
-    part_after (fields_got _ _ _ _ _ _ c.fields.ensures c.in-At-fields.is)
+pub overflow_sub-out : goal.overflow_sub-out
+overflow_sub-out c =
+    let f = added_got _ _ c.in_ok-next.ensures in
+    omega (arith, ap (λ (a : Agreement). a.fields) f.stored)
+
+pub add_head-requires : goal.add_head-requires
+add_head-requires c =
+    let f = added_got _ _ c.in_ok-next.ensures in
+    omega (arith, ap (λ (a : Agreement). a.parts) f.stored, c.requires.0, c.requires.1, party_on _ _ (name_got _ _ c.in_ok-party.ensures))
 
 pub returns : goal.returns
 returns c =
-    part_stored _ _ _ _ _ _ _ (name_got _ _ c.name.ensures c.in-At.is) (verb_got _ _ c.verb.ensures c.in-At-verb.is) (fields_got _ _ _ _ _ _ c.fields.ensures c.in-At-fields.is) c.store_head.ensures refl
-
-pub fields-requires : goal.fields-requires
-fields-requires c =
-    omega (arith, c.requires.2, verb_on _ _ (name_got _ _ c.name.ensures c.in-At.is) (verb_got _ _ c.verb.ensures c.in-At-verb.is))
-
-pub store_head-requires : goal.store_head-requires
-store_head-requires c =
-    omega (arith, c.requires.0, c.requires.1, party_on _ _ (name_got _ _ c.name.ensures c.in-At.is))
+    part_added _ _ (name_got _ _ c.in_ok-party.ensures) (verb_got _ _ c.in_ok-verb.ensures) _ (added_got _ _ c.in_ok-next.ensures) refl c.add_head.ensures refl

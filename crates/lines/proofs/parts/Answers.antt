@@ -1,48 +1,69 @@
--- `lines::parts` meets its contract. The invariant, `Turned`: what was read so far is stored, and what is left of the line gives the rest. Assumes nothing.
-use borrow.Author.Rules.{rules}
-use mathlib.Core.Path.{refl, sym, ◌∙◌}
+-- `lines::parts` meets its contract. Assumes nothing.
+use mathlib.Core.Path.{sym, ap, ◌∙◌}
+use mathlib.Core.List.{[], ◌∷◌}
 use native.Mathlib.Omega.{arith}
+use Rattle.std.specs.Prelude.{Some}
 use Rattle.words.specs.Words.{spelled}
-use Rattle.lines.proofs.Got.{mark_got, mark_missed}
-use Rattle.lines.proofs.Agreed.{parts_begin, parts_missing, part_got, part_missed, part_inside, part_on, parts_turn, parts_last, parts_unclosed}
+use Rattle.lines.specs.Lines.{end, part, parts}
+use Rattle.lines.specs.Answers.{agreement_of}
+use Rattle.lines.specs.declared.Agreement.{Agreement}
+use Rattle.lines.specs.Private.{given}
+use Rattle.lines.proofs.Got.{place_got, place_missed, added_got, added_missed, end_yes, end_no}
+use Rattle.lines.proofs.Ahead.{mark_ahead}
+use Rattle.lines.proofs.Turns.{missing, over, last, unclosed}
+use Rattle.lines.proofs.Loops.{started, one_more}
+use Rattle.lines.proofs.Agreed.{part_size, placed_none, placed_few, part_more}
+use Rattle.lines.proofs.Forms.{parts_made}
 use Rattle.lines.proofs.parts.Goals as goal
 
-pub loop-all-init : goal.loop-all-init
-loop-all-init c =
-    parts_begin _ _ _ _
+pub loop-turn-init : goal.loop-turn-init
+loop-turn-init c =
+    let e = c.no_agreement-read.ensures ∙ placed_none in
+    record { so_far = started _ _ _ _ _ _ e; few = omega (arith, ap (λ (a : Agreement). a.fields) e, placed_few) }
 
-pub enum_told-1 : goal.enum_told-1
-enum_told-1 c = search rules
-
-pub returns-in_default : goal.returns-in_default
-returns-in_default c =
-    parts_missing c.loop-all.invariant _ _ _ (part_missed _ _ _ _ _ _ _ _ _ c.part.ensures c.in_default.is) refl
-
-pub overflow_add-p : goal.overflow_add-p
-overflow_add-p c =
-    omega (arith, c.loop-all.invariant.behind, part_inside c.loop-all.invariant (part_got _ _ _ _ _ _ _ _ _ c.part.ensures c.in-At.is))
+pub returns-in_err-next : goal.returns-in_err-next
+unfolding parts spelled
+returns-in_err-next c =
+    c.from_residual.ensures
+    ∙ sym (ap (given agreement_of) (missing _ _ _ _ c.loop-turn.invariant.so_far.reached (added_missed _ _ _ c.in_err-next.ensures)))
 
 pub returns-then-ends : goal.returns-then-ends
-unfolding spelled
+unfolding parts spelled
 returns-then-ends c =
-    parts_last c.loop-all.invariant (part_got _ _ _ _ _ _ _ _ _ c.part.ensures c.in-At.is) (mark_missed _ _ _ c.long_mark.ensures c.in_default-long_mark.is) (sym c.ends.ensures ∙ c.if-ends.true) refl
+    let s = c.args.line.now in
+    let v = c.loop-turn.invariant.so_far in
+    let g = added_got _ _ c.in_ok-next.ensures in
+    let p = last s (part s) (124 ∷ 124 ∷ []) (end s) v.reached g.parsed c.loop-turn-test.true (place_missed _ c.in_default.ensures) (end_yes _ _ (sym c.ends.ensures ∙ c.if-ends.true)) in
+    ap Some (part_more _ _ v.stored g.stored ∙ parts_made s c.requires p) ∙ sym (ap (given agreement_of) p)
 
-pub returns-in_default-long_mark : goal.returns-in_default-long_mark
-unfolding spelled
-returns-in_default-long_mark c =
-    parts_unclosed c.loop-all.invariant (part_got _ _ _ _ _ _ _ _ _ c.part.ensures c.in-At.is) (mark_missed _ _ _ c.long_mark.ensures c.in_default-long_mark.is) (sym c.ends.ensures ∙ c.if-ends.false) refl
+pub returns-in_default : goal.returns-in_default
+unfolding parts spelled
+returns-in_default c =
+    let s = c.args.line.now in
+    let v = c.loop-turn.invariant.so_far in
+    let g = added_got _ _ c.in_ok-next.ensures in
+    let p = unclosed s (part s) (124 ∷ 124 ∷ []) (end s) v.reached g.parsed c.loop-turn-test.true (place_missed _ c.in_default.ensures) (end_no _ _ (sym c.ends.ensures ∙ c.if-ends.false)) in
+    sym (ap (given agreement_of) p)
 
-pub loop-all-smaller : goal.loop-all-smaller
+pub loop-turn-preserved : goal.loop-turn-preserved
 unfolding spelled
-loop-all-smaller c =
-    omega (arith, part_inside c.loop-all.invariant (part_got _ _ _ _ _ _ _ _ _ c.part.ensures c.in-At.is), part_on c.loop-all.invariant (part_got _ _ _ _ _ _ _ _ _ c.part.ensures c.in-At.is) (mark_got _ _ _ c.long_mark.ensures c.in-At-long_mark.is))
+loop-turn-preserved c =
+    let v = c.loop-turn.invariant.so_far in
+    let g = added_got _ _ c.in_ok-next.ensures in
+    let z = part_size _ _ g.parsed in
+    let or = place_got _ c.in-Some.ensures in
+    let a = mark_ahead _ 124 (124 ∷ []) _ or in
+    record {
+      so_far = one_more _ _ _ _ _ v g.parsed c.loop-turn-test.true (part_more _ _ v.stored g.stored) or (omega (arith, z.least, a.more));
+      few = omega (arith, c.loop-turn.invariant.few, ap (λ (x : Agreement). x.fields) g.stored, z.each, a.more);
+    }
 
-pub loop-all-preserved : goal.loop-all-preserved
-unfolding spelled
-loop-all-preserved c =
-    parts_turn c.loop-all.invariant (part_got _ _ _ _ _ _ _ _ _ c.part.ensures c.in-At.is) (mark_got _ _ _ c.long_mark.ensures c.in-At-long_mark.is)
+pub returns : goal.returns
+unfolding parts spelled
+returns c =
+    sym (ap (given agreement_of) (over _ _ _ _ c.loop-turn.invariant.so_far.reached c.loop-turn-test.false))
 
-pub long_mark-requires : goal.long_mark-requires
+pub word_mark-requires : goal.word_mark-requires
 unfolding spelled
-long_mark-requires c =
-    (omega arith, omega arith)
+word_mark-requires c =
+    omega arith

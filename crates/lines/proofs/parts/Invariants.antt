@@ -1,13 +1,14 @@
--- `lines::parts` meets its contract. The invariant, `Turned`: what was read so far is stored, and what is left of the line gives the rest. Assumes nothing.
-use Prim.Native.Nat.{◌-◌}
-use lib.ListN.{length}
-use Rattle.lines.proofs.Agreed.{Turned}
+-- `lines::parts` meets its contract. Assumes nothing.
+use Prim.Native.Nat.{◌≤◌}
+use mathlib.Core.List.{[], ◌∷◌}
+use Rattle.lines.specs.Lines.{end, part}
+use Rattle.lines.proofs.Loops.{SoFar}
+use Rattle.lines.proofs.Agreed.{placed}
 use Rattle.lines.proofs.parts.Given as goal
 
-abbrev pub invariant-loop-all : goal.invariant-loop-all
-invariant-loop-all l =
-    Turned l.line l.initial.heads l.initial.spans l.initial.values l.heads l.spans l.values l.p l.k l.i
-
-abbrev pub decreases-loop-all : goal.decreases-loop-all
-decreases-loop-all l =
-    length l.line - l.i
+abbrev pub invariant-loop-turn : goal.invariant-loop-turn
+invariant-loop-turn l =
+    record {
+      so_far : SoFar l.line (part l.line) (124 ∷ 124 ∷ []) (end l.line) placed 0 l.turn l.i l.read;
+      few : l.read.fields ≤ l.i;
+    }

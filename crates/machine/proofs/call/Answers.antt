@@ -9,16 +9,16 @@ use Rattle.outcomes.proofs.Labels.{no_labels_lem}
 use Rattle.machine.proofs.Performed.{with_its_labels, few_pending}
 use Rattle.machine.proofs.call.Goals as goal
 
-pub returns-then-no-ne0 : goal.returns-then-no-ne0
-returns-then-no-ne0 c =
+pub returns-in-Some : goal.returns-in-Some
+returns-in-Some c =
     let a = c.args in
-    c.refuse.ensures ∙ refused_first a.table.now a.room a.s _ c.first_no-no.ensures (λ (x : Contract). called x a.s (record { caller = a.caller.now; function = a.function.now; values = a.values.now; assets = a.assets.now })) c.if-no-ne0.true
+    c.refuse.ensures ∙ refused_first a.table.now a.room a.s _ c.first_no.ensures (λ (x : Contract). called x a.s (record { caller = a.caller.now; function = a.function.now; values = a.values.now; assets = a.assets.now })) c.in-Some.q c.in-Some.is
 
 pub call_on-r-requires : goal.call_on-r-requires
 unfolding repeated
 call_on-r-requires c =
     let a = c.args in
-    let e = asked a.table.now a.room a.s _ c.first_no-no.ensures c.if-no-ne0.false in
+    let e = asked a.table.now a.room a.s _ c.first_no.ensures c.in_default.is in
     record {
       table_value = (e.0, few_pending (contract_of a.table.now) a.s e.1);
       labels_value = no_labels_lem;
@@ -29,4 +29,4 @@ returns c =
     let a = c.args in
     c.with_labels.ensures
     ∙ with_its_labels (called (contract_of a.table.now) a.s (record { caller = a.caller.now; function = a.function.now; values = a.values.now; assets = a.assets.now })) _ c.call_on-r.ensures.value _ c.call_on-r.ensures.labels_after
-    ∙ stepped a.table.now a.room a.s _ c.first_no-no.ensures (λ (x : Contract). called x a.s (record { caller = a.caller.now; function = a.function.now; values = a.values.now; assets = a.assets.now })) c.if-no-ne0.false
+    ∙ stepped a.table.now a.room a.s _ c.first_no.ensures (λ (x : Contract). called x a.s (record { caller = a.caller.now; function = a.function.now; values = a.values.now; assets = a.assets.now })) c.in_default.is

@@ -26,13 +26,13 @@ pub returns-in_default-found : goal.returns-in_default-found
 returns-in_default-found c =
     let a = c.args in
     let p = by_answer _ _ (call_unknown a.table.now a.s (record { caller = a.caller.now; function = a.function.now; values = a.values.now; assets = a.assets.now }) (not-false _ c.if-not-s.false) (sym
-    c.first_due-due.ensures ∙ c.in-Nothing.is) _ c.find_function-found.ensures c.in_default-found.is) _ c.turn_down-in_default-found.ensures _ c.requires.labels_value in
+    c.first_due-due.ensures ∙ c.in-None.is) _ c.find_function-found.ensures c.in_default-found.is) _ c.turn_down-in_default-found.ensures _ c.requires.labels_value in
     record { value = p.0; labels_after = p.1 }
 
 pub invoke-requires : goal.invoke-requires
 invoke-requires c =
     record {
-      table_value = (c.requires.table_value.0, c.requires.table_value.1, c.find_function-found.ensures.within _ c.in-At.is);
+      table_value = (c.requires.table_value.0, c.requires.table_value.1, c.find_function-found.ensures.within _ c.in-Some.is);
       labels_value = c.requires.labels_value;
     }
 
@@ -40,5 +40,5 @@ pub returns : goal.returns
 returns c =
     let a = c.args in
     let p = by_answer _ _ (call_found a.table.now a.s (record { caller = a.caller.now; function = a.function.now; values = a.values.now; assets = a.assets.now }) (not-false _ c.if-not-s.false) (sym
-    c.first_due-due.ensures ∙ c.in-Nothing.is) _ c.find_function-found.ensures _ c.in-At.is) _ c.invoke.ensures.value _ c.invoke.ensures.labels_after in
+    c.first_due-due.ensures ∙ c.in-None.is) _ c.find_function-found.ensures _ c.in-Some.is) _ c.invoke.ensures.value _ c.invoke.ensures.labels_after in
     record { value = p.0; labels_after = p.1 }

@@ -7,14 +7,12 @@ use lib.IntN.{pos, nat_abs}
 use lib.Signed.{le_z}
 use mir.Val.{to_z, of_z}
 use mir.Syntax.{w64}
-use Rattle.numbers.specs.declared.Answer.TheVariants as answer
+use Rattle.std.specs.Prelude.{Ok, None}
 use Rattle.contract.specs.Decode.{function_at}
 use Rattle.evaluation.specs.Memory.{memory_of}
-use Rattle.evaluation.specs.Meaning.{refusal_of}
 use Rattle.state.specs.States.{live, with_pending, joined_by}
 use Rattle.state.proofs.Lengths.{events_length}
 use Rattle.statements.specs.Running.{work_from}
-use Rattle.outcomes.specs.Outcomes.{refused}
 use Rattle.holdings.specs.Holdings.{reached}
 use Rattle.machine.specs.Private.{reply_of}
 use Rattle.machine.proofs.Functions.{placed, row_last, row_events, events_count, event_here}
@@ -32,35 +30,34 @@ enum_told-1 c = search rules
 
 pub returns-in_default : goal.returns-in_default
 returns-in_default c =
-    let holdings = c.args.holdings.now in
-    let kinds = c.args.kinds.now in
-    let numbers = c.args.numbers.now in
+    let holdings = c.args.memory.now.holdings.now in
+    let kinds = c.args.memory.now.kinds.now in
+    let numbers = c.args.memory.now.numbers.now in
     let table = c.args.table.now in
-    let texts = c.args.texts.now in
+    let texts = c.args.memory.now.texts.now in
     let l = c.loop-j in
-    let m = memory_of kinds numbers texts holdings c.args.values.now c.args.s.clock in
-    let w = work_from kinds numbers texts holdings [] c.args.count 0 in
+    let m = memory_of kinds numbers texts holdings c.args.memory.now.values.now c.args.s.clock in
+    let w = work_from kinds numbers texts holdings [] c.args.count None in
     let f = function_at table c.args.n in
     c.turn_down.ensures
-    ∙ ap (λ k. reply_of (refused c.args.s k)) (c.refusal.ensures ∙ ap refusal_of c.in_default.is)
     ∙ ap reply_of (ends_no c.args.s w f.last _ _ (guard_refused m c.args.s.clock c.args.n (with_pending c.args.s (live c.args.s)) f.events l.next l.joined l.j l.invariant (omega
-    (arith, events_count table c.args.n _ c.function_at-row.ensures, c.loop-j-test.true)) _ (event_here table c.args.n _ c.function_at-row.ensures l.j c.loop-j-test.true) _ c.guard-answer.ensures _ c.in_default.is))
+    (arith, events_count table c.args.n _ c.function_at-row.ensures, c.loop-j-test.true)) _ (event_here table c.args.n _ c.function_at-row.ensures l.j c.loop-j-test.true) _ c.guard-answer.ensures _ c.unwrap_err.ensures))
 
 pub returns-in_default-value : goal.returns-in_default-value
 returns-in_default-value c =
-    let holdings = c.args.holdings.now in
-    let kinds = c.args.kinds.now in
-    let numbers = c.args.numbers.now in
+    let holdings = c.args.memory.now.holdings.now in
+    let kinds = c.args.memory.now.kinds.now in
+    let numbers = c.args.memory.now.numbers.now in
     let table = c.args.table.now in
-    let texts = c.args.texts.now in
+    let texts = c.args.memory.now.texts.now in
     let l = c.loop-j in
-    let m = memory_of kinds numbers texts holdings c.args.values.now c.args.s.clock in
-    let w = work_from kinds numbers texts holdings [] c.args.count 0 in
+    let m = memory_of kinds numbers texts holdings c.args.memory.now.values.now c.args.s.clock in
+    let w = work_from kinds numbers texts holdings [] c.args.count None in
     let f = function_at table c.args.n in
     c.turn_down-in_default-value.ensures
     ∙ ap reply_of (ends_no c.args.s w f.last _ _ (guard_text m c.args.s.clock c.args.n (with_pending c.args.s (live c.args.s)) f.events l.next l.joined l.j l.invariant (omega
-    (arith, events_count table c.args.n _ c.function_at-row.ensures, c.loop-j-test.true)) _ (event_here table c.args.n _ c.function_at-row.ensures l.j c.loop-j-test.true) _ c.guard-answer.ensures _ (c.in-Is.is
-    ∙ ap answer.Is c.in_default-value.is)))
+    (arith, events_count table c.args.n _ c.function_at-row.ensures, c.loop-j-test.true)) _ (event_here table c.args.n _ c.function_at-row.ensures l.j c.loop-j-test.true) _ c.guard-answer.ensures _ (c.in-Ok.is
+    ∙ ap Ok c.in_default-value.is)))
 
 pub overflow_add-joined : goal.overflow_add-joined
 overflow_add-joined c =
@@ -68,28 +65,20 @@ overflow_add-joined c =
     let l = c.loop-j in
     omega (arith, l.invariant.few, row_events table c.args.n _ c.function_at-row.ensures (placed table c.requires.0 c.args.n c.requires.2), c.loop-j-test.true)
 
-pub overflow_add-j : goal.overflow_add-j
-overflow_add-j c =
-    omega (arith, row_events c.args.table.now c.args.n _ c.function_at-row.ensures (placed c.args.table.now c.requires.0 c.args.n c.requires.2), c.loop-j-test.true)
-
-pub loop-j-smaller : goal.loop-j-smaller
-loop-j-smaller c =
-    omega (arith, c.loop-j-test.true)
-
 pub overflow_sub-full : goal.overflow_sub-full
 overflow_sub-full c =
     omega (arith, c.requires.1)
 
 pub returns-then-full : goal.returns-then-full
 returns-then-full c =
-    let holdings = c.args.holdings.now in
-    let kinds = c.args.kinds.now in
-    let numbers = c.args.numbers.now in
+    let holdings = c.args.memory.now.holdings.now in
+    let kinds = c.args.memory.now.kinds.now in
+    let numbers = c.args.memory.now.numbers.now in
     let table = c.args.table.now in
-    let texts = c.args.texts.now in
+    let texts = c.args.memory.now.texts.now in
     let l = c.loop-j in
-    let m = memory_of kinds numbers texts holdings c.args.values.now c.args.s.clock in
-    let w = work_from kinds numbers texts holdings [] c.args.count 0 in
+    let m = memory_of kinds numbers texts holdings c.args.memory.now.values.now c.args.s.clock in
+    let w = work_from kinds numbers texts holdings [] c.args.count None in
     let f = function_at table c.args.n in
     c.turn_down-then-full.ensures
     ∙ ap reply_of (over_full c.args.s w f.last c.requires.1 (events_length c.args.s _ c.well_formed.1.0) _ l.invariant.ps (all_scheduled m c.args.s.clock c.args.n (with_pending c.args.s (live
@@ -97,14 +86,14 @@ returns-then-full c =
 
 pub returns : goal.returns
 returns c =
-    let holdings = c.args.holdings.now in
-    let kinds = c.args.kinds.now in
-    let numbers = c.args.numbers.now in
+    let holdings = c.args.memory.now.holdings.now in
+    let kinds = c.args.memory.now.kinds.now in
+    let numbers = c.args.memory.now.numbers.now in
     let table = c.args.table.now in
-    let texts = c.args.texts.now in
+    let texts = c.args.memory.now.texts.now in
     let l = c.loop-j in
-    let m = memory_of kinds numbers texts holdings c.args.values.now c.args.s.clock in
-    let w = work_from kinds numbers texts holdings [] c.args.count 0 in
+    let m = memory_of kinds numbers texts holdings c.args.memory.now.values.now c.args.s.clock in
+    let w = work_from kinds numbers texts holdings [] c.args.count None in
     let f = function_at table c.args.n in
     ap reply_of (call_ends c.args.s w f.last c.requires.1 (events_length c.args.s _ c.well_formed.1.0) _ l.invariant.ps (all_scheduled m c.args.s.clock c.args.n (with_pending c.args.s (live
     c.args.s)) f.events l.next l.joined l.j l.invariant (omega (arith, events_count table c.args.n _ c.function_at-row.ensures, c.loop-j-test.false))) (omega (arith, c.if-full.false, l.invariant.many))
@@ -119,16 +108,16 @@ pub loop-j-preserved : goal.loop-j-preserved
 loop-j-preserved c =
     let table = c.args.table.now in
     let l = c.loop-j in
-    let m = memory_of c.args.kinds.now c.args.numbers.now c.args.texts.now c.args.holdings.now c.args.values.now c.args.s.clock in
+    let m = memory_of c.args.memory.now.kinds.now c.args.memory.now.numbers.now c.args.memory.now.texts.now c.args.memory.now.holdings.now c.args.memory.now.values.now c.args.s.clock in
     let f = function_at table c.args.n in
     let e : to_z w64 (of_z w64 c.in-Integer.z) ≡ c.in-Integer.z = search rules in
     elim c.if-not_before.branch [
       | then-not_before w ↦
           joined_more m c.args.s.clock c.args.n (with_pending c.args.s (live c.args.s)) f.events l.next l.joined l.j l.invariant (omega (arith, events_count table c.args.n _ c.function_at-row.ensures, c.loop-j-test.true)) _
-          (event_here table c.args.n _ c.function_at-row.ensures l.j c.loop-j-test.true) _ c.guard-answer.ensures c.in-Integer.z (c.in-Is.is ∙ ap answer.Is c.in-Integer.is) (ap (le_z
+          (event_here table c.args.n _ c.function_at-row.ensures l.j c.loop-j-test.true) _ c.guard-answer.ensures c.in-Integer.z (c.in-Ok.is ∙ ap Ok c.in-Integer.is) (ap (le_z
           (pos c.args.s.clock)) (sym e) ∙ sym c.not_before.ensures ∙ w.if-not_before.true) _ (ap nat_abs e) _ (w.next-is ∙ w.join-next.ensures ∙ ap (joined_by l.next) w.pending.ensures) _ w.joined-is
       | else-not_before w ↦
           joined_same m c.args.s.clock c.args.n (with_pending c.args.s (live c.args.s)) f.events l.next l.joined l.j l.invariant (omega (arith, events_count table c.args.n _ c.function_at-row.ensures, c.loop-j-test.true)) _
-          (event_here table c.args.n _ c.function_at-row.ensures l.j c.loop-j-test.true) _ c.guard-answer.ensures c.in-Integer.z (c.in-Is.is ∙ ap answer.Is c.in-Integer.is) (ap (le_z
+          (event_here table c.args.n _ c.function_at-row.ensures l.j c.loop-j-test.true) _ c.guard-answer.ensures c.in-Integer.z (c.in-Ok.is ∙ ap Ok c.in-Integer.is) (ap (le_z
           (pos c.args.s.clock)) (sym e) ∙ sym c.not_before.ensures ∙ w.if-not_before.false) _ w.next-is _ w.joined-is
     ]

@@ -9,9 +9,9 @@ use Rattle.machine.proofs.Gates.{refused_first, stepped}
 use Rattle.machine.proofs.Answers.{rejoined}
 use Rattle.machine.proofs.fire.Goals as goal
 
-pub returns-then-no-ne0 : goal.returns-then-no-ne0
-returns-then-no-ne0 c =
-    c.refuse.ensures ∙ refused_first c.args.table.now c.args.room c.args.s _ c.first_no-no.ensures (λ (x : Contract). fired x c.args.s) c.if-no-ne0.true
+pub returns-in-Some : goal.returns-in-Some
+returns-in-Some c =
+    c.refuse.ensures ∙ refused_first c.args.table.now c.args.room c.args.s _ c.first_no.ensures (λ (x : Contract). fired x c.args.s) c.in-Some.q c.in-Some.is
 
 pub fire_on-r-requires : goal.fire_on-r-requires
 unfolding repeated
@@ -21,4 +21,4 @@ fire_on-r-requires c =
 pub returns : goal.returns
 returns c =
     let f = c.fire_on-r.ensures in
-    c.with_labels.ensures ∙ rejoined (fired (contract_of c.args.table.now) c.args.s) _ _ f.value f.labels_after ∙ stepped c.args.table.now c.args.room c.args.s _ c.first_no-no.ensures (λ (x : Contract). fired x c.args.s) c.if-no-ne0.false
+    c.with_labels.ensures ∙ rejoined (fired (contract_of c.args.table.now) c.args.s) _ _ f.value f.labels_after ∙ stepped c.args.table.now c.args.room c.args.s _ c.first_no.ensures (λ (x : Contract). fired x c.args.s) c.in_default.is

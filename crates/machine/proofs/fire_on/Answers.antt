@@ -31,13 +31,13 @@ returns-in_default c =
 pub handle-requires : goal.handle-requires
 handle-requires c =
     record {
-      k_in_bounds = (first_to_fire (contract_of c.args.table.now) c.args.s _ (sym c.first_due-due.ensures ∙ c.in-At.is)).is_pending;
+      k_in_bounds = (first_to_fire (contract_of c.args.table.now) c.args.s _ (sym c.first_due-due.ensures ∙ c.in-Some.is)).is_pending;
       labels_value = c.requires;
     }
 
 pub returns : goal.returns
 returns c =
-    let e = fire_due (contract_of c.args.table.now) c.args.s (not-false _ c.if-not-s.false) _ (sym c.first_due-due.ensures ∙ c.in-At.is) in
+    let e = fire_due (contract_of c.args.table.now) c.args.s (not-false _ c.if-not-s.false) _ (sym c.first_due-due.ensures ∙ c.in-Some.is) in
     record {
       value = c.handle.ensures.value ∙ ap reply_of e;
       labels_after = c.handle.ensures.labels_after ∙ ap (λ (t : Stepped). t.labels) e;

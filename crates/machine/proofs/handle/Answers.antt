@@ -10,13 +10,13 @@ use Rattle.machine.specs.Private.{reply_of}
 use Rattle.machine.proofs.Firings.{fired_at}
 use Rattle.machine.proofs.handle.Goals as goal
 
-pub offset_bounds-events-k : goal.offset_bounds-events-k
-offset_bounds-events-k c =
+pub offset_bounds-s-k : goal.offset_bounds-s-k
+offset_bounds-s-k c =
     let h = c.requires.k_in_bounds in
     omega (arith, length-take c.args.s.pending c.args.s.events, events_length c.args.s _ c.well_formed.1.0)
 
-pub bounds-events-k : goal.bounds-events-k
-bounds-events-k c =
+pub bounds-s-k : goal.bounds-s-k
+bounds-s-k c =
     let h = c.requires.k_in_bounds in
     omega (arith, length-take c.args.s.pending c.args.s.events, events_length c.args.s _ c.well_formed.1.0)
 

@@ -12,4 +12,4 @@ returns-then-row-event c =
 
 pub returns : goal.returns
 returns c =
-    handler_found _ c.args.p _ c.head-c.ensures c.if-c-function.false _ c.function_at-row.ensures c.if-row-event.false _ c.event_row-e.ensures _ c.node_at-node.ensures _ c.minus.ensures
+    handler_found _ c.args.p _ c.head-c.ensures c.if-c-function.false _ c.function_at-row.ensures c.if-row-event.false _ c.event_row-e.ensures _ c.node_at-node.ensures _ c.saturating_sub.ensures

@@ -2,16 +2,14 @@
 use borrow.Author.Rules.{rules}
 use mathlib.Core.Path.{refl, sym, ap, ◌∙◌}
 use native.Mathlib.Omega.{arith}
-use Rattle.numbers.specs.declared.Truth.TheVariants as truth
 use Rattle.contract.specs.Decode.{function_at}
 use Rattle.evaluation.specs.Memory.{memory_of}
-use Rattle.outcomes.specs.Outcomes.{refused}
 use Rattle.machine.specs.Steps.{precondition_holds}
-use Rattle.machine.specs.Private.{truth_refusal}
 use Rattle.machine.proofs.Functions.{placed, row_values, row_parameters, row_precondition, row_nodes}
 use Rattle.machine.proofs.Calls.{wrong_values, wrong_assets, negative_asset, precondition_refused, precondition_false, precondition_true}
 use Rattle.machine.proofs.Performed.{by_answer, begins}
 use Rattle.machine.proofs.invoke.Goals as goal
+use Rattle.std.specs.Prelude.{Ok}
 
 pub enum_told-1 : goal.enum_told-1
 enum_told-1 c = search rules
@@ -43,10 +41,10 @@ precondition-truth-requires c =
 pub returns-in_default : goal.returns-in_default
 returns-in_default c =
     let a = c.args in
-    let p = by_answer _ _ (ap (refused a.s) (c.truth_refusal.ensures ∙ ap truth_refusal c.in_default.is) ∙ precondition_refused a.s a.values.now a.assets.now a.n (function_at
+    let p = by_answer _ _ (precondition_refused a.s a.values.now a.assets.now a.n (function_at
     a.table.now a.n) (c.if-values-row.false ∙ row_values a.table.now a.n _ c.function_at-row.ensures) (c.if-assets-row.false ∙ row_parameters a.table.now a.n _ c.function_at-row.ensures) (sym c.none_negative.ensures
     ∙ c.if-not-none_negative.false) _ (begins a.s a.assets.now _ c.holdings_of-holdings.ensures) _ (c.precondition-truth.ensures ∙ ap (precondition_holds (memory_of a.s.kinds a.s.numbers a.s.texts
-    c.holdings_of-holdings.result a.values.now a.s.clock)) (row_precondition a.table.now a.n _ c.function_at-row.ensures)) _ c.in_default.is) _ c.turn_down-in_default.ensures _
+    c.holdings_of-holdings.result a.values.now a.s.clock)) (row_precondition a.table.now a.n _ c.function_at-row.ensures)) _ c.unwrap_err.ensures) _ c.turn_down-in_default.ensures _
     c.requires.labels_value in
     record { value = p.0; labels_after = p.1 }
 
@@ -56,7 +54,7 @@ returns-then-not-holds c =
     let p = by_answer _ _ (precondition_false a.s a.values.now a.assets.now a.n (function_at a.table.now a.n) (c.if-values-row.false ∙ row_values a.table.now a.n _ c.function_at-row.ensures) (c.if-assets-row.false
     ∙ row_parameters a.table.now a.n _ c.function_at-row.ensures) (sym c.none_negative.ensures ∙ c.if-not-none_negative.false) _ (begins a.s a.assets.now _ c.holdings_of-holdings.ensures) _
     (c.precondition-truth.ensures ∙ ap (precondition_holds (memory_of a.s.kinds a.s.numbers a.s.texts c.holdings_of-holdings.result a.values.now a.s.clock)) (row_precondition a.table.now a.n _
-    c.function_at-row.ensures)) (c.in-Holds.is ∙ ap truth.Holds (c.if-not-holds.true))) _ c.turn_down-then-not-holds.ensures _ c.requires.labels_value in
+    c.function_at-row.ensures)) (c.in-Ok.is ∙ ap Ok (c.if-not-holds.true))) _ c.turn_down-then-not-holds.ensures _ c.requires.labels_value in
     record { value = p.0; labels_after = p.1 }
 
 pub returns : goal.returns
@@ -65,5 +63,5 @@ returns c =
     let p = by_answer _ _ (precondition_true a.s a.values.now a.assets.now a.n (function_at a.table.now a.n) (c.if-values-row.false ∙ row_values a.table.now a.n _ c.function_at-row.ensures) (c.if-assets-row.false
     ∙ row_parameters a.table.now a.n _ c.function_at-row.ensures) (sym c.none_negative.ensures ∙ c.if-not-none_negative.false) _ (begins a.s a.assets.now _ c.holdings_of-holdings.ensures) _
     (c.precondition-truth.ensures ∙ ap (precondition_holds (memory_of a.s.kinds a.s.numbers a.s.texts c.holdings_of-holdings.result a.values.now a.s.clock)) (row_precondition a.table.now a.n _
-    c.function_at-row.ensures)) (c.in-Holds.is ∙ ap truth.Holds (c.if-not-holds.false)) _ refl) _ c.perform.ensures.value _ c.perform.ensures.labels_after in
+    c.function_at-row.ensures)) (c.in-Ok.is ∙ ap Ok (c.if-not-holds.false)) _ refl) _ c.perform.ensures.value _ c.perform.ensures.labels_after in
     record { value = p.0; labels_after = p.1 }

@@ -10,9 +10,9 @@ use Rattle.machine.proofs.Gates.{refused_first, stepped}
 use Rattle.machine.proofs.Answers.{jump_plain}
 use Rattle.machine.proofs.jump.Goals as goal
 
-pub returns-then-no-ne0 : goal.returns-then-no-ne0
-returns-then-no-ne0 c =
-    c.refuse.ensures ∙ refused_first c.args.table.now c.args.room c.args.s _ c.first_no-no.ensures (λ (x : Contract). jumped x c.args.s c.args.to) c.if-no-ne0.true
+pub returns-in-Some : goal.returns-in-Some
+returns-in-Some c =
+    c.refuse.ensures ∙ refused_first c.args.table.now c.args.room c.args.s _ c.first_no.ensures (λ (x : Contract). jumped x c.args.s c.args.to) c.in-Some.q c.in-Some.is
 
 pub returns : goal.returns
 returns c =
@@ -20,5 +20,5 @@ returns c =
     c.answer.ensures
     ∙ jump_plain k c.args.s c.args.to _
     (c.jump_on-r.ensures ∙ ap (λ (z : ℤ). reply_of (jumped k c.args.s z)) (to_z-of_z c.ranges.to))
-    ∙ stepped c.args.table.now c.args.room c.args.s _ c.first_no-no.ensures
-    (λ (x : Contract). jumped x c.args.s c.args.to) c.if-no-ne0.false
+    ∙ stepped c.args.table.now c.args.room c.args.s _ c.first_no.ensures
+    (λ (x : Contract). jumped x c.args.s c.args.to) c.in_default.is

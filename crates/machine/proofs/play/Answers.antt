@@ -5,17 +5,17 @@ use Rattle.machine.proofs.Playing.{play_stopped, play_went}
 use Rattle.machine.proofs.Gates.{asked}
 use Rattle.machine.proofs.play.Goals as goal
 
-pub returns-then-no-ne0 : goal.returns-then-no-ne0
-returns-then-no-ne0 c =
-    let p = play_stopped c.args.table.now c.args.s c.args.input.now _ _ c.label_room-room.ensures _ c.first_no-no.ensures c.if-no-ne0.true c.args.numbers.now c.args.integers.now in
+pub returns-in-Some : goal.returns-in-Some
+returns-in-Some c =
+    let p = play_stopped c.args.table.now c.args.s c.args.input.now _ _ c.label_room-room.ensures _ c.first_no.ensures c.in-Some.q c.in-Some.is c.args.numbers.now c.args.integers.now in
     record { value = p.0; numbers_after = p.1.0; integers_after = p.1.1 }
 
 pub play_on-requires : goal.play_on-requires
 play_on-requires c =
-    let a = asked c.args.table.now _ c.args.s _ c.first_no-no.ensures c.if-no-ne0.false in
+    let a = asked c.args.table.now _ c.args.s _ c.first_no.ensures c.in_default.is in
     (a.0, (within (contract_of c.args.table.now) c.args.s a.1).pending)
 
 pub returns : goal.returns
 returns c =
-    let p = play_went c.args.table.now c.args.s c.args.input.now _ _ c.label_room-room.ensures _ c.first_no-no.ensures c.if-no-ne0.false _ c.args.numbers.now _ c.args.integers.now _ c.play_on.ensures in
+    let p = play_went c.args.table.now c.args.s c.args.input.now _ _ c.label_room-room.ensures _ c.first_no.ensures c.in_default.is _ c.args.numbers.now _ c.args.integers.now _ c.play_on.ensures in
     record { value = p.0; numbers_after = p.1.0; integers_after = p.1.1 }

@@ -1,13 +1,13 @@
 -- `machine::precondition` meets its contract. Assumes nothing.
 use mathlib.Core.Path.{◌∙◌}
-use Rattle.evaluation.specs.Memory.{memory_of}
+use Rattle.evaluation.specs.Memory.{lent}
 use Rattle.machine.proofs.Calls.{precondition_omitted, precondition_given}
 use Rattle.machine.proofs.precondition.Goals as goal
 
 pub returns-then-n-eq0 : goal.returns-then-n-eq0
 returns-then-n-eq0 c =
-    precondition_omitted c.args.table.now (memory_of c.args.kinds.now c.args.numbers.now c.args.texts.now c.args.holdings.now c.args.values.now c.args.clock) c.args.first c.args.n c.if-n-eq0.true
+    precondition_omitted c.args.table.now (lent c.args.memory.now) c.args.first c.args.n c.if-n-eq0.true
 
 pub returns : goal.returns
 returns c =
-    c.truth.ensures ∙ precondition_given c.args.table.now (memory_of c.args.kinds.now c.args.numbers.now c.args.texts.now c.args.holdings.now c.args.values.now c.args.clock) c.args.first c.args.n c.if-n-eq0.false
+    c.truth.ensures ∙ precondition_given c.args.table.now (lent c.args.memory.now) c.args.first c.args.n c.if-n-eq0.false

@@ -7,10 +7,10 @@ use Rattle.machine.proofs.Gates.{refused_first, stepped}
 use Rattle.machine.proofs.Answers.{tick_plain}
 use Rattle.machine.proofs.tick.Goals as goal
 
-pub returns-then-no-ne0 : goal.returns-then-no-ne0
-returns-then-no-ne0 c =
-    c.refuse.ensures ∙ refused_first c.args.table.now c.args.room c.args.s _ c.first_no-no.ensures (λ (x : Contract). ticked x c.args.s) c.if-no-ne0.true
+pub returns-in-Some : goal.returns-in-Some
+returns-in-Some c =
+    c.refuse.ensures ∙ refused_first c.args.table.now c.args.room c.args.s _ c.first_no.ensures (λ (x : Contract). ticked x c.args.s) c.in-Some.q c.in-Some.is
 
 pub returns : goal.returns
 returns c =
-    c.answer.ensures ∙ tick_plain (contract_of c.args.table.now) c.args.s _ c.tick_on-r.ensures ∙ stepped c.args.table.now c.args.room c.args.s _ c.first_no-no.ensures (λ (x : Contract). ticked x c.args.s) c.if-no-ne0.false
+    c.answer.ensures ∙ tick_plain (contract_of c.args.table.now) c.args.s _ c.tick_on-r.ensures ∙ stepped c.args.table.now c.args.room c.args.s _ c.first_no.ensures (λ (x : Contract). ticked x c.args.s) c.in_default.is

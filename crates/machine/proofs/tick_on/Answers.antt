@@ -19,8 +19,8 @@ returns-in_default c =
 
 pub returns-then-clock-ge-TOP : goal.returns-then-clock-ge-TOP
 returns-then-clock-ge-TOP c =
-    c.turn_down-then-clock-ge-TOP.ensures ∙ ap reply_of (tick_top _ c.args.s (not-false _ c.if-not-s.false) (sym c.first_due-due.ensures ∙ c.in-Nothing.is) c.if-clock-ge-TOP.true)
+    c.turn_down-then-clock-ge-TOP.ensures ∙ ap reply_of (tick_top _ c.args.s (not-false _ c.if-not-s.false) (sym c.first_due-due.ensures ∙ c.in-None.is) c.if-clock-ge-TOP.true)
 
 pub returns : goal.returns
 returns c =
-    c.without_labels.ensures ∙ ap reply_of (tick_on _ c.args.s (not-false _ c.if-not-s.false) (sym c.first_due-due.ensures ∙ c.in-Nothing.is) _ c.pass-next.ensures c.if-clock-ge-TOP.false)
+    c.without_labels.ensures ∙ ap reply_of (tick_on _ c.args.s (not-false _ c.if-not-s.false) (sym c.first_due-due.ensures ∙ c.in-None.is) _ c.pass-next.ensures c.if-clock-ge-TOP.false)

@@ -3,4 +3,4 @@ use Rattle.machine.proofs.with_labels.Goals as goal
 
 pub returns : goal.returns
 returns c =
-    simp c.labels_of-labels.ensures
+    simp c.labels_of.ensures

@@ -1,34 +1,26 @@
 -- `pages::gather` meets its contract. Assumes nothing.
-use native.Mathlib.Omega.{arith}
-use lib.ListN.{get_or}
-use lib.IntN.{pos}
+use borrow.Author.Rules.{rules}
+use mathlib.Core.Path.{◌≡◌, sym, ap, ◌∙◌}
+use lib.IntN.{ℤ}
 use mir.Syntax.{w64}
-use mir.Val.{SFits}
-use mir.Facts.{to_z-of_z}
-use Rattle.pages.proofs.Noting.{numbers_end, integers_end, no_byte, rule_told, label_told, other_told}
+use mir.Val.{to_z, of_z}
+use Rattle.results.specs.declared.Report.TheVariants.{Sent}
+use Rattle.pages.proofs.Noting.{noted_as, ruled_notes, held_notes, refused_notes, failed_notes}
 use Rattle.pages.proofs.gather.Goals as goal
 
-pub returns-then-numbers-i : goal.returns-then-numbers-i
-returns-then-numbers-i c =
-    numbers_end _ _ c.args.i c.args.g _ _ c.if-numbers-i.true
+pub returns-in-Ruled : goal.returns-in-Ruled
+returns-in-Ruled c = noted_as _ _ _ (sym c.in-Ruled.is ∙ c.report_at.ensures) (ruled_notes c.args.g c.in-Ruled.rule _ c.in-Ruled.clock _ _)
 
-pub returns-then-integers-i : goal.returns-then-integers-i
-returns-then-integers-i c =
-    integers_end _ _ c.args.i c.args.g _ _ c.if-integers-i.true
+pub returns-in-Sent : goal.returns-in-Sent
+returns-in-Sent c =
+    let e : to_z w64 (of_z w64 c.in-Sent.value) ≡ c.in-Sent.value = search rules in
+    noted_as _ _ _ (ap (λ (z : ℤ). Sent c.in-Sent.kind c.in-Sent.party z) e ∙ sym c.in-Sent.is ∙ c.report_at.ensures) c.note.ensures
 
-pub returns-then-first-ge256 : goal.returns-then-first-ge256
-returns-then-first-ge256 c =
-    no_byte _ _ c.args.i c.args.g _ _ c.if-numbers-i.false c.if-integers-i.false c.if-first-ge256.true
+pub returns-in-Held : goal.returns-in-Held
+returns-in-Held c = noted_as _ _ _ (sym c.in-Held.is ∙ c.report_at.ensures) (held_notes c.args.g _ _ _ _)
 
-pub returns-then-numbers-at-eq1 : goal.returns-then-numbers-at-eq1
-returns-then-numbers-at-eq1 c =
-    rule_told _ _ c.args.i c.args.g _ _ c.if-numbers-i.false c.if-integers-i.false c.if-first-ge256.false c.if-numbers-at-eq1.true
+pub returns-in-Refused : goal.returns-in-Refused
+returns-in-Refused c = noted_as _ _ _ (sym c.in-Refused.is ∙ c.report_at.ensures) (refused_notes c.args.g _ _ _)
 
-pub returns-then-numbers-at-eq2 : goal.returns-then-numbers-at-eq2
-returns-then-numbers-at-eq2 c =
-    let f : SFits w64 (get_or c.args.integers.now c.args.i (pos 0)) = record { sfits = omega arith } in
-    label_told _ _ c.args.i c.args.g _ _ c.if-numbers-i.false c.if-integers-i.false (to_z-of_z f) c.if-first-ge256.false c.if-numbers-at-eq1.false c.if-numbers-at-eq2.true c.note.ensures
-
-pub returns : goal.returns
-returns c =
-    other_told _ _ c.args.i c.args.g _ _ c.if-numbers-i.false c.if-integers-i.false c.if-first-ge256.false c.if-numbers-at-eq1.false c.if-numbers-at-eq2.false
+pub returns-in-Failed : goal.returns-in-Failed
+returns-in-Failed c = noted_as _ _ _ (sym c.in-Failed.is ∙ c.report_at.ensures) (failed_notes c.args.g _ _ _)

@@ -1,50 +1,35 @@
--- `printing::store_digits` meets its contract. The invariant of its loop: the digits that are left make the buffer what all of them make of
--- the one lent, and end at i. The measure is what is left of the number. Assumes nothing.
-use mathlib.Core.Path.{refl, ap, ◌∙◌}
-use Prim.Native.Nat.{ℕ, ◌+◌, ◌-◌}
+-- `printing::store_digits` meets its contract. Assumes nothing.
+use mathlib.Core.Path.{◌≡◌, ap, ◌∙◌}
+use Prim.Native.Nat.{ℕ, suc, ◌+◌, ◌-◌, ◌/◌, ◌%◌}
 use native.Mathlib.Omega.{arith}
-use lib.ListN.{length-set}
-use Rattle.printing.proofs.Digits.{one_long, more_long, store_digit, next_digit, first_digit}
+use lib.ListN.{set}
+use lib.Seq.{sets}
+use Rattle.printing.proofs.Digits.{last_digits, all_digits, no_digits, store_last}
 use Rattle.printing.proofs.store_digits.Goals as goal
 
-pub overflow_add-end : goal.overflow_add-end
-overflow_add-end c = record { fits = omega (arith, c.requires.count_in_bounds) }
+pub loop-i-init : goal.loop-i-init
+loop-i-init c =
+    let a = c.args in
+    ap (sets a.buffer.now a.at) (all_digits (a.at + a.count - a.at) a.n (omega (arith, c.requires.count_value)))
 
-pub loop-rest-init : goal.loop-rest-init
-loop-rest-init c = (refl, ap (λ (k : ℕ). c.args.at + k) c.requires.count_value, refl, omega arith)
-
-pub overflow_sub-i : goal.overflow_sub-i
-overflow_sub-i c = omega (arith, c.loop-rest.invariant.1, more_long c.loop-rest.rest c.loop-rest-test.true)
-
-pub bounds-buffer-i : goal.bounds-buffer-i
-bounds-buffer-i c =
-    let k = c.loop-rest in
-    omega (arith, k.invariant.1, k.invariant.2, k.invariant.3, c.requires.count_in_bounds, more_long k.rest c.loop-rest-test.true)
-
-pub loop-rest-preserved : goal.loop-rest-preserved
-loop-rest-preserved c =
-    let k = c.loop-rest in
+pub loop-i-preserved : goal.loop-i-preserved
+loop-i-preserved c =
+    let l = c.loop-i in
     let at = c.args.at in
-    let t = c.loop-rest-test.true in (
-      store_digit k.buffer at k.i k.rest k.invariant.1 t ∙ k.invariant.0,
-      next_digit k.buffer at k.i k.rest k.invariant.1 t,
-      length-set k.buffer (k.i - 1) _ ∙ k.invariant.2,
-      omega (arith, k.invariant.3),
-    )
-
-pub overflow_cast-buffer-2 : goal.overflow_cast-buffer-2
-overflow_cast-buffer-2 c = record { fits = omega (arith, c.loop-rest-test.false) }
-
-pub bounds-buffer-at : goal.bounds-buffer-at
-bounds-buffer-at c =
-    let k = c.loop-rest in
-    omega (arith, k.invariant.1, k.invariant.2, k.invariant.3, c.requires.count_in_bounds, one_long k.rest c.loop-rest-test.false)
-
-pub shape_of-buffer : goal.shape_of-buffer
-shape_of-buffer c = length-set c.loop-rest.buffer c.args.at _ ∙ c.loop-rest.invariant.2
+    let k = l.i - 1 - at in
+    let e : l.i - 1 ≡ at + k = omega (arith, c.loop-i-test.true) in
+    let f : suc k ≡ l.i - at = omega (arith, c.loop-i-test.true) in
+    ap (λ (j : ℕ). sets (set l.buffer j (48 + l.rest % 10)) at (last_digits k (l.rest / 10))) e
+    ∙ store_last l.buffer at k l.rest
+    ∙ ap (λ (j : ℕ). sets l.buffer at (last_digits j l.rest)) f
+    ∙ l.invariant
 
 pub returns : goal.returns
 returns c =
-    let k = c.loop-rest in
-    first_digit k.buffer c.args.at k.rest c.args.n _ k.invariant.0 c.loop-rest-test.false (ap (λ (j : ℕ). c.args.at + j) c.requires.count_value)
-    (omega (arith, c.requires.count_value, c.requires.count_in_bounds))
+    let l = c.loop-i in
+    let a = c.args in
+    record {
+      place = ap (λ (k : ℕ). a.at + k) c.requires.count_value;
+      list = no_digits l.buffer a.at (l.i - a.at) l.rest (omega (arith, c.loop-i-test.false)) ∙ l.invariant;
+      room = omega (arith, c.requires.count_value, c.requires.count_in_bounds);
+    }

@@ -1,15 +1,11 @@
 -- `printing::store_digits` meets its contract. The invariant of its loop: the digits that are left make the buffer what all of them make of
--- the one lent, and end at i. The measure is what is left of the number. Assumes nothing.
+-- the one lent. Assumes nothing.
 use mathlib.Core.Path.{◌≡◌}
-use Prim.Native.Nat.{◌+◌, ◌≤◌}
-use lib.ListN.{length}
+use Prim.Native.Nat.{◌-◌}
 use lib.Seq.{sets}
 use Rattle.printing.specs.Decimal.{decimal}
+use Rattle.printing.proofs.Digits.{last_digits}
 use Rattle.printing.proofs.store_digits.Given as goal
 
-abbrev pub invariant-loop-rest : goal.invariant-loop-rest
-invariant-loop-rest l =
-    (sets l.buffer l.at (decimal l.rest) ≡ sets l.initial.buffer l.at (decimal l.n)) × (l.i ≡ l.at + length (decimal l.rest)) × (length l.buffer ≡ length l.initial.buffer) × (l.i ≤ l.end)
-
-abbrev pub decreases-loop-rest : goal.decreases-loop-rest
-decreases-loop-rest l = l.rest
+abbrev pub invariant-loop-i : goal.invariant-loop-i
+invariant-loop-i l = sets l.buffer l.at (last_digits (l.i - l.at) l.rest) ≡ sets l.initial.buffer l.at (decimal l.n)

@@ -6,14 +6,14 @@ use Rattle.results.proofs.write_batch.Goals as goal
 pub returns-then-buffer-lt-ROOM : goal.returns-then-buffer-lt-ROOM
 returns-then-buffer-lt-ROOM c = none_space _ _ _ c.if-buffer-lt-ROOM.true
 
-pub write_lines-requires : goal.write_lines-requires
-write_lines-requires c = sym c.table_passes.ensures ∙ c.if-table_passes.true
+pub returns-then-not-table_passes : goal.returns-then-not-table_passes
+returns-then-not-table_passes c = none_table _ _ _ c.if-buffer-lt-ROOM.false (sym c.table_passes.ensures ∙ c.if-not-table_passes.true)
 
-pub returns-then-table_passes : goal.returns-then-table_passes
-returns-then-table_passes c =
-    some_lines _ _ _ c.if-buffer-lt-ROOM.false
-    (sym c.table_passes.ensures ∙ c.if-table_passes.true)
-    c.write_lines.ensures
+pub write_lines-requires : goal.write_lines-requires
+write_lines-requires c = sym c.table_passes.ensures ∙ c.if-not-table_passes.false
 
 pub returns : goal.returns
-returns c = none_table _ _ _ c.if-buffer-lt-ROOM.false (sym c.table_passes.ensures ∙ c.if-table_passes.false)
+returns c =
+    some_lines _ _ _ c.if-buffer-lt-ROOM.false
+    (sym c.table_passes.ensures ∙ c.if-not-table_passes.false)
+    c.write_lines.ensures

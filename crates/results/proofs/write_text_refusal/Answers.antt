@@ -14,11 +14,12 @@ returns-then-buffer-lt-ROOM c =
 pub put_refused-space-requires : goal.put_refused-space-requires
 put_refused-space-requires c = omega (arith, c.if-buffer-lt-ROOM.false)
 
-pub returns-then-is_text_refusal : goal.returns-then-is_text_refusal
-returns-then-is_text_refusal c =
-    text_wrote _ _ _ c.if-buffer-lt-ROOM.false (sym c.is_text_refusal.ensures ∙ c.if-is_text_refusal.true)
-    (text_line_lem c.ranges.number.fits c.ranges.place.fits c.if-buffer-lt-ROOM.false c.put_refused-space.ensures c.put_byte-second.ensures c.put_number-end.ensures
-    c.put_byte.ensures)
+pub returns-then-not-is_text_refusal : goal.returns-then-not-is_text_refusal
+returns-then-not-is_text_refusal c =
+    text_no_kind _ _ _ c.if-buffer-lt-ROOM.false (sym c.is_text_refusal.ensures ∙ c.if-not-is_text_refusal.true)
 
 pub returns : goal.returns
-returns c = text_no_kind _ _ _ c.if-buffer-lt-ROOM.false (sym c.is_text_refusal.ensures ∙ c.if-is_text_refusal.false)
+returns c =
+    text_wrote _ _ _ c.if-buffer-lt-ROOM.false (sym c.is_text_refusal.ensures ∙ c.if-not-is_text_refusal.false)
+    (text_line_lem c.ranges.number.fits c.ranges.place.fits c.if-buffer-lt-ROOM.false c.put_refused-space.ensures c.put_byte-second.ensures c.put_number-end.ensures
+    c.put_byte.ensures)

@@ -1,15 +1,35 @@
 -- `state::pass` meets its contract. Assumes nothing.
-use mathlib.Core.Path.{◌∙◌}
-use Rattle.state.specs.States.{with_times}
-use Rattle.state.specs.Private.{slots_of}
+use Rattle.std.proofs.Common.{◌≡◌, sym, ap, ◌∙◌, arith, get_or, take, Bool}
+use Rattle.std.proofs.Math.Seq.{take_all}
+use Rattle.laws.specs.Lists.{keep, repeated}
+use Rattle.state.specs.declared.Pending.{Pending}
+use Rattle.state.specs.States.{blank, live}
+use Rattle.state.specs.Private.{not_dropped}
+use Rattle.state.proofs.Kept.{holds_none, holds_more, holds_same, held, more_yes, more_no}
 use Rattle.state.proofs.Passing.{passed_none, passed_to}
+use Rattle.state.proofs.pass.Goals.{then-stays, else-stays}
 use Rattle.state.proofs.pass.Goals as goal
 
 pub returns-then-to-clock : goal.returns-then-to-clock
 returns-then-to-clock c = passed_none c.args.s c.args.to c.if-to-clock.true
 
+pub loop-p-init : goal.loop-p-init
+unfolding keep repeated
+loop-p-init c = (omega arith, holds_none)
+
+pub loop-p-preserved : goal.loop-p-preserved
+loop-p-preserved c =
+    let l = c.live-live.result.now in
+    let i = c.loop-p.p-index in
+    let kept : Pending → Bool = λ p. not_dropped c.args.s.clock c.args.to p.time in
+    elim c.if-stays.branch [
+      | then-stays w ↦ rw (w.kept-is, w.count-is) (omega arith, holds_same (more_yes kept l i blank (omega arith) (sym c.stays.ensures ∙ w.if-stays.true)) (holds_more (get_or l i blank) c.loop-p.invariant.1 (omega arith)))
+      | else-stays w ↦ rw (w.kept-is, w.count-is) (omega arith, holds_same (more_no kept l i blank (omega arith) (sym c.stays.ensures ∙ w.if-stays.false)) c.loop-p.invariant.1)
+    ]
+
 pub returns : goal.returns
-unfolding slots_of
 returns c =
-    (λ i. with_times c.args.s c.args.to (c.without_lapsed-kept.ensures i).pending (c.without_lapsed-kept.ensures i).events)
-    ∙ passed_to c.args.s c.args.to c.if-to-clock.false
+    let l = c.live-live.result.now in
+    let kept : Pending → Bool = λ p. not_dropped c.args.s.clock c.args.to p.time in
+    let all : take c.loop-p.p-index l ≡ live c.args.s = take_all c.loop-p.p-index l (omega arith) ∙ c.live-live.ensures.value in
+    held c.args.s c.args.to (holds_same (ap (keep kept) all) c.loop-p.invariant.1) ∙ passed_to c.args.s c.args.to (omega arith)

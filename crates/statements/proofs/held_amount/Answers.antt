@@ -1,19 +1,12 @@
 -- `statements::held_amount` meets its contract. Assumes nothing.
-use mathlib.Core.Path.{◌∙◌}
-use Rattle.statements.proofs.Moves.{held_asset, held_parameter, held_past}
+use mathlib.Core.Path.{ap, ◌∙◌}
+use Prim.Native.Nat.{ℕ}
+use lib.ListN.{get_or}
+use Rattle.contract.specs.Decode.{holder_of}
+use Rattle.statements.proofs.Moves.{held_is}
 use Rattle.statements.proofs.held_amount.Goals as goal
-
-pub returns-then-kind-eq-ASSET : goal.returns-then-kind-eq-ASSET
-returns-then-kind-eq-ASSET c =
-    c.amount.ensures ∙ held_asset c.args.holdings.now c.args.kind
-    c.args.argument c.if-kind-eq-ASSET.true
-
-pub returns-then-holdings-i : goal.returns-then-holdings-i
-returns-then-holdings-i c =
-    held_past c.args.holdings.now c.args.kind c.args.argument
-    c.if-kind-eq-ASSET.false c.if-holdings-i.true
 
 pub returns : goal.returns
 returns c =
-    c.amount-2.ensures ∙ held_parameter c.args.holdings.now c.args.kind
-    c.args.argument c.if-kind-eq-ASSET.false
+    let l = c.args.holdings.now in
+    c.at.ensures ∙ ap (λ (i : ℕ). get_or l i 0) c.place_of.ensures ∙ held_is l (holder_of c.args.kind c.args.argument) c.told-holdings

@@ -1,5 +1,6 @@
 -- `statements::move_value` meets its contract. Assumes nothing.
 use borrow.Author.Rules.{rules}
+use Rattle.std.specs.Prelude.{None}
 use mir.Syntax.{w64}
 use mir.Val.{SFits}
 use mir.Facts.{to_z-of_z}
@@ -14,20 +15,20 @@ enum_told-1 c = search rules
 pub returns-in_default : goal.returns-in_default
 returns-in_default c =
     let s = c.args in
-    let w = only_holdings s.holdings.now 0 in
+    let w = only_holdings s.holdings.now None in
     text_stops w (moved w s.i s.j) s.value _ c.in_default.is
 
 pub returns-then-z-lt0 : goal.returns-then-z-lt0
 returns-then-z-lt0 c =
     let s = c.args in
-    let w = only_holdings s.holdings.now 0 in
+    let w = only_holdings s.holdings.now None in
     let fz : SFits w64 c.in-Integer.z = record { sfits = c.in-Integer.known_told-1-own.given.0.1 } in
     negative_stops w (moved w s.i s.j) s.value _ _ c.in-Integer.is (to_z-of_z fz) c.if-z-lt0.true
 
 pub returns : goal.returns
 returns c =
     let s = c.args in
-    let w = only_holdings s.holdings.now 0 in
+    let w = only_holdings s.holdings.now None in
     let fz : SFits w64 c.in-Integer.z = record
     { sfits = c.in-Integer.known_told-1-own.given.0.1 } in
     let e = is_natural s.value _ _ _ c.in-Integer.is (to_z-of_z fz)

@@ -9,10 +9,10 @@ returns-in-Accepted c =
 
 pub returns-in-Failed : goal.returns-in-Failed
 returns-in-Failed c =
-    let p = same_report c.args.numbers.now _ c.args.integers.now _ c.args.n _ _ (failed c.args.outcome c.args.state c.args.clock _ c.in-Failed.is) c.tell-in-Failed.ensures.numbers_after c.tell-in-Failed.ensures.integers_after in
+    let p = same_report c.args.numbers.now _ c.args.integers.now _ c.args.n _ _ (failed c.args.outcome c.args.state c.args.clock _ _ c.in-Failed.is c.number.ensures) c.tell-in-Failed.ensures.numbers_after c.tell-in-Failed.ensures.integers_after in
     record { numbers_after = p.0; integers_after = p.1 }
 
 pub returns-in-Refused : goal.returns-in-Refused
 returns-in-Refused c =
-    let p = same_report c.args.numbers.now _ c.args.integers.now _ c.args.n _ _ (turned_down c.args.outcome c.args.state c.args.clock _ c.in-Refused.is) c.tell-in-Refused.ensures.numbers_after c.tell-in-Refused.ensures.integers_after in
+    let p = same_report c.args.numbers.now _ c.args.integers.now _ c.args.n _ _ (turned_down c.args.outcome c.args.state c.args.clock _ _ c.in-Refused.is c.number-in-Refused.ensures) c.tell-in-Refused.ensures.numbers_after c.tell-in-Refused.ensures.integers_after in
     record { numbers_after = p.0; integers_after = p.1 }

@@ -1,12 +1,7 @@
 -- `machine::line_end` meets its contract. The invariant: the line's end from the place on is the same all along. Assumes nothing.
-use Prim.Native.Nat.{◌-◌}
 use mathlib.Core.Path.{◌≡◌}
-use lib.ListN.{length}
 use Rattle.machine.specs.Sessions.{end_of_line}
 use Rattle.machine.proofs.turns.line_end.Given as goal
 
 abbrev pub invariant-loop-i : goal.invariant-loop-i
 invariant-loop-i l = end_of_line l.input l.i ≡ end_of_line l.input l.at
-
-abbrev pub decreases-loop-i : goal.decreases-loop-i
-decreases-loop-i l = length l.input - l.i

@@ -1,5 +1,4 @@
 -- `machine::turns::play_on` meets its contract. Assumes nothing.
-use borrow.Author.Tests.{not-true, not-false}
 use native.Mathlib.Omega.{arith}
 use Rattle.laws.specs.Lists.{repeated}
 use Rattle.state.proofs.Lengths.{events_length}
@@ -25,18 +24,18 @@ shape_of-integers-after-loop-n c = integers_kept c.loop-n.invariant.0.written
 pub returns-after-loop-n : goal.returns-after-loop-n
 returns-after-loop-n c = ended_full c.loop-n.invariant.0 c.loop-n-test.false
 
-pub shape_of-numbers-then-not-t : goal.shape_of-numbers-then-not-t
-shape_of-numbers-then-not-t c = numbers_kept c.loop-n.invariant.0.written
+pub shape_of-numbers-in_default : goal.shape_of-numbers-in_default
+shape_of-numbers-in_default c = numbers_kept c.loop-n.invariant.0.written
 
-pub shape_of-integers-then-not-t : goal.shape_of-integers-then-not-t
-shape_of-integers-then-not-t c = integers_kept c.loop-n.invariant.0.written
+pub shape_of-integers-in_default : goal.shape_of-integers-in_default
+shape_of-integers-in_default c = integers_kept c.loop-n.invariant.0.written
 
-pub returns-then-not-t : goal.returns-then-not-t
-returns-then-not-t c =
-    ended_wait c.loop-n.invariant.0 _ _ c.turn-t.ensures (not-true _ c.if-not-t.true)
+pub returns-in_default : goal.returns-in_default
+returns-in_default c =
+    ended_wait c.loop-n.invariant.0 _ _ c.turn.ensures c.in_default.is
 
-pub turn-t-requires : goal.turn-t-requires
-turn-t-requires c =
+pub turn-requires : goal.turn-requires
+turn-requires c =
     record {
       table_value = (c.requires.0, c.loop-n.invariant.0.slotted.pending);
       labels_value = c.loop-n.invariant.1;
@@ -44,7 +43,7 @@ turn-t-requires c =
 
 pub clear_sent-requires : goal.clear_sent-requires
 clear_sent-requires c =
-    left_blank c.loop-n.invariant.0 c.turn-t.result _ c.turn-t.ensures (not-false _ c.if-not-t.false)
+    left_blank c.loop-n.invariant.0 c.turn.result c.in-Some.t _ c.turn.ensures c.in-Some.is
 
 pub loop-n-smaller : goal.loop-n-smaller
 loop-n-smaller c =
@@ -53,4 +52,4 @@ loop-n-smaller c =
 pub loop-n-preserved : goal.loop-n-preserved
 loop-n-preserved c =
     let u = c.report-n.ensures in
-    (going_on c.loop-n.invariant.0 c.loop-n-test.true c.room_in-room.ensures c.turn-t.result _ c.turn-t.ensures (not-false _ c.if-not-t.false) u.value u.numbers_after u.integers_after, c.clear_sent.ensures)
+    (going_on c.loop-n.invariant.0 c.loop-n-test.true c.room_in-room.ensures c.turn.result c.in-Some.t _ c.turn.ensures c.in-Some.is u.value u.numbers_after u.integers_after, c.clear_sent.ensures)

@@ -12,9 +12,6 @@ use Rattle.machine.specs.Steps.{jumped}
 use Rattle.machine.proofs.Taken.{does_refused, does_tick, does_jump, silent_refusal, silent_tick, silent_jump, silent_agreement}
 use Rattle.machine.proofs.turns.take_line.Goals as goal
 
-pub enum_told-1 : goal.enum_told-1
-enum_told-1 c = search rules
-
 pub take_call-requires : goal.take_call-requires
 take_call-requires c =
     record {

@@ -16,12 +16,12 @@ overflow_add-result c =
 pub returns : goal.returns
 returns c =
     let w = contract_of c.args.table.now in
-    turn_waits w c.args.input.now c.args.s c.args.at _ _ _ (sym c.first_due-due.ensures ∙ c.in_default.is) c.line_end-end.ensures _ c.if-end-input.false
+    turn_waits w c.args.input.now c.args.s c.args.at _ _ (sym c.first_due-due.ensures ∙ c.in_default.is) c.line_end-end.ensures c.if-end-input.false
 
-pub returns-in-At : goal.returns-in-At
-returns-in-At c =
+pub returns-in-Some : goal.returns-in-Some
+returns-in-Some c =
     let w = contract_of c.args.table.now in
-    turn_fired w c.args.input.now c.args.s c.args.at _ _ _ (sym c.first_due-due.ensures ∙ c.in-At.is) c.fire_on-came.ensures.value c.fire_on-came.ensures.labels_after
+    turn_fired w c.args.input.now c.args.s c.args.at _ _ _ (sym c.first_due-due.ensures ∙ c.in-Some.is) c.fire_on-came.ensures.value c.fire_on-came.ensures.labels_after
 
 pub returns-then-end-input : goal.returns-then-end-input
 returns-then-end-input c =

@@ -16,4 +16,4 @@ overflow_sub-end c =
 
 pub returns : goal.returns
 returns c =
-    party_piece c.args.table.now c.args.party c.requires.table_value.0 c.requires.table_value.1 c.requires.party_in_bounds c.put_name-end.ensures c.gap.ensures c.put_spaces.ensures
+    party_piece c.args.table.now c.args.party c.requires.table_value.0 c.requires.table_value.1 c.requires.party_in_bounds c.put_name-end.ensures c.saturating_sub.ensures c.put_spaces.ensures

@@ -9,7 +9,7 @@ overflow_sub-end c =
 
 pub returns-then-rule-eq1 : goal.returns-then-rule-eq1
 returns-then-rule-eq1 c =
-    call_piece c.args.rule c.if-rule-eq1.true c.requires.rule_in_bounds c.put_word-end.ensures c.gap.ensures c.put_spaces.ensures
+    call_piece c.args.rule c.if-rule-eq1.true c.requires.rule_in_bounds c.put_word-end.ensures c.saturating_sub.ensures c.put_spaces.ensures
 
 pub returns : goal.returns
 returns c =

@@ -13,4 +13,4 @@ returns-then-count-ge-LINES c =
 
 pub returns : goal.returns
 returns c =
-    noted c.args.g c.args.kind c.args.party c.args.value _ _ (to_z-of_z c.ranges.value) c.if-kind-ne3.false c.if-count-ge-LINES.false c.store_entry.ensures c.store_value.ensures
+    noted c.args.g c.args.kind c.args.party c.args.value _ _ (to_z-of_z c.ranges.value) c.if-kind-ne3.false c.if-count-ge-LINES.false c.store_entry.ensures c.set.ensures

@@ -4,4 +4,4 @@ use Rattle.pages.proofs.notes.store_entry.Goals as goal
 
 pub returns : goal.returns
 returns c =
-    five_stores c.args.entries.now c.args.at 3 c.args.party c.args.rule c.args.clock 0 c.store.ensures c.store-2.ensures c.store-3.ensures c.store-4.ensures c.store-5.ensures
+    five_stores c.args.entries.now c.args.at 3 c.args.party c.args.rule c.args.clock 0 c.set.ensures c.set-2.ensures c.set-3.ensures c.set-4.ensures c.set-5.ensures

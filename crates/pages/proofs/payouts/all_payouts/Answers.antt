@@ -1,5 +1,4 @@
--- `pages::payouts::all_payouts` meets its contract. The invariant of its loop: the entries before i are payouts. The measure is how many entries
--- are left. Assumes nothing.
+-- `pages::payouts::all_payouts` meets its contract. The invariant of its loop: the entries before i are payouts. Assumes nothing.
 use mathlib.Core.Path.{ap}
 use mathlib.Core.Bool.{not}
 use native.Mathlib.Omega.{arith}

@@ -1,13 +1,7 @@
--- `pages::payouts::all_payouts` meets its contract. The invariant of its loop: the entries before i are payouts. The measure is how many entries
--- are left. Assumes nothing.
-use Prim.Native.Nat.{◌-◌}
-use lib.ListN.{length}
+-- `pages::payouts::all_payouts` meets its contract. The invariant of its loop: the entries before i are payouts. Assumes nothing.
 use Rattle.contract.specs.Decode.{contract_of}
 use Rattle.pages.proofs.Asking.{Passed}
 use Rattle.pages.proofs.payouts.all_payouts.Given as goal
 
 abbrev pub invariant-loop-i : goal.invariant-loop-i
 invariant-loop-i l = Passed (contract_of l.table) l.numbers l.values l.i
-
-abbrev pub decreases-loop-i : goal.decreases-loop-i
-decreases-loop-i l = length l.values - l.i

@@ -1,5 +1,4 @@
--- `pages::sheets::put_blanks` meets its contract. The invariant of its loop: i blank lines stand in the buffer. The measure is how many are left. Assumes nothing.
-use native.Mathlib.Omega.{arith}
+-- `pages::sheets::put_blanks` meets its contract. The invariant of its loop: i blank lines stand in the buffer. Assumes nothing.
 use Rattle.printing.proofs.Puts.{kept}
 use Rattle.pages.proofs.Composed.{none_blank, blank_room, more_blank, all_blank}
 use Rattle.pages.proofs.sheets.put_blanks.Goals as goal
@@ -9,9 +8,6 @@ loop-i-init c = none_blank c.requires
 
 pub put_blank-next-requires : goal.put_blank-next-requires
 put_blank-next-requires c = blank_room c.loop-i.invariant c.requires c.loop-i-test.true
-
-pub loop-i-smaller : goal.loop-i-smaller
-loop-i-smaller c = omega (arith, c.loop-i-test.true)
 
 pub loop-i-preserved : goal.loop-i-preserved
 loop-i-preserved c = more_blank c.loop-i.invariant c.loop-i-test.true c.put_blank-next.ensures

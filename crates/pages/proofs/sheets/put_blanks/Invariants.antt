@@ -1,10 +1,6 @@
--- `pages::sheets::put_blanks` meets its contract. The invariant of its loop: i blank lines stand in the buffer. The measure is how many are left. Assumes nothing.
-use Prim.Native.Nat.{◌-◌}
+-- `pages::sheets::put_blanks` meets its contract. The invariant of its loop: i blank lines stand in the buffer. Assumes nothing.
 use Rattle.pages.proofs.Composed.{Blanked}
 use Rattle.pages.proofs.sheets.put_blanks.Given as goal
 
 abbrev pub invariant-loop-i : goal.invariant-loop-i
 invariant-loop-i l = Blanked l.n l.initial.buffer l.at l.i l.next l.buffer
-
-abbrev pub decreases-loop-i : goal.decreases-loop-i
-decreases-loop-i l = l.n - l.i

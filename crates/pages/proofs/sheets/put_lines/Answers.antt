@@ -1,5 +1,4 @@
--- `pages::sheets::put_lines` meets its contract. The invariant of its loop: the lines before entry i stand first in the buffer. The measure is how
--- many entries are left. Assumes nothing.
+-- `pages::sheets::put_lines` meets its contract. The invariant of its loop: the lines before entry i stand first in the buffer. Assumes nothing.
 use Prim.Native.Nat.{◌<◌}
 use native.Mathlib.Omega.{arith}
 use lib.ListN.{length}
@@ -15,9 +14,6 @@ put_line-at-requires c =
     let l = c.loop-i-test.true in
     let few : c.loop-i.i < length c.args.values.now = omega (arith, c.requires.to_in_bounds.0) in
     record { i_in_bounds = each_whole c.requires.all_payable _ few; payable = each_payable c.requires.all_payable _ few; i_in_bounds_2 = line_room c.loop-i.invariant c.requires.all_payable c.requires.to_in_bounds.0 c.requires.to_in_bounds.1 l }
-
-pub loop-i-smaller : goal.loop-i-smaller
-loop-i-smaller c = omega (arith, c.loop-i-test.true)
 
 pub loop-i-preserved : goal.loop-i-preserved
 loop-i-preserved c = turn c.loop-i.invariant c.loop-i-test.true c.put_line-at.ensures

@@ -1,11 +1,6 @@
--- `pages::sheets::put_lines` meets its contract. The invariant of its loop: the lines before entry i stand first in the buffer. The measure is how
--- many entries are left. Assumes nothing.
-use Prim.Native.Nat.{◌-◌}
+-- `pages::sheets::put_lines` meets its contract. The invariant of its loop: the lines before entry i stand first in the buffer. Assumes nothing.
 use Rattle.pages.proofs.Composed.{Going}
 use Rattle.pages.proofs.sheets.put_lines.Given as goal
 
 abbrev pub invariant-loop-i : goal.invariant-loop-i
 invariant-loop-i l = Going l.table l.numbers l.values l.from l.to l.initial.buffer l.i l.at l.buffer
-
-abbrev pub decreases-loop-i : goal.decreases-loop-i
-decreases-loop-i l = l.to - l.i

@@ -1,18 +1,11 @@
 -- `results::many::all_ok` meets its contract. The invariant of its loop: the reports before report i pass question 53, so that those from
--- there on decide. The measure is how many reports are left. Assumes nothing.
+-- there on decide. Assumes nothing.
 use mathlib.Core.Path.{sym, ◌∙◌}
-use Rattle.results.proofs.Turns.{asked_none, not_whole, asked_whole, asked_one, asked_bad, asked_all}
+use Rattle.results.proofs.Turns.{asked_none, asked_one, asked_bad, asked_all}
 use Rattle.results.proofs.many.all_ok.Goals as goal
-
-pub returns-then-not-all_whole : goal.returns-then-not-all_whole
-returns-then-not-all_whole c = not_whole _ _ _ _ _ (sym c.all_whole.ensures ∙ c.if-not-all_whole.true)
 
 pub loop-i-init : goal.loop-i-init
 loop-i-init c = asked_none
-
-pub report_at-requires : goal.report_at-requires
-report_at-requires c =
-    asked_whole c.loop-i.invariant (sym c.all_whole.ensures ∙ c.if-not-all_whole.false) c.loop-i-test.true
 
 pub returns-then-not-report_ok : goal.returns-then-not-report_ok
 returns-then-not-report_ok c =

@@ -1,17 +1,12 @@
 -- `results::many::put_lines` meets its contract. The invariant of its loop: the lines before report i stand first in the buffer, none of them
--- longer than 128 bytes. The measure is how many reports are left. Assumes nothing.
+-- longer than 128 bytes. Assumes nothing.
 use native.Mathlib.Omega.{arith}
 use Rattle.printing.proofs.Puts.{kept}
-use Rattle.results.proofs.Turns.{ready_at, ready_whole, start, next_room, part_room, turn, all_put}
+use Rattle.results.proofs.Turns.{ready_at, start, next_room, part_room, turn, all_put}
 use Rattle.results.proofs.many.put_lines.Goals as goal
 
 pub loop-i-init : goal.loop-i-init
 loop-i-init c = start
-
-pub report_at-report-requires : goal.report_at-report-requires
-report_at-report-requires c =
-    let g = c.loop-i.invariant in
-    ready_whole c.requires (omega (arith, g.first)) (omega (arith, g.first, c.loop-i-test.true))
 
 pub overflow_add-used : goal.overflow_add-used
 overflow_add-used c =

@@ -3,17 +3,17 @@ use mathlib.Core.Path.{sym, ◌∙◌}
 use Rattle.results.proofs.Turns.{all_ready, all_written, none_written}
 use Rattle.results.proofs.many.write_lines.Goals as goal
 
+pub returns-then-not-all_ok : goal.returns-then-not-all_ok
+returns-then-not-all_ok c = none_written _ _ _ _ _ c.last_of-end.ensures _ (sym c.all_ok.ensures ∙ c.if-not-all_ok.true)
+
 pub put_lines-requires : goal.put_lines-requires
 put_lines-requires c =
     let a = c.args in
     all_ready _ _ _ a.to a.buffer.now c.last_of-end.ensures c.requires
-    (sym c.all_ok.ensures ∙ c.if-all_ok.true)
-
-pub returns-then-all_ok : goal.returns-then-all_ok
-returns-then-all_ok c =
-    all_written _ _ _ _ _ c.last_of-end.ensures _
-    (sym c.all_ok.ensures ∙ c.if-all_ok.true)
-    c.put_lines.ensures
+    (sym c.all_ok.ensures ∙ c.if-not-all_ok.false)
 
 pub returns : goal.returns
-returns c = none_written _ _ _ _ _ c.last_of-end.ensures _ (sym c.all_ok.ensures ∙ c.if-all_ok.false)
+returns c =
+    all_written _ _ _ _ _ c.last_of-end.ensures _
+    (sym c.all_ok.ensures ∙ c.if-not-all_ok.false)
+    c.put_lines.ensures

@@ -1,7 +1,8 @@
 -- `results::reports::put_rule` meets its contract. Assumes nothing.
+use Rattle.printing.proofs.Puts.{puts_as}
 use Rattle.results.proofs.Assembled.{rule_piece}
 use Rattle.results.proofs.reports.put_rule.Goals as goal
 
 pub returns : goal.returns
 returns c =
-    rule_piece c.args.rule c.requires c.put_byte-name.ensures c.put_rule_name-end.ensures c.put_bytes.ensures
+    rule_piece c.args.rule c.requires c.put_byte-name.ensures (puts_as _ _ c.rule_word.ensures c.put_word-end.ensures) c.put_bytes.ensures

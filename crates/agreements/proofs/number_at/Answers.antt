@@ -1,8 +1,0 @@
--- `agreements::number_at` meets its contract. Assumes nothing.
-use mathlib.Core.Path.{sym}
-use lib.ListN.{get_or-eq_default}
-use Rattle.agreements.proofs.number_at.Goals as goal
-
-pub returns-else-i-s : goal.returns-else-i-s
-returns-else-i-s c =
-    sym (get_or-eq_default c.args.s.now 0 c.if-i-s.false)

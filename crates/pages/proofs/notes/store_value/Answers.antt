@@ -1,7 +1,0 @@
--- `pages::notes::store_value` meets its contract. Assumes nothing.
-use mathlib.Core.Path.{sym}
-use lib.Seq.{set_out}
-use Rattle.pages.proofs.notes.store_value.Goals as goal
-
-pub returns-else-i-list : goal.returns-else-i-list
-returns-else-i-list c = sym (set_out _ _ _ c.if-i-list.false)

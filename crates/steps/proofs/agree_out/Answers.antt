@@ -1,7 +1,0 @@
--- `steps::agree_out` meets its contract. Assumes nothing.
-use mathlib.Core.Path.{ap, ◌∙◌}
-use Rattle.steps.specs.Left.{out_of}
-use Rattle.steps.proofs.agree_out.Goals as goal
-
-pub returns : goal.returns
-returns c = c.part.ensures ∙ ap out_of c.agree.ensures

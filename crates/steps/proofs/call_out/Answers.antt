@@ -1,7 +1,0 @@
--- `steps::call_out` meets its contract. Assumes nothing.
-use mathlib.Core.Path.{ap, ◌∙◌}
-use Rattle.steps.specs.Left.{out_of}
-use Rattle.steps.proofs.call_out.Goals as goal
-
-pub returns : goal.returns
-returns c = c.part.ensures ∙ ap out_of c.call.ensures

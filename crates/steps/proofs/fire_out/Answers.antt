@@ -1,7 +1,0 @@
--- `steps::fire_out` meets its contract. Assumes nothing.
-use mathlib.Core.Path.{ap, ◌∙◌}
-use Rattle.steps.specs.Left.{out_of}
-use Rattle.steps.proofs.fire_out.Goals as goal
-
-pub returns : goal.returns
-returns c = c.part.ensures ∙ ap out_of c.fire.ensures
