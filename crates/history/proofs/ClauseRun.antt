@@ -11,8 +11,7 @@ use Rattle.laws.proofs.Truths.{both_left, both_right}
 use Rattle.contract.specs.Tree.{Contract}
 use Rattle.contract.specs.Decode.{contract_of}
 use Rattle.state.specs.declared.State.{State}
-use Rattle.state.specs.declared.Due.{Due}
-use Rattle.state.specs.declared.Due.TheVariants as due
+use Rattle.std.specs.Prelude.{Option, Some}
 use Rattle.state.specs.States.{blank, no_function, live, pending_ok, state_ok, due_in, pending_at}
 use Rattle.state.proofs.Dues.{first_to_fire}
 use Rattle.state.proofs.Each.{each_get_or}
@@ -46,15 +45,15 @@ pending_clause c s k o h =
       ltb-true p.event (length (get_or c.functions p.function no_function).events) (both_left _ _ (both_right (ltb p.function (length c.functions)) _ e)),
     )
 
-due_clause : (c : Contract) (s : State) (k : ℕ) → state_ok c s ≡ true → due_in c s ≡ due.At k → ClauseOf c (clause_due s (due_in c s))
-due_clause c s k o d = subst (λ (z : Due). ClauseOf c (clause_due s z)) (sym d) (pending_clause c s k o (first_to_fire c s k d).is_pending)
+due_clause : (c : Contract) (s : State) (k : ℕ) → state_ok c s ≡ true → due_in c s ≡ Some k → ClauseOf c (clause_due s (due_in c s))
+due_clause c s k o d = subst (λ (z : Option ℕ). ClauseOf c (clause_due s z)) (sym d) (pending_clause c s k o (first_to_fire c s k d).is_pending)
 
 came_clause : {q : Request} (c : Contract) (s : State) {r : Stepped} → state_ok c s ≡ true → ComesOut c s q r → is_refused r.outcome ≡ false → RunsAsAsked c q (clause_run c s q)
 came_clause c s o (refusal n) e = true_false e
 came_clause c s o (agrees ps a) e = refl
 came_clause c s o (calls i n f ps k) e = subst (λ (z : Chosen). ClauseOf c (clause_chosen z)) (sym k.runs) k.known
 came_clause c s o (fires k a d h) e = due_clause c s k o d
-came_clause c s o (fails k a d h) e = due_clause c s k o d
+came_clause c s o (fails k n a d h) e = due_clause c s k o d
 came_clause c s o (ticks a d l) e = refl
 came_clause c s o (jumps T a d l) e = refl
 

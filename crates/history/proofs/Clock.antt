@@ -19,8 +19,7 @@ use Rattle.laws.specs.Lists.{every}
 use Rattle.contract.proofs.Fitting.{fits_contract}
 use Rattle.contract_laws.proofs.Sound.{sound}
 use Rattle.state.specs.declared.State.{State}
-use Rattle.state.specs.declared.Due.{Due}
-use Rattle.state.specs.declared.Due.TheVariants as due
+use Rattle.std.specs.Prelude.{Option, Some, None}
 use Rattle.state.specs.States.{fresh_at, live, state_ok, due_in, with_pending, removed, lapsed, time_passed}
 use Rattle.state.proofs.Dues.{first_to_fire}
 use Rattle.state.proofs.Each.{without_count}
@@ -36,6 +35,8 @@ use Rattle.history.specs.Histories.{Step, answer_to, history, is_refused, firing
 use Rattle.history.specs.Demand.{roomy, all_roomy, Cleared, GoesOn}
 use Rattle.history.proofs.GoodState.{Good, good_ok, fresh_good, live_length}
 use Rattle.history.proofs.StepsKeepGood.{request_good, last_good}
+use Rattle.history.proofs.Cases.{handler_ran}
+use Rattle.machine.proofs.Refusals.{by_refusal}
 
 -- ---- one firing
 
@@ -46,26 +47,26 @@ pub record Fired (s : State) (r : Stepped) : Type 0 where
   pub one_less : suc r.state.pending ≡ s.pending
 
 module _ {c : Contract} {s : State} (g : Good c s) (a : s.agreed ≡ true) where
-  pub fired_so : (k : ℕ) → due_in c s ≡ due.At k → Fired s (fired c s)
+  pub fired_so : (k : ℕ) → due_in c s ≡ Some k → Fired s (fired c s)
   unfolding fired handled removed with_pending
   fired_so k d =
       let h : k < length (live s) = (first_to_fire c s k d).is_pending in
       let n : length (live s) ≡ s.pending = live_length g in
       subst (Fired s) (sym (pick_true _ _ _ a ∙ ap (fire_by_due c s) d))
-      (by_cases (Fired s) _ _ _
+      (by_refusal (Fired s) (handler_ran c s k).refusal _ _
       (λ _. record { not_refused = refl; agreed = a; clock = refl; one_less = removed_count s k h ∙ n })
-      (λ _. record { not_refused = refl; agreed = a; clock = refl; one_less = without_count k (live s) h ∙ n }))
+      (λ _ _. record { not_refused = refl; agreed = a; clock = refl; one_less = without_count k (live s) h ∙ n }))
 
-pub ticked_so : (c : Contract) (s : State) → s.agreed ≡ true → due_in c s ≡ due.Nothing → s.clock < top → ticked c s ≡ answered (Accepted Tick) (time_passed s)
+pub ticked_so : (c : Contract) (s : State) → s.agreed ≡ true → due_in c s ≡ None → s.clock < top → ticked c s ≡ answered (Accepted Tick) (time_passed s)
 unfolding ticked
 ticked_so c s a d l = pick_true _ _ _ a ∙ ap (tick_by_due s) d ∙ pick_true _ _ _ (lt-ltb s.clock top l)
 
-pub by_due : {X : Type 0} (c : Contract) (s : State) → ((k : ℕ) → due_in c s ≡ due.At k → X) → (due_in c s ≡ due.Nothing → X) → X
+pub by_due : {X : Type 0} (c : Contract) (s : State) → ((k : ℕ) → due_in c s ≡ Some k → X) → (due_in c s ≡ None → X) → X
 by_due {X} c s f g = go (due_in c s) refl
   where
-    go : (d : Due) → due_in c s ≡ d → X
-    go (due.At k) d = f k d
-    go due.Nothing d = g d
+    go : (d : Option ℕ) → due_in c s ≡ d → X
+    go (Some k) d = f k d
+    go None d = g d
 
 -- ---- all that are due
 
@@ -76,7 +77,7 @@ module _ (w : List ℕ) (p : passes w ≡ true) where
   answered_by s o a h = pick_true _ _ _ p ∙ pick_true _ _ _ o ∙ pick_true _ _ _ (le-leb (room_needed (contract_of w)) (length a.slice) h)
 
   module _ {s : State} (g : Good (contract_of w) s) (a : s.agreed ≡ true) where
-    none_fired : due_in (contract_of w) s ≡ due.Nothing → s.clock < top → (ls : List (List Label)) → length ls ≡ 0 → Cleared w s ls
+    none_fired : due_in (contract_of w) s ≡ None → s.clock < top → (ls : List (List Label)) → length ls ≡ 0 → Cleared w s ls
     unfolding history firings none_refused lapsed with_pending
     none_fired d l [] e =
         record {
@@ -90,7 +91,7 @@ module _ (w : List ℕ) (p : passes w ≡ true) where
         tick_is k h = answered_by s (good_ok g) (record { request = tick; slice = k }) h ∙ ticked_so (contract_of w) s a d l
     none_fired d l (k ∷ ls) e = absurd (omega arith)
 
-    one_fired : (k : ℕ) → due_in (contract_of w) s ≡ due.At k → (m : ℕ)
+    one_fired : (k : ℕ) → due_in (contract_of w) s ≡ Some k → (m : ℕ)
         → ((ls : List (List Label)) → length ls ≡ m → all_roomy w ls ≡ true → Cleared w (fired (contract_of w) s).state ls)
         → (ls : List (List Label)) → length ls ≡ suc m → all_roomy w ls ≡ true → Cleared w s ls
     unfolding history firings none_refused
@@ -105,7 +106,7 @@ module _ (w : List ℕ) (p : passes w ≡ true) where
           none-refused =
               subst (λ (r : Stepped). pick (is_refused r.outcome) false (none_refused (history w r.state (firings ls)).answers) ≡ true) (sym r)
               (pick_false _ _ _ (fired_so g a k d).not_refused ∙ x.none-refused);
-          nothing_due = subst (λ (u : State). due_in c (history w u (firings ls)).state ≡ due.Nothing) (sym q) x.nothing_due;
+          nothing_due = subst (λ (u : State). due_in c (history w u (firings ls)).state ≡ None) (sym q) x.nothing_due;
           tick_accepted = λ i n.
               subst (λ (u : State). (answer_to w (history w u (firings ls)).state (record { request = tick; slice = i })).outcome ≡ Accepted Tick) (sym q)
               (x.tick_accepted i n);

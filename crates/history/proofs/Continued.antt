@@ -17,8 +17,7 @@ use Rattle.contract.specs.Tree.{Contract}
 use Rattle.contract.specs.Decode.{contract_of}
 use Rattle.contract.specs.Check.{passes}
 use Rattle.state.specs.declared.State.{State}
-use Rattle.state.specs.declared.Due.{Due}
-use Rattle.state.specs.declared.Due.TheVariants as due
+use Rattle.std.specs.Prelude.{Option, Some, None}
 use Rattle.state.specs.States.{state_ok, due_in}
 use Rattle.results.specs.declared.Report.{Report}
 use Rattle.machine.specs.declared.Played.{Played}
@@ -48,9 +47,9 @@ module _ (bytes : List ℕ) (k : ℕ) where
   unfolding end_of_line
   end_after at = omega arith
 
-  due_shifted : (at : ℕ) (d : Due) → turn_by_due bytes (k + at) d ≡ moved_turn k (turn_by_due (drop k bytes) at d)
-  due_shifted at (due.At n) = refl
-  due_shifted at due.Nothing =
+  due_shifted : (at : ℕ) (d : Option ℕ) → turn_by_due bytes (k + at) d ≡ moved_turn k (turn_by_due (drop k bytes) at d)
+  due_shifted at (Some n) = refl
+  due_shifted at None =
       let e = end_of_line (drop k bytes) at in
       let n = length-drop k bytes in
       ap (λ (e : ℕ). pick (ltb e (length bytes)) (takes (said (between bytes (k + at) e)) (suc e)) wait) (end_shifted at)
@@ -227,7 +226,7 @@ module _ (c : Contract) where
 -- what `play` answers is the session, where questions 3, 4 and 20 let it pass
 pub played_session : (w : List ℕ) → passes w ≡ true → (s : State) → state_ok (contract_of w) s ≡ true → (bytes : List ℕ) (room : ℕ) → max_told ≤ room
     → let e = session (contract_of w) bytes room s in
-    played w s bytes room ≡ record { question = 0; state = e.state; used = e.at; many = length e.reports }
+    played w s bytes room ≡ record { question = None; state = e.state; used = e.at; many = length e.reports }
 unfolding played
 played_session w p s q bytes room h = pick_true _ _ _ p ∙ pick_true _ _ _ q ∙ pick_true _ _ _ (le-leb max_told room h)
 

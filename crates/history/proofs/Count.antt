@@ -41,6 +41,7 @@ use Rattle.history.proofs.Parameters.{Parameters, ran_same}
 use Rattle.history.proofs.ContractBounds.{Bounded, BoundedFunction, BoundedEvent, bounded}
 use Rattle.history.proofs.Cases.{body_ran, event_at, handler_ran, CallOk, ComesOut, refusal, agrees, calls, fires, fails, ticks, jumps, Answers, first_refusal, by_rule_lem, answered_so}
 use Rattle.history.proofs.Untouched.{step_idle}
+use Rattle.questions.specs.declared.Question.{Question}
 
 -- ---- the work that statements begin with, and the amounts that they leave
 
@@ -161,7 +162,7 @@ pub record Counted (q : Request) (s : State) (r : Stepped) : Type 0 where
   pub weighs : Weighs alike evenly s (amounts (deposit q r.outcome)) r
   pub deposits : every (le_z (pos 0)) (deposit q r.outcome) ≡ true
 
-refused_brings : (q : Request) (n : ℕ) → deposit q (Refused n) ≡ []
+refused_brings : (q : Request) (n : Question) → deposit q (Refused n) ≡ []
 refused_brings (agreement ps) n = refl
 refused_brings (call i) n = refl
 refused_brings firing n = refl
@@ -184,7 +185,7 @@ module _ {s : State} (l : length s.assets ≡ max_assets) where
   came_counted c b (calls i n f ps o) = record { weighs = call_weighs alike evenly l b i n f ps o (respects_alike f.body); deposits = o.deposits }
   came_counted c b (fires k a d h) =
       record { weighs = firing_weighs alike evenly l b k (live (removed s k)) (event_at c s k).last (respects_alike (event_at c s k).handler); deposits = refl }
-  came_counted c b (fails k a d h) = quiet_counted firing _ _ refl refl
+  came_counted c b (fails k n a d h) = quiet_counted firing _ _ refl refl
   came_counted c b (ticks a d h) = quiet_counted tick _ _ refl refl
   came_counted c b (jumps T a d h) = quiet_counted (jump T) _ _ (passed_assets (times_until_due c (nat_abs T - s.clock) s) s) refl
 

@@ -19,7 +19,7 @@ use Rattle.contract.specs.Check.{passes}
 use Rattle.contract.proofs.Fitting.{FitsContract, fits_contract}
 use Rattle.contract_laws.proofs.Sound.{sound}
 use Rattle.state.specs.declared.State.{State}
-use Rattle.state.specs.declared.Due.TheVariants as due
+use Rattle.std.specs.Prelude.{Some, None}
 use Rattle.state.specs.States.{state_ok, due_in, with_pending, lapsed, time_passed, passed_times, times_until_due, FirstStop}
 use Rattle.state.proofs.Passing.{passed_clock, passed_agreed, passed_fewer, passed_ok, first_stop}
 use Rattle.statements.specs.declared.Label.{Label}
@@ -39,7 +39,7 @@ use Rattle.history.proofs.Clock.{Fired, fired_so, ticked_so, by_due, answered_by
 abbrev passes_by : Contract → State → ℤ → ℕ
 passes_by c s T = times_until_due c (nat_abs T - s.clock) s
 
-jumped_so : (c : Contract) (s : State) (T : ℤ) → s.agreed ≡ true → due_in c s ≡ due.Nothing → le_z (pos s.clock) T ≡ true
+jumped_so : (c : Contract) (s : State) (T : ℤ) → s.agreed ≡ true → due_in c s ≡ None → le_z (pos s.clock) T ≡ true
     → jumped c s T ≡ answered (Accepted Tick) (passed_times (passes_by c s T) s)
 unfolding jumped
 jumped_so c s T a d l = pick_true _ _ _ a ∙ ap (jump_by_due c s T) d ∙ pick_true _ _ _ l
@@ -48,7 +48,7 @@ jumped_so c s T a d l = pick_true _ _ _ a ∙ ap (jump_by_due c s T) d ∙ pick_
 record Ended (c : Contract) (s : State) (T : ℤ) : Type 0 where
   most : s.clock + passes_by c s T ≤ top
   not_passed : le_z (pos (passed_times (passes_by c s T) s).clock) T ≡ true
-  there : due_in c (passed_times (passes_by c s T) s) ≡ due.Nothing → pos (passed_times (passes_by c s T) s).clock ≡ T
+  there : due_in c (passed_times (passes_by c s T) s) ≡ None → pos (passed_times (passes_by c s T) s).clock ≡ T
 
 jump_ended : (c : Contract) (s : State) (T : ℤ) → within T ≡ true → le_z (pos s.clock) T ≡ true → Ended c s T
 jump_ended c s T e l =
@@ -67,7 +67,7 @@ jump_ended c s T e l =
 -- ---- a jump is so many ticks
 
 module _ (w : List ℕ) (p : passes w ≡ true) where
-  tick_answer : (s : State) → state_ok (contract_of w) s ≡ true → s.agreed ≡ true → due_in (contract_of w) s ≡ due.Nothing → s.clock < top
+  tick_answer : (s : State) → state_ok (contract_of w) s ≡ true → s.agreed ≡ true → due_in (contract_of w) s ≡ None → s.clock < top
       → (l : List Label) → roomy w l ≡ true → answer_to w s (record { request = tick; slice = l }) ≡ answered (Accepted Tick) (time_passed s)
   tick_answer s o a d h l r =
       answered_by w p s o (record { request = tick; slice = l }) (leb-true (room_needed (contract_of w)) (length l) r) ∙ ticked_so (contract_of w) s a d h
@@ -78,7 +78,7 @@ module _ (w : List ℕ) (p : passes w ≡ true) where
     state_is : (history w s (ticks ls)).state ≡ passed_times (length ls) s
 
   ticks_pass : (ls : List (List Label)) (s : State) → state_ok (contract_of w) s ≡ true → s.agreed ≡ true → s.clock + length ls ≤ top
-      → ((k : ℕ) → k < length ls → due_in (contract_of w) (passed_times k s) ≡ due.Nothing) → all_roomy w ls ≡ true → Passed s ls
+      → ((k : ℕ) → k < length ls → due_in (contract_of w) (passed_times k s) ≡ None) → all_roomy w ls ≡ true → Passed s ls
   unfolding history ticks passed_times lapsed with_pending
   ticks_pass [] s o a h f r = record { accepted = none; state_is = refl }
   ticks_pass (l ∷ ls) s o a h f r =
@@ -128,7 +128,7 @@ module _ (w : List ℕ) (p : passes w ≡ true) (T : ℤ) (e : within T ≡ true
   longer : {s : State} {n m : ℕ} → ReachesBy s n → n ≤ m → ReachesBy s m
   longer x h = record { count = x.count; count_few = omega (arith, x.count_few); there = x.there }
 
-  arrived : {s : State} → due_in c s ≡ due.Nothing → pos s.clock ≡ T → ReachesBy s 0
+  arrived : {s : State} → due_in c s ≡ None → pos s.clock ≡ T → ReachesBy s 0
   unfolding history steps_towards none_refused
   arrived {s} d q = record { count = 0; count_few = omega arith; there = so }
     where
@@ -155,14 +155,14 @@ module _ (w : List ℕ) (p : passes w ≡ true) (T : ℤ) (e : within T ≡ true
                 subst (λ (z : Stepped). pick (is_refused z.outcome) false (none_refused (history w z.state (steps_towards w T z.state ls)).answers) ≡ true) (sym k)
                 (pick_false _ _ _ f ∙ y.none-refused);
             clock_is = subst (λ (z : State). pos (history w z (steps_towards w T z ls)).state.clock ≡ T) (sym u) y.clock_is;
-            nothing_due = subst (λ (z : State). due_in c (history w z (steps_towards w T z ls)).state ≡ due.Nothing) (sym u) y.nothing_due;
+            nothing_due = subst (λ (z : State). due_in c (history w z (steps_towards w T z ls)).state ≡ None) (sym u) y.nothing_due;
           }
 
   -- from states with fewer pending events T is reached
   abbrev Fewer : State → Type 0
   Fewer s = (u : State) → u.pending < s.pending → Good c u → u.agreed ≡ true → le_z (pos u.clock) T ≡ true → ReachesBy u (2 * u.pending + 1)
 
-  by_firing : {s : State} → Good c s → s.agreed ≡ true → le_z (pos s.clock) T ≡ true → Fewer s → (k : ℕ) → due_in c s ≡ due.At k → ReachesBy s (2 * s.pending)
+  by_firing : {s : State} → Good c s → s.agreed ≡ true → le_z (pos s.clock) T ≡ true → Fewer s → (k : ℕ) → due_in c s ≡ Some k → ReachesBy s (2 * s.pending)
   unfolding within64
   by_firing {s} g a l f k d =
       let o : Fired s (fired c s) = fired_so g a k d in
@@ -171,7 +171,7 @@ module _ (w : List ℕ) (p : passes w ≡ true) (T : ℤ) (e : within T ≡ true
       (f (fired c s).state (omega (arith, v)) (request_good c fit g firing refl) o.agreed (ap (λ (t : ℕ). le_z (pos t) T) o.clock ∙ l)))
       (omega (arith, v))
 
-  by_jumping : {s : State} → Good c s → s.agreed ≡ true → le_z (pos s.clock) T ≡ true → Fewer s → due_in c s ≡ due.Nothing → ReachesBy s (2 * s.pending + 1)
+  by_jumping : {s : State} → Good c s → s.agreed ≡ true → le_z (pos s.clock) T ≡ true → Fewer s → due_in c s ≡ None → ReachesBy s (2 * s.pending + 1)
   unfolding within64
   by_jumping {s} g a l f d =
       let n = passes_by c s T in

@@ -1,6 +1,6 @@
 -- Statements in scope send labels that question 53 lets pass, with payouts up to top, and are refused by questions 30 to 36 alone. Assumes
 -- nothing.
-use mathlib.Core.Path.{◌≡◌, refl, sym, ap, ◌∙◌}
+use mathlib.Core.Path.{◌≡◌, refl, sym, ap, subst, ◌∙◌}
 use mathlib.Core.Bool.{Bool, true, false, ◌&&◌}
 use mathlib.Core.List.{List, [], ◌∷◌}
 use Prim.Native.Nat.{ℕ, ◌<◌, ◌≤◌}
@@ -13,13 +13,9 @@ use lib.Signed.{le_z}
 use borrow.Author.Tests.{ltb-true, lt-ltb, le-ltb, leb-true, le-leb, ltb-false}
 use Rattle.laws.specs.Choice.{pick}
 use Rattle.laws.proofs.Choice.{by_cases, pick_true, pick_false, true_false}
-use Rattle.numbers.specs.Numbers.{within}
+use Rattle.numbers.specs.Numbers.{within, Answer, Truth}
 use Rattle.numbers.specs.declared.Value.{Value}
 use Rattle.numbers.specs.declared.Value.TheVariants.{Integer, Text}
-use Rattle.numbers.specs.declared.Answer.{Answer}
-use Rattle.numbers.specs.declared.Answer.TheVariants as answer
-use Rattle.numbers.specs.declared.Truth.{Truth}
-use Rattle.numbers.specs.declared.Truth.TheVariants as truth
 use Rattle.contract.specs.Limits.{top, max_assets, max_fields, max_parameters}
 use Rattle.contract.specs.Tree.{Holder, asset, asset_parameter, held, Action, assign, send, move, pay, move_all, pay_all, Block, none, perform, conditional, broken_block, Contract}
 use Rattle.contract.specs.Check.{ranges}
@@ -35,7 +31,11 @@ use Rattle.results.specs.Lines.{value_ok, report_ok}
 use Rattle.step_reports.specs.Reports.{label_report}
 use Rattle.history.proofs.ValuesInRange.{ValueIn, AnswerIn, value_in}
 use Rattle.history.proofs.Ranges.{Right, memory_in_lem, ran_right}
+use Rattle.machine.proofs.Gates.{same_question}
 use Rattle.history.proofs.RefusalNumbers.{Stops, AnswerStops, TruthStops, value_stops, truth_stops}
+use Rattle.std.specs.Prelude.{Ok, Err, Some}
+use Rattle.questions.specs.declared.Question.TheVariants as ask
+use Rattle.questions.specs.declared.Question.{Question}
 
 -- a payout is an amount of 0 to top, as question 61 asks
 unfoldable pub payout_ok : ℕ → ℤ → Bool
@@ -48,7 +48,7 @@ label_ok k l = report_ok k (label_report l) && payout_ok l.kind l.value
 pub record Fair (k : Contract) (w : Work) : Type 0 where
   pub labels_length : length w.labels ≡ max_labels
   pub labels : every (label_ok k) (take w.count w.labels) ≡ true
-  pub stop : eqb w.refusal 0 ≡ false → Stops w.refusal
+  pub stop : (q : Question) → w.refusal ≡ Some q → Stops q
 
 -- ---- labels
 
@@ -85,8 +85,8 @@ module _ (k : Contract) where
 -- ---- one change
 
 module _ {k : Contract} {w : Work} (o : Fair k w) where
-  stopped_fair : (n : ℕ) → Stops n → Fair k (stopped w n)
-  stopped_fair n h = record { labels_length = o.labels_length; labels = o.labels; stop = λ _. h }
+  stopped_fair : (q : Question) → Stops q → Fair k (stopped w q)
+  stopped_fair q h = record { labels_length = o.labels_length; labels = o.labels; stop = λ p e. subst Stops (same_question q p e) h }
 
   stored_fair : (x : ℕ) (v : Value) → Fair k (stored w x v)
   stored_fair x (Integer z) = record { labels_length = o.labels_length; labels = o.labels; stop = o.stop }
@@ -117,26 +117,26 @@ module _ {k : Contract} {w : Work} (o : Fair k w) where
   moved_fair : (i j n : ℕ) → j < max_holdings → Fair k (moved w i j n)
   unfolding moved ranges
   moved_fair i j n h =
-      by_cases (Fair k) _ _ _ (λ _. stopped_fair 35 refl) λ _.
+      by_cases (Fair k) _ _ _ (λ _. stopped_fair ask.AmountHeld refl) λ _.
       by_cases (Fair k) _ _ _ (λ e. absurd (omega (arith, leb-true max_holdings j e))) λ _.
       by_cases (Fair k) _ _ _ (λ _. o) λ _.
-      by_cases (Fair k) _ _ _ (λ _. stopped_fair 36 refl) λ _. holdings_fair _
+      by_cases (Fair k) _ _ _ (λ _. stopped_fair ask.SumFits refl) λ _. holdings_fair _
 
   value_fair : (strings : ℕ) (x : Answer) (f : Value → Work) → AnswerStops x → AnswerIn strings x → ((v : Value) → ValueIn strings v → Fair k (f v)) → Fair k (with_value w x f)
-  value_fair strings (answer.Refused n) f s i g = stopped_fair n s
-  value_fair strings (answer.Is v) f s i g = g v i
+  value_fair strings (Err n) f s i g = stopped_fair n s
+  value_fair strings (Ok v) f s i g = g v i
 
   amount_fair : (x : Answer) (f : ℕ → Work) → AnswerStops x → ((n : ℕ) → Fair k (f n)) → Fair k (with_amount w x f)
   unfolding ranges
-  amount_fair (answer.Refused n) f s g = stopped_fair n s
-  amount_fair (answer.Is (Text t)) f s g = stopped_fair 31 refl
-  amount_fair (answer.Is (Integer (pos n))) f s g = g n
-  amount_fair (answer.Is (Integer (negsuc n))) f s g = stopped_fair 34 refl
+  amount_fair (Err n) f s g = stopped_fair n s
+  amount_fair (Ok (Text t)) f s g = stopped_fair ask.OperandKind refl
+  amount_fair (Ok (Integer (pos n))) f s g = g n
+  amount_fair (Ok (Integer (negsuc n))) f s g = stopped_fair ask.AmountSign refl
 
 paid_fair : {k : Contract} {w : Work} → Fair k w → (i a n : ℕ) → a < length k.parties → amount_at w i ≤ top → Fair k (paid w i a n)
 unfolding paid ranges
 paid_fair {k} {w} o i a n h m =
-    by_cases (Fair k) _ _ _ (λ _. stopped_fair o 35 refl) λ e.
+    by_cases (Fair k) _ _ _ (λ _. stopped_fair o ask.AmountHeld refl) λ e.
     labelled_fair (holdings_fair o _) asset_label a (pos n)
     (label_ok_lem k asset_label a (pos n) refl h (amount_ok k n) (amount_fits n (omega (arith, ltb-false (amount_at w i) n e))))
 
@@ -145,9 +145,9 @@ unfolding onward
 onward_fair {k} f o g = by_cases (Fair k) _ _ _ (λ _. g) (λ _. o)
 
 truth_fair : {k : Contract} {w x : Work} (t : Truth) → TruthStops t → Fair k w → Fair k x → Fair k (by_truth w t x)
-truth_fair (truth.Refused q) s o g = stopped_fair o q s
-truth_fair (truth.Holds true) s o g = g
-truth_fair (truth.Holds false) s o g = o
+truth_fair (Err q) s o g = stopped_fair o q s
+truth_fair (Ok true) s o g = g
+truth_fair (Ok false) s o g = o
 
 -- ---- statements
 

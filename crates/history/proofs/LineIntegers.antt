@@ -19,12 +19,12 @@ use Rattle.results.specs.Lines.{refusal}
 use Rattle.tokens.specs.Tokens.{between}
 use Rattle.contract.specs.Tree.{Contract}
 use Rattle.state.specs.declared.State.{State}
-use Rattle.state.specs.declared.Due.{Due}
-use Rattle.state.specs.declared.Due.TheVariants as due
+use Rattle.std.specs.Prelude.{Option, Some, None}
 use Rattle.state.specs.States.{due_in}
 use Rattle.agreements.specs.Agreement as machine
 use Rattle.machine.specs.Sessions.{parts_said, Said, asks, unread, said_by, end_of_line, Turn, takes, wait, turn_by_due, turn_at}
 use Rattle.history.specs.Histories.{within64}
+use Rattle.questions.specs.Numbers.{number_of}
 
 -- what a parser reads, if it does, has this
 abbrev Reads : {A : Type 0} → (A → Type 0) → Parsed A → Type 0
@@ -52,7 +52,7 @@ abbrev part_in : Part → Bool
 part_in p = every within (values_of p.fields)
 
 abbrev LineIn : Asked → Type 0
-LineIn (refused q) = refusal q ≡ true
+LineIn (refused q) = refusal (number_of q) ≡ true
 LineIn tick = Unit {0}
 LineIn (jump T) = within T ≡ true
 LineIn (call k) = ListsIn k.lists
@@ -174,7 +174,7 @@ asked_in line =
 -- a request with 64-bit arguments, or a refusal
 abbrev pub SaidIn : Said → Type 0
 SaidIn (asks q) = within64 q ≡ true
-SaidIn (unread n) = refusal n ≡ true
+SaidIn (unread q) = refusal (number_of q) ≡ true
 
 said_by_in : (line : List ℕ) (a : Asked) → LineIn a → SaidIn (said_by line a)
 unfolding within64
@@ -189,10 +189,10 @@ abbrev pub TurnIn : Turn → Type 0
 TurnIn wait = Unit {0}
 TurnIn (takes x at) = SaidIn x
 
-pub due_in_lem : (bytes : List ℕ) (at : ℕ) (d : Due) → TurnIn (turn_by_due bytes at d)
+pub due_in_lem : (bytes : List ℕ) (at : ℕ) (d : Option ℕ) → TurnIn (turn_by_due bytes at d)
 unfolding within64
-due_in_lem bytes at (due.At k) = refl
-due_in_lem bytes at due.Nothing =
+due_in_lem bytes at (Some k) = refl
+due_in_lem bytes at None =
     let line = between bytes at (end_of_line bytes at) in
     by_cases TurnIn _ _ _ (λ _. said_by_in line (asked line) (asked_in line)) (λ _. tt)
 

@@ -11,10 +11,6 @@ use borrow.Author.Tests.{ltb-true}
 use Rattle.laws.proofs.Choice.{by_cases}
 use Rattle.numbers.specs.declared.Value.{Value}
 use Rattle.numbers.specs.declared.Value.TheVariants.{Integer, Text}
-use Rattle.numbers.specs.declared.Answer.{Answer}
-use Rattle.numbers.specs.declared.Answer.TheVariants as answer
-use Rattle.numbers.specs.declared.Truth.{Truth}
-use Rattle.numbers.specs.declared.Truth.TheVariants as truth
 use Rattle.contract.specs.Limits.{max_assets}
 use Rattle.contract.specs.Tree.{Holder, asset, asset_parameter, held, Action, assign, send, move, pay, move_all, pay_all, Block, none, perform, conditional, broken_block}
 use Rattle.contract.specs.Fits.{Scope, holder_in, expression_in, condition_in, action_in, block_in}
@@ -22,12 +18,16 @@ use Rattle.laws.proofs.Truths.{both_left, both_right}
 use Rattle.evaluation.specs.Meaning.{value_of, truth_of}
 use Rattle.statements.specs.declared.Work.{Work}
 use Rattle.statements.specs.Running.{integer_label, string_label, asset_label, memory_in, stopped, onward, stored, labelled, sent, receiver, place, amount_at, moved, paid, with_value, with_amount, performed, by_truth, ran}
+use Rattle.numbers.specs.Numbers.{Answer, Truth}
+use Rattle.std.specs.Prelude.{Ok, Err}
+use Rattle.questions.specs.declared.Question.TheVariants as ask
+use Rattle.questions.specs.declared.Question.{Question}
 
 -- work with these amounts of the asset parameters
 pub record Parameters (hs : List ℕ) (w : Work) : Type 0 where
   pub amounts : drop max_assets w.holdings ≡ hs
 
-stopped_same : {hs : List ℕ} {w : Work} (n : ℕ) → Parameters hs w → Parameters hs (stopped w n)
+stopped_same : {hs : List ℕ} {w : Work} (n : Question) → Parameters hs w → Parameters hs (stopped w n)
 stopped_same n o = record { amounts = o.amounts }
 
 stored_same : {hs : List ℕ} {w : Work} (x : ℕ) (v : Value) → Parameters hs w → Parameters hs (stored w x v)
@@ -46,37 +46,37 @@ module _ {hs : List ℕ} {w : Work} (o : Parameters hs w) where
   moved_same : (i j n : ℕ) → i < max_assets → j < max_assets → Parameters hs (moved w i j n)
   unfolding moved
   moved_same i j n h k =
-      by_cases (Parameters hs) _ _ _ (λ _. stopped_same 35 o) λ _.
-      by_cases (Parameters hs) _ _ _ (λ _. stopped_same 3 o) λ _.
+      by_cases (Parameters hs) _ _ _ (λ _. stopped_same ask.AmountHeld o) λ _.
+      by_cases (Parameters hs) _ _ _ (λ _. stopped_same ask.TableCheck o) λ _.
       by_cases (Parameters hs) _ _ _ (λ _. o) λ _.
-      by_cases (Parameters hs) _ _ _ (λ _. stopped_same 36 o) λ _.
+      by_cases (Parameters hs) _ _ _ (λ _. stopped_same ask.SumFits o) λ _.
       let a = amount_at w i - n in
       record { amounts = drop-set-lt max_assets (set w.holdings i a) j (amount_at w j + n) k ∙ drop-set-lt max_assets w.holdings i a h ∙ o.amounts }
 
   paid_same : (i a n : ℕ) → i < max_assets → Parameters hs (paid w i a n)
   unfolding paid
   paid_same i a n h =
-      by_cases (Parameters hs) _ _ _ (λ _. stopped_same 35 o) λ _.
+      by_cases (Parameters hs) _ _ _ (λ _. stopped_same ask.AmountHeld o) λ _.
       labelled_same asset_label a (pos n) (record { amounts = drop-set-lt max_assets w.holdings i (amount_at w i - n) h ∙ o.amounts })
 
   amount_same : (x : Answer) (f : ℕ → Work) → ((n : ℕ) → Parameters hs (f n)) → Parameters hs (with_amount w x f)
-  amount_same (answer.Refused n) f g = stopped_same n o
-  amount_same (answer.Is (Text t)) f g = stopped_same 31 o
-  amount_same (answer.Is (Integer (pos n))) f g = g n
-  amount_same (answer.Is (Integer (negsuc n))) f g = stopped_same 34 o
+  amount_same (Err n) f g = stopped_same n o
+  amount_same (Ok (Text t)) f g = stopped_same ask.OperandKind o
+  amount_same (Ok (Integer (pos n))) f g = g n
+  amount_same (Ok (Integer (negsuc n))) f g = stopped_same ask.AmountSign o
 
   value_same : (x : Answer) (f : Value → Work) → ((v : Value) → Parameters hs (f v)) → Parameters hs (with_value w x f)
-  value_same (answer.Refused n) f g = stopped_same n o
-  value_same (answer.Is v) f g = g v
+  value_same (Err n) f g = stopped_same n o
+  value_same (Ok v) f g = g v
 
 onward_same : {hs : List ℕ} {w : Work} (f : Work → Work) → Parameters hs w → (Parameters hs w → Parameters hs (f w)) → Parameters hs (onward w f)
 unfolding onward
 onward_same {hs} f o g = by_cases (Parameters hs) _ _ _ (λ _. g o) (λ _. o)
 
 truth_same : {hs : List ℕ} {w x : Work} (t : Truth) → Parameters hs w → Parameters hs x → Parameters hs (by_truth w t x)
-truth_same (truth.Refused q) o g = stopped_same q o
-truth_same (truth.Holds true) o g = g
-truth_same (truth.Holds false) o g = o
+truth_same (Err q) o g = stopped_same q o
+truth_same (Ok true) o g = g
+truth_same (Ok false) o g = o
 
 module _ (c : Scope) (few : c.assets ≤ max_assets) (nothing : c.parameters ≡ 0) where
   place_in : (h : Holder) → holder_in c h ≡ true → place h < max_assets
@@ -111,4 +111,4 @@ module _ (c : Scope) (few : c.assets ≤ max_assets) (nothing : c.parameters ≡
       onward_same _ (ran_same v t b (both_left (block_in c b) (condition_in c u && block_in c s) i) o)
       (λ g. truth_same (truth_of (memory_in v t (ran v t w b)) u) g
       (ran_same {w = ran v t w b} v t s (both_right (condition_in c u) (block_in c s) (both_right (block_in c b) (condition_in c u && block_in c s) i)) g))
-  ran_same v t broken_block i o = stopped_same 3 o
+  ran_same v t broken_block i o = stopped_same ask.TableCheck o

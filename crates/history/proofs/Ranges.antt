@@ -11,13 +11,9 @@ use lib.IntN.{ℤ, pos, negsuc}
 use borrow.Author.Tests.{ltb-true, lt-ltb, ltb-false}
 use Rattle.laws.specs.Choice.{pick}
 use Rattle.laws.proofs.Choice.{by_cases}
-use Rattle.numbers.specs.Numbers.{within}
+use Rattle.numbers.specs.Numbers.{within, Answer, Truth}
 use Rattle.numbers.specs.declared.Value.{Value}
 use Rattle.numbers.specs.declared.Value.TheVariants.{Integer, Text}
-use Rattle.numbers.specs.declared.Answer.{Answer}
-use Rattle.numbers.specs.declared.Answer.TheVariants as answer
-use Rattle.numbers.specs.declared.Truth.{Truth}
-use Rattle.numbers.specs.declared.Truth.TheVariants as truth
 use Rattle.contract.specs.Limits.{top, max_assets, max_fields}
 use Rattle.contract.specs.Tree.{Holder, asset, asset_parameter, held, Action, assign, send, move, pay, move_all, pay_all, Block, none, perform, conditional, broken_block}
 use Rattle.contract.specs.Fits.{Scope, holder_in, expression_in, condition_in, action_in, block_in}
@@ -27,6 +23,9 @@ use Rattle.state.specs.States.{field_ok}
 use Rattle.statements.specs.declared.Work.{Work}
 use Rattle.statements.specs.Running.{max_holdings, integer_label, string_label, asset_label, memory_in, stopped, onward, stored, with_holdings, labelled, sent, receiver, place, amount_at, moved, paid, with_value, with_amount, performed, by_truth, ran}
 use Rattle.history.proofs.ValuesInRange.{ValueIn, AnswerIn, Fields, fields_set, MemoryIn, value_in}
+use Rattle.std.specs.Prelude.{Ok, Err}
+use Rattle.questions.specs.declared.Question.TheVariants as ask
+use Rattle.questions.specs.declared.Question.{Question}
 
 -- the amounts of the assets, of which a contract has so many, and of the parameters
 pub record Amounts (assets : ℕ) (hs : List ℕ) : Type 0 where
@@ -61,7 +60,7 @@ amounts_set {assets} {hs} i n u h o =
     }
 
 module _ {c : Scope} {w : Work} (o : Right c w) where
-  stopped_right : (n : ℕ) → Right c (stopped w n)
+  stopped_right : (n : Question) → Right c (stopped w n)
   stopped_right n = record { fields = o.fields; amounts = o.amounts }
 
   labelled_right : (kind party : ℕ) (value : ℤ) → Right c (labelled w kind party value)
@@ -87,26 +86,26 @@ module _ {c : Scope} {w : Work} (o : Right c w) where
     moved_right : (j : ℕ) → Held c.assets j → (n : ℕ) → Right c (moved w i j n)
     unfolding moved
     moved_right j to n =
-        by_cases (Right c) _ _ _ (λ _. stopped_right 35) λ _.
-        by_cases (Right c) _ _ _ (λ _. stopped_right 3) λ _.
+        by_cases (Right c) _ _ _ (λ _. stopped_right ask.AmountHeld) λ _.
+        by_cases (Right c) _ _ _ (λ _. stopped_right ask.TableCheck) λ _.
         by_cases (Right c) _ _ _ (λ _. o) λ _.
-        by_cases (Right c) _ _ _ (λ _. stopped_right 36) λ h.
+        by_cases (Right c) _ _ _ (λ _. stopped_right ask.SumFits) λ h.
         holdings_right _ (amounts_set j (amount_at w j + n) to (ltb-false top (amount_at w j + n) h) (less n))
 
   value_right : (x : Answer) (f : Value → Work) → AnswerIn c.strings x → ((v : Value) → ValueIn c.strings v → Right c (f v)) → Right c (with_value w x f)
-  value_right (answer.Refused n) f i g = stopped_right n
-  value_right (answer.Is v) f i g = g v i
+  value_right (Err n) f i g = stopped_right n
+  value_right (Ok v) f i g = g v i
 
   amount_right : (x : Answer) (f : ℕ → Work) → ((n : ℕ) → Right c (f n)) → Right c (with_amount w x f)
-  amount_right (answer.Refused n) f g = stopped_right n
-  amount_right (answer.Is (Text t)) f g = stopped_right 31
-  amount_right (answer.Is (Integer (pos n))) f g = g n
-  amount_right (answer.Is (Integer (negsuc n))) f g = stopped_right 34
+  amount_right (Err n) f g = stopped_right n
+  amount_right (Ok (Text t)) f g = stopped_right ask.OperandKind
+  amount_right (Ok (Integer (pos n))) f g = g n
+  amount_right (Ok (Integer (negsuc n))) f g = stopped_right ask.AmountSign
 
 paid_right : {c : Scope} {w : Work} (o : Right c w) (i : ℕ) → Held c.assets i → (a n : ℕ) → Right c (paid w i a n)
 unfolding paid
 paid_right {c} o i from a n =
-    by_cases (Right c) _ _ _ (λ _. stopped_right o 35) λ _.
+    by_cases (Right c) _ _ _ (λ _. stopped_right o ask.AmountHeld) λ _.
     labelled_right (holdings_right o _ (less o i from n)) asset_label a (pos n)
 
 onward_right : {c : Scope} {w : Work} (f : Work → Work) → Right c w → (Right c w → Right c (f w)) → Right c (onward w f)
@@ -114,9 +113,9 @@ unfolding onward
 onward_right {c} f o g = by_cases (Right c) _ _ _ (λ _. g o) (λ _. o)
 
 truth_right : {c : Scope} {w x : Work} (t : Truth) → Right c w → Right c x → Right c (by_truth w t x)
-truth_right (truth.Refused q) o g = stopped_right o q
-truth_right (truth.Holds true) o g = g
-truth_right (truth.Holds false) o g = o
+truth_right (Err q) o g = stopped_right o q
+truth_right (Ok true) o g = g
+truth_right (Ok false) o g = o
 
 -- ---- statements
 
@@ -160,4 +159,4 @@ module _ (c : Scope) (few : c.fields ≤ max_fields) (v : List ℤ) (values : (i
       onward_right _ (ran_right b (both_left (block_in c b) (condition_in c u && block_in c s) i) o)
       (λ g. truth_right (truth_of (memory_in v t (ran v t w b)) u) g
       (ran_right {w = ran v t w b} s (both_right (condition_in c u) (block_in c s) (both_right (block_in c b) (condition_in c u && block_in c s) i)) g))
-  ran_right broken_block i o = stopped_right o 3
+  ran_right broken_block i o = stopped_right o ask.TableCheck

@@ -2,18 +2,18 @@
 use mathlib.Core.Path.{◌≡◌, refl}
 use mathlib.Core.Bool.{true}
 use mathlib.Core.Logic.{inr}
-use Prim.Native.Nat.{ℕ}
-use Rattle.numbers.specs.declared.Answer.{Answer}
-use Rattle.numbers.specs.declared.Truth.{Truth}
+use Rattle.questions.specs.Numbers.{number_of}
 use Rattle.contract.specs.Tree.{Expression, Condition}
 use Rattle.contract.specs.Check.{ranges}
 use Rattle.contract.specs.Fits.{Scope, expression_in, condition_in}
 use Rattle.evaluation.specs.Memory.{Memory}
 use Rattle.evaluation.specs.Meaning.{value_of, truth_of}
 use Rattle.evaluation.proofs.Refusals.{AnswerRefuses, TruthRefuses, value_refuses, truth_refuses}
+use Rattle.numbers.specs.Numbers.{Answer, Truth}
+use Rattle.questions.specs.declared.Question.{Question}
 
-abbrev pub Stops : ℕ → Type 0
-Stops n = ranges 30 n 36 ≡ true
+abbrev pub Stops : Question → Type 0
+Stops q = ranges 30 (number_of q) 36 ≡ true
 
 abbrev pub AnswerStops : Answer → Type 0
 AnswerStops = AnswerRefuses Stops

@@ -1,22 +1,18 @@
 -- The result lines of a step from a good state, with 64-bit arguments, pass question 53. Assumes nothing.
-use mathlib.Core.Path.{◌≡◌, refl, ◌∙◌}
+use mathlib.Core.Path.{◌≡◌, refl, sym, ◌∙◌}
 use mathlib.Core.Bool.{true, false, ◌&&◌}
 use mathlib.Core.List.{List, [], ◌∷◌}
 use Prim.Native.Nat.{ℕ, suc, ◌-◌, ◌≤◌}
 use native.Mathlib.Omega.{arith}
-use lib.ListN.{length, get_or, take}
+use lib.ListN.{length, get_or, take, drop}
 use lib.Dec.{eqb, leb, ltb}
 use lib.IntN.{ℤ, pos, nat_abs}
 use lib.Signed.{le_z}
 use borrow.Author.Tests.{lt-ltb, le-leb, leb-true}
-use Rattle.laws.proofs.Choice.{by_cases, true_false}
-use Rattle.numbers.specs.Numbers.{within}
+use Rattle.laws.proofs.Choice.{by_cases}
+use Rattle.numbers.specs.Numbers.{within, Answer, Truth}
 use Rattle.numbers.specs.declared.Value.TheVariants.{Integer, Text}
-use Rattle.numbers.specs.declared.Answer.{Answer}
-use Rattle.numbers.specs.declared.Answer.TheVariants as answer
-use Rattle.numbers.specs.declared.Truth.{Truth}
-use Rattle.numbers.specs.declared.Truth.TheVariants as truth
-use Rattle.contract.specs.Limits.{top, max_parameters}
+use Rattle.contract.specs.Limits.{top, max_assets, max_parameters}
 use Rattle.contract.specs.Tree.{Precondition, omitted, given, Event, Function, Contract}
 use Rattle.contract.specs.Decode.{contract_of}
 use Rattle.contract.specs.Check.{passes, ranges}
@@ -29,8 +25,7 @@ use Rattle.contract_laws.proofs.Sound.{sound}
 use Rattle.evaluation.specs.Memory.{Memory}
 use Rattle.evaluation.specs.Meaning.{value_of}
 use Rattle.state.specs.declared.State.{State}
-use Rattle.state.specs.declared.Due.{Due}
-use Rattle.state.specs.declared.Due.TheVariants as due
+use Rattle.std.specs.Prelude.{Option, Some, None, Ok, Err}
 use Rattle.state.specs.States.{blank, event_of, live, due_in, with_pending, lapsed, times_until_due}
 use Rattle.state.proofs.Passing.{passed_agreed}
 use Rattle.statements.specs.declared.Label.{Label}
@@ -54,6 +49,11 @@ use Rattle.history.proofs.GoodWork.{values_in, amounts_most, begun_right}
 use Rattle.history.proofs.StepsKeepGood.{request_good}
 use Rattle.history.proofs.RefusalNumbers.{Stops, AnswerStops, TruthStops, value_stops, truth_stops}
 use Rattle.history.proofs.LabelsOk.{payout_ok, label_ok, Fair, Inside, ran_fair}
+use Rattle.questions.specs.declared.Question.TheVariants as ask
+use Rattle.questions.specs.declared.Question.{Question}
+use Rattle.questions.specs.Numbers.{number_of}
+use Rattle.machine.proofs.Gates.{none_some}
+use Rattle.machine.proofs.Refusals.{by_refusal}
 
 -- what a step tells passes question 53, and its payouts are up to top
 pub record Fine (c : Contract) (r : Stepped) : Type 0 where
@@ -76,9 +76,10 @@ fine_told {c} {r} o =
 
 -- ---- numbers of questions
 
-stops_refusal : (n : ℕ) → Stops n → refusal n ≡ true
+stops_refusal : (q : Question) → Stops q → refusal (number_of q) ≡ true
 unfolding refusal ranges
-stops_refusal n e =
+stops_refusal q e =
+    let n = number_of q in
     let l : 30 ≤ n = leb-true 30 n (both_left (leb 30 n) (leb n 36) e) in
     let m : n ≤ 36 = leb-true n 36 (both_right (leb 30 n) (leb n 36) e) in
     second_true (eqb n 3)
@@ -94,11 +95,11 @@ rule_few Tick = refl
 -- ---- answers
 
 module _ (c : Contract) where
-  pub refused_fine : (s : State) (n : ℕ) → refusal n ≡ true → Fine c (refused s n)
+  pub refused_fine : (s : State) (q : Question) → refusal (number_of q) ≡ true → Fine c (refused s q)
   unfolding report_of report_ok every
   refused_fine s n e = record { outcome = e; labels = refl }
 
-  failed_fine : (s : State) (n : ℕ) → Stops n → Fine c (answered (Failed n) s)
+  failed_fine : (s : State) (q : Question) → Stops q → Fine c (answered (Failed q) s)
   unfolding report_of report_ok every
   failed_fine s n e = record { outcome = e; labels = refl }
 
@@ -117,7 +118,7 @@ module _ (c : Contract) where
 
   begun_fair : (s : State) (ps : List ℕ) → Fair c (begun s ps)
   unfolding every
-  begun_fair s ps = record { labels_length = repeated_length max_labels no_label; labels = refl; stop = λ e. true_false e }
+  begun_fair s ps = record { labels_length = repeated_length max_labels no_label; labels = refl; stop = λ q e. none_some q (sym e) }
 
   -- where the state that it leads to is good
   abbrev Once : Stepped → Type 0
@@ -132,10 +133,10 @@ ScheduleStops (no q) = Stops q
 
 scheduled_stops : (t n j : ℕ) (x : Answer) → AnswerStops x → (r : Scheduled) → ScheduleStops r → ScheduleStops (scheduled t n j x r)
 unfolding ranges
-scheduled_stops t n j (answer.Refused q) h r e = h
-scheduled_stops t n j (answer.Is (Text x)) h r e = refl
-scheduled_stops t n j (answer.Is (Integer z)) h (no q) e = e
-scheduled_stops t n j (answer.Is (Integer z)) h (times ps) e = tt
+scheduled_stops t n j (Err q) h r e = h
+scheduled_stops t n j (Ok (Text x)) h r e = refl
+scheduled_stops t n j (Ok (Integer z)) h (no q) e = e
+scheduled_stops t n j (Ok (Integer z)) h (times ps) e = tt
 
 schedule_stops : (c : Contract) (f : Function) (m : Memory) (t n j : ℕ) (es : List Event) → every (event_in c f) es ≡ true → ScheduleStops (schedule m t n j es)
 unfolding schedule
@@ -160,27 +161,27 @@ module _ (c : Contract) (e : fits c ≡ true) where
   agreement_fine : (s : State) (ps : List Part) → Once c (agreed_on c s ps)
   unfolding agreed_on refusal ranges
   agreement_fine s ps =
-      by_cases (Once c) _ _ _ (λ _ _. refused_fine c s 21 refl) λ _.
+      by_cases (Once c) _ _ _ (λ _ _. refused_fine c s ask.NotAgreed refl) λ _.
       by_cases (Once c) _ _ _
-      (λ _. by_cases (Once c) _ _ _ (λ _ g. answered_fine c Agree _ g refl) (λ _ _. refused_fine c s 24 refl))
-      (λ _ _. refused_fine c s 23 refl)
+      (λ _. by_cases (Once c) _ _ _ (λ _ g. answered_fine c Agree _ g refl) (λ _ _. refused_fine c s ask.SameValues refl))
+      (λ _ _. refused_fine c s ask.SameClauses refl)
 
   tick_fine : (s : State) → Once c (ticked c s)
   unfolding ticked refusal ranges lapsed with_pending
-  tick_fine s = by_cases (Once c) _ _ _ (λ a. go a (due_in c s)) (λ _ _. refused_fine c s 22 refl)
+  tick_fine s = by_cases (Once c) _ _ _ (λ a. go a (due_in c s)) (λ _ _. refused_fine c s ask.Agreed refl)
     where
-      go : s.agreed ≡ true → (d : Due) → Once c (tick_by_due s d)
-      go a (due.At k) = λ _. refused_fine c s 25 refl
-      go a due.Nothing = by_cases (Once c) _ _ _ (λ _ g. answered_fine c Tick _ g a) (λ _ _. refused_fine c s 40 refl)
+      go : s.agreed ≡ true → (d : Option ℕ) → Once c (tick_by_due s d)
+      go a (Some k) = λ _. refused_fine c s ask.NothingDue refl
+      go a None = by_cases (Once c) _ _ _ (λ _ g. answered_fine c Tick _ g a) (λ _ _. refused_fine c s ask.ClockBelowTop refl)
 
   jump_fine : (s : State) (T : ℤ) → Once c (jumped c s T)
   unfolding jumped refusal ranges
-  jump_fine s T = by_cases (Once c) _ _ _ (λ a. go a (due_in c s)) (λ _ _. refused_fine c s 22 refl)
+  jump_fine s T = by_cases (Once c) _ _ _ (λ a. go a (due_in c s)) (λ _ _. refused_fine c s ask.Agreed refl)
     where
-      go : s.agreed ≡ true → (d : Due) → Once c (jump_by_due c s T d)
-      go a (due.At k) = λ _. refused_fine c s 25 refl
-      go a due.Nothing =
-          by_cases (Once c) _ _ _ (λ _ g. answered_fine c Tick _ g (passed_agreed (times_until_due c (nat_abs T - s.clock) s) s ∙ a)) (λ _ _. refused_fine c s 62 refl)
+      go : s.agreed ≡ true → (d : Option ℕ) → Once c (jump_by_due c s T d)
+      go a (Some k) = λ _. refused_fine c s ask.NothingDue refl
+      go a None =
+          by_cases (Once c) _ _ _ (λ _ g. answered_fine c Tick _ g (passed_agreed (times_until_due c (nat_abs T - s.clock) s) s ∙ a)) (λ _ _. refused_fine c s ask.TimeNotPast refl)
 
   module _ {s : State} (g : Good c s) where
     handler_fair : s.agreed ≡ true → (k : ℕ) → Fair c (handler_ran c s k)
@@ -193,30 +194,30 @@ module _ (c : Contract) (e : fits c ≡ true) where
 
     firing_fine : Once c (fired c s)
     unfolding fired handled refusal ranges with_pending
-    firing_fine = by_cases (Once c) _ _ _ (λ a. go a (due_in c s)) (λ _ _. refused_fine c s 22 refl)
+    firing_fine = by_cases (Once c) _ _ _ (λ a. go a (due_in c s)) (λ _ _. refused_fine c s ask.Agreed refl)
       where
-        go : s.agreed ≡ true → (d : Due) → Once c (fire_by_due c s d)
-        go a due.Nothing = λ _. refused_fine c s 41 refl
-        go a (due.At k) =
-            by_cases (Once c) _ _ _ (λ _ h. accepted_fine c EventMatch _ (handler_ran c s k) h a (handler_fair a k))
-            (λ q _. failed_fine c _ (handler_ran c s k).refusal ((handler_fair a k).stop q))
+        go : s.agreed ≡ true → (d : Option ℕ) → Once c (fire_by_due c s d)
+        go a None = λ _. refused_fine c s ask.SomethingDue refl
+        go a (Some k) =
+            by_refusal (Once c) (handler_ran c s k).refusal _ _ (λ _ h. accepted_fine c EventMatch _ (handler_ran c s k) h a (handler_fair a k))
+            (λ q e _. failed_fine c _ q ((handler_fair a k).stop q e))
 
     module _ (i : Invocation) (v : every within i.values ≡ true) (d : every within i.assets ≡ true) (a : s.agreed ≡ true) where
       module _ (n : ℕ) (f : Function) (q : FitsFunction c f) where
         scheduled_fine : (w : Work) → Fair c w → (z : Scheduled) → ScheduleStops z → Once c (with_scheduled s w f.last z)
         unfolding refusal ranges with_pending
         scheduled_fine w o (no m) h = λ _. refused_fine c s m (stops_refusal m h)
-        scheduled_fine w o (times ps) h = by_cases (Once c) _ _ _ (λ _ x. accepted_fine c Call _ w x a o) (λ _ _. refused_fine c s 39 refl)
+        scheduled_fine w o (times ps) h = by_cases (Once c) _ _ _ (λ _ x. accepted_fine c Call _ w x a o) (λ _ _. refused_fine c s ask.PendingRoom refl)
 
         finished_fine : (w : Work) → Fair c w → Once c (finished s n f i.values w)
         unfolding finished refusal ranges
         finished_fine w o =
-            by_cases (Once c) _ _ _
-            (λ _. by_cases (Once c) _ _ _
+            by_refusal (Once c) w.refusal (refused s) _
+            (λ _. by_cases (Once c) (every (λ a. eqb a 0) (drop max_assets w.holdings)) _ _
             (λ _. scheduled_fine w o (schedule (memory_in i.values s.clock w) s.clock n 0 f.events)
             (schedule_stops c f (memory_in i.values s.clock w) s.clock n 0 f.events q.events))
-            (λ _ _. refused_fine c s 37 refl))
-            (λ x _. refused_fine c s w.refusal (stops_refusal w.refusal (o.stop x)))
+            (λ _ _. refused_fine c s ask.ParametersEmpty refl))
+            (λ p e _. refused_fine c s p (stops_refusal p (o.stop p e)))
 
         body_fair : every (le_z (pos 0)) i.assets ≡ true → Fair c (body_ran s i f)
         body_fair p =
@@ -225,9 +226,9 @@ module _ (c : Contract) (e : fits c ≡ true) where
 
         precondition_fine : every (le_z (pos 0)) i.assets ≡ true → (u : Truth) → TruthStops u → Once c (by_precondition s n f i.values (begun s (amounts i.assets)) u)
         unfolding refusal ranges
-        precondition_fine p (truth.Refused m) h = λ _. refused_fine c s m (stops_refusal m h)
-        precondition_fine p (truth.Holds false) h = λ _. refused_fine c s 29 refl
-        precondition_fine p (truth.Holds true) h = finished_fine (body_ran s i f) (body_fair p)
+        precondition_fine p (Err m) h = λ _. refused_fine c s m (stops_refusal m h)
+        precondition_fine p (Ok false) h = λ _. refused_fine c s ask.Precondition refl
+        precondition_fine p (Ok true) h = finished_fine (body_ran s i f) (body_fair p)
 
         invoked_fine : Once c (invoked s i n f)
         unfolding invoked refusal ranges
@@ -236,25 +237,25 @@ module _ (c : Contract) (e : fits c ≡ true) where
             by_cases (Once c) _ _ _
             (λ _. by_cases (Once c) _ _ _
             (λ p. precondition_fine p (precondition_holds m f.precondition) (precondition_stops (scope_in c f) m f.precondition q.precondition))
-            (λ _ _. refused_fine c s 28 refl))
-            (λ _ _. refused_fine c s 27 refl)
+            (λ _ _. refused_fine c s ask.AssetArguments refl))
+            (λ _ _. refused_fine c s ask.ArgumentCount refl)
 
       chosen_fine : (n : ℕ) (fs : List Function) → every (function_in c) fs ≡ true → Once c (by_chosen s i (choose c s i n fs))
       unfolding choose refusal ranges
-      chosen_fine n [] h = λ _. refused_fine c s 26 refl
+      chosen_fine n [] h = λ _. refused_fine c s ask.FunctionKnown refl
       chosen_fine n (f ∷ fs) h =
           by_cases (λ (z : Chosen). Once c (by_chosen s i z)) (answers_to c s i f) (chosen n f) (choose c s i (suc n) fs)
           (λ _. invoked_fine n f (fits_function c f (every_head (function_in c) f fs h)))
           (λ _. chosen_fine (suc n) fs (every_tail (function_in c) f fs h))
 
-      due_fine : (x : Due) → Once c (call_by_due c s i x)
+      due_fine : (x : Option ℕ) → Once c (call_by_due c s i x)
       unfolding refusal ranges
-      due_fine (due.At k) = λ _. refused_fine c s 25 refl
-      due_fine due.Nothing = chosen_fine 0 c.functions t.functions
+      due_fine (Some k) = λ _. refused_fine c s ask.NothingDue refl
+      due_fine None = chosen_fine 0 c.functions t.functions
 
     call_fine : (i : Invocation) → every within i.values ≡ true → every within i.assets ≡ true → Once c (called c s i)
     unfolding called refusal ranges
-    call_fine i v d = by_cases (Once c) _ _ _ (λ a. due_fine i v d a (due_in c s)) (λ _ _. refused_fine c s 22 refl)
+    call_fine i v d = by_cases (Once c) _ _ _ (λ a. due_fine i v d a (due_in c s)) (λ _ _. refused_fine c s ask.Agreed refl)
 
     -- any step
     once_fine : (q : Request) → within64 q ≡ true → Once c (requested s q c)
@@ -275,6 +276,6 @@ step_fine w p {s} g a e =
     let c = contract_of w in
     by_cases (Fine c) _ _ _
     (λ _. by_cases (Fine c) _ _ _
-    (λ _. by_cases (Fine c) _ _ _ (λ _. request_fine c (sound w p) g a.request e) (λ _. refused_fine c s 20 refl))
-    (λ _. refused_fine c s 4 refl))
-    (λ _. refused_fine c s 3 refl)
+    (λ _. by_cases (Fine c) _ _ _ (λ _. request_fine c (sound w p) g a.request e) (λ _. refused_fine c s ask.LabelRoom refl))
+    (λ _. refused_fine c s ask.StateRanges refl))
+    (λ _. refused_fine c s ask.TableCheck refl)

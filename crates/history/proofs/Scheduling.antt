@@ -9,10 +9,8 @@ use lib.IntN.{ℤ, pos, negsuc, nat_abs}
 use lib.Signed.{le_z}
 use borrow.Author.Tests.{ltb-true, lt-ltb, leb-true, le-leb}
 use Rattle.laws.proofs.Choice.{by_cases, true_false}
-use Rattle.numbers.specs.Numbers.{within}
+use Rattle.numbers.specs.Numbers.{within, Answer}
 use Rattle.numbers.specs.declared.Value.TheVariants.{Integer, Text}
-use Rattle.numbers.specs.declared.Answer.{Answer}
-use Rattle.numbers.specs.declared.Answer.TheVariants as answer
 use Rattle.contract.specs.Limits.{top}
 use Rattle.contract.specs.Tree.{Event, Function, Contract}
 use Rattle.contract.specs.Fits.{scope_in, event_in}
@@ -26,6 +24,7 @@ use Rattle.state.specs.States.{no_function, pending_ok}
 use Rattle.state.proofs.Each.{Each, none, more}
 use Rattle.machine.specs.Steps.{Scheduled, times, no, scheduled, schedule}
 use Rattle.history.proofs.ValuesInRange.{AnswerIn, MemoryIn, value_in}
+use Rattle.std.specs.Prelude.{Ok, Err}
 
 abbrev pub ScheduledIn : Contract → ℕ → Scheduled → Type 0
 ScheduledIn c t (times ps) = Each (λ p. pending_ok c t p ≡ true) ps
@@ -58,10 +57,10 @@ pending_in c t n j (negsuc m) h k e l = true_false (sym l)
 
 scheduled_in : (c : Contract) (strings t n j : ℕ) → n < length c.functions → j < length (get_or c.functions n no_function).events
     → (x : Answer) → AnswerIn strings x → (r : Scheduled) → ScheduledIn c t r → ScheduledIn c t (scheduled t n j x r)
-scheduled_in c strings t n j h k (answer.Refused q) i r e = tt
-scheduled_in c strings t n j h k (answer.Is (Text x)) i r e = tt
-scheduled_in c strings t n j h k (answer.Is (Integer z)) i (no q) e = tt
-scheduled_in c strings t n j h k (answer.Is (Integer z)) i (times ps) e =
+scheduled_in c strings t n j h k (Err q) i r e = tt
+scheduled_in c strings t n j h k (Ok (Text x)) i r e = tt
+scheduled_in c strings t n j h k (Ok (Integer z)) i (no q) e = tt
+scheduled_in c strings t n j h k (Ok (Integer z)) i (times ps) e =
     by_cases (Each (λ p. pending_ok c t p ≡ true)) (le_z (pos t) z) _ _ (λ l. more (pending_in c t n j z h k i l) e) (λ _. e)
 
 pub schedule_in : (c : Contract) (f : Function) (n t : ℕ) (m : Memory) → MemoryIn (scope_in c f) m → n < length c.functions

@@ -16,13 +16,12 @@ use Rattle.contract.specs.Tree.{Contract}
 use Rattle.contract.specs.Decode.{contract_of}
 use Rattle.contract.specs.Check.{passes}
 use Rattle.state.specs.declared.State.{State}
-use Rattle.state.specs.declared.Due.{Due}
-use Rattle.state.specs.declared.Due.TheVariants as due
+use Rattle.std.specs.Prelude.{Option, Some, None}
 use Rattle.state.specs.States.{max_pending, state_ok, due_in}
 use Rattle.state.proofs.Dues.{first_to_fire}
 use Rattle.state.proofs.Within.{unagreed}
 use Rattle.step_reports.specs.Reports.{told, max_told}
-use Rattle.machine.specs.Sessions.{Said, heard, end_of_line, Turn, takes, wait, turn_by_due, turn_at, Session, here, before, on_turn, session_for, session, not_played, played}
+use Rattle.machine.specs.Sessions.{Said, heard, end_of_line, Turn, takes, wait, turn_by_due, turn_at, Session, here, before, on_turn, session_for, session, played}
 use Rattle.history.specs.Sessions.{Stored, count_turn, turns_for, turns_of, moved, whole_for, blocks, turns_in, most_turns, Ends}
 use Rattle.history.proofs.GoodState.{Good, good_within, good_ok, live_length}
 use Rattle.history.proofs.Clock.{fired_so}
@@ -55,7 +54,7 @@ abbrev turns_left : List ℕ → State → ℕ → ℕ
 turns_left bytes s at = s.pending + suc max_pending * (length bytes - at)
 
 -- where an event is due the contract has been agreed on
-due_agreed : {c : Contract} {s : State} → Good c s → (k : ℕ) → due_in c s ≡ due.At k → s.agreed ≡ true
+due_agreed : {c : Contract} {s : State} → Good c s → (k : ℕ) → due_in c s ≡ Some k → s.agreed ≡ true
 due_agreed {c} {s} g k d = go s.agreed refl
   where
     go : (b : Bool) → s.agreed ≡ b → b ≡ true
@@ -72,7 +71,7 @@ module _ (w : List ℕ) (p : passes w ≡ true) where
     Advances at wait = Unit {0}
     Advances at (takes x next) = (at < next) × (next ≤ length bytes)
 
-    line_advances : (at : ℕ) → Advances at (turn_by_due bytes at due.Nothing)
+    line_advances : (at : ℕ) → Advances at (turn_by_due bytes at None)
     unfolding end_of_line
     line_advances at =
         by_cases (Advances at) (ltb (end_of_line bytes at) (length bytes)) _ _
@@ -91,9 +90,9 @@ module _ (w : List ℕ) (p : passes w ≡ true) where
         line_falls wait h a = tt
         line_falls (takes x next) h a = omega (arith, (heard_good w p g x h).events.few, a.0, a.1)
 
-        go : (d : Due) → due_in c s ≡ d → Falls s at (turn_by_due bytes at d)
-        go (due.At k) e = omega (arith, (fired_so g (due_agreed g k e) k e).one_less)
-        go due.Nothing e = line_falls (turn_by_due bytes at due.Nothing) (due_in_lem bytes at due.Nothing) (line_advances at)
+        go : (d : Option ℕ) → due_in c s ≡ d → Falls s at (turn_by_due bytes at d)
+        go (Some k) e = omega (arith, (fired_so g (due_agreed g k e) k e).one_less)
+        go None e = line_falls (turn_by_due bytes at None) (due_in_lem bytes at None) (line_advances at)
 
     -- a session takes the turns that it makes
     session_falls : (turns room : ℕ) (s : State) (at : ℕ) → Good c s
@@ -172,10 +171,10 @@ module _ (w : List ℕ) (p : passes w ≡ true) where
     -- the next call of `play` then does nothing and tells nothing
     pub play_ends : (rooms : List ℕ) → every (leb max_told) rooms ≡ true → most_turns bytes s < length rooms → (room : ℕ) → max_told ≤ room
         → let b = blocks (contract_of w) bytes rooms s in
-        played w b.state (drop b.at bytes) room ≡ not_played b.state 0
+        played w b.state (drop b.at bytes) room ≡ record { question = None; state = b.state; used = 0; many = 0 }
     play_ends rooms r h room l =
         let b = blocks c bytes rooms s in
         let g = stored_good c s a o in
         played_session w p b.state (good_ok (blocks_good w p rooms bytes s g)) (drop b.at bytes) room l
-        ∙ ap (λ (e : Session). record { question = 0; state = e.state; used = e.at; many = length e.reports })
+        ∙ ap (λ (e : Session). record { question = None; state = e.state; used = e.at; many = length e.reports })
         (session_waits c (drop b.at bytes) b.state 0 (ends.done rooms r h) room room)

@@ -33,6 +33,7 @@ use Rattle.history.proofs.LineIntegers.{TurnIn, turn_in}
 use Rattle.history.proofs.AskedOnce.{stored_good, heard_good, blocks_good, blocks_fine}
 use Rattle.history.proofs.Continued.{blocks_turns}
 use Rattle.history.proofs.Settled.{told_settled, settled_paid, settled_payable, file_settled, waiting_accepted, last_accepted}
+use Rattle.questions.specs.Numbers.{number_of}
 
 -- ---- the steps of a session have 64-bit arguments
 
@@ -126,7 +127,7 @@ module _ (w : List ℕ) (p : passes w ≡ true) (slice : List Label) (room : roo
       told_by (xs ++ ys) (first ++ rs) ≡ told_by xs first ++ told_by ys rs
   unfolding steps_of told_by history
   told_append s [] ys rs = refl
-  told_append s (unread n ∷ xs) ys rs = ap (λ (l : List Report). report.Refused n ∷ l) (told_append s xs ys rs)
+  told_append s (unread q ∷ xs) ys rs = ap (λ (l : List Report). report.Refused (number_of q) ∷ l) (told_append s xs ys rs)
   told_append s (asks q ∷ xs) ys rs =
       let t = (answer_to w s (asked q)).state in
       let lines = lines_of (returned w s (asked q)) in

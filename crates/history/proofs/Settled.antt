@@ -28,7 +28,7 @@ use Rattle.pages.specs.Page.{sixty}
 use Rattle.pages.specs.Answers.{page_bytes, paged}
 use Rattle.pages.specs.Gathering.{payouts}
 use Rattle.pages.specs.Promises.{entries_in, taken, sheets_after, no_sheets, file_of, closed}
-use Rattle.pages.specs.declared.Paged.TheVariants as page
+use Rattle.std.specs.Prelude.{Ok}
 use Rattle.pages.proofs.Cuts.{every_sixty}
 use Rattle.pages.proofs.Filling.{page_accepts}
 use Rattle.pages.proofs.Gathers.{session_pages, waiting_all}
@@ -162,7 +162,7 @@ module _ (c : Contract) where
   came_payable (agrees ps a) f h = refl
   came_payable {s} (calls i n g ps o) f h = labels_payable Call refl _ h (take (body_ran s i g).count (body_ran s i g).labels) f.labels
   came_payable {s} (fires k a d e) f h = labels_payable EventMatch refl _ h (take (handler_ran c s k).count (handler_ran c s k).labels) f.labels
-  came_payable (fails k a d e) f h = refl
+  came_payable (fails k n a d e) f h = refl
   came_payable (ticks a d l) f h = refl
   came_payable (jumps T a d l) f h = refl
 
@@ -200,7 +200,7 @@ came_left c (refusal n) h = refl
 came_left c (agrees ps a) h = true_false (sym h)
 came_left c (calls i n g ps o) h = refl
 came_left c (fires k a d e) h = refl
-came_left c (fails k a d e) h = true_false (sym h)
+came_left c (fails k n a d e) h = true_false (sym h)
 came_left c (ticks a d l) h = true_false (sym h)
 came_left c (jumps T a d l) h = true_false (sym h)
 
@@ -217,7 +217,7 @@ clock_left w s a r e h = answer_left (answered_so w s a) (ap sends_in e ∙ h)
 -- a session's result lines, whose payouts are es, each within question 61
 module _ (w : List ℕ) (p : passes w ≡ true) (rs : List Report) (es : List Entry) (e : payouts 0 0 rs ≡ es) (o : every (is_payout (contract_of w)) es ≡ true) where
   -- each page of es, by its own entries
-  pub sixty_accepted : (n size : ℕ) → page_bytes ≤ size → paged w (sixty n es) size ≡ page.Accepted
+  pub sixty_accepted : (n size : ℕ) → page_bytes ≤ size → paged w (sixty n es) size ≡ Ok tt
   sixty_accepted n size h = page_accepts w _ size p (every_sixty (is_payout (contract_of w)) n es o) h
 
   module _ (ns : List ℕ) (zs : List ℤ) (n : 300 ≤ length ns) (z : 60 ≤ length zs) where
@@ -226,12 +226,12 @@ module _ (w : List ℕ) (p : passes w ≡ true) (rs : List Report) (es : List En
 
     -- whatever waits after line r
     pub waiting_accepted : (size : ℕ) → page_bytes ≤ size → (before more : List Report) (r : Report) → rs ≡ before ++ (r ∷ more)
-        → paged w (entries_in (taken (sheets_after (contract_of w) (no_sheets ns zs) before) r)) size ≡ page.Accepted
+        → paged w (entries_in (taken (sheets_after (contract_of w) (no_sheets ns zs) before) r)) size ≡ Ok tt
     waiting_accepted size h before more r d =
         page_accepts w _ size p
         (waiting_all (is_payout (contract_of w)) (contract_of w) ns zs before more r n z (ap (every (is_payout (contract_of w))) (ap (payouts 0 0) (sym d) ∙ e) ∙ o)) h
 
-    pub last_accepted : (size : ℕ) → page_bytes ≤ size → paged w (entries_in (sheets_after (contract_of w) (no_sheets ns zs) rs)) size ≡ page.Accepted
+    pub last_accepted : (size : ℕ) → page_bytes ≤ size → paged w (entries_in (sheets_after (contract_of w) (no_sheets ns zs) rs)) size ≡ Ok tt
     last_accepted size h =
         let q = length (payouts 0 0 rs) / 60 in
         ap (λ (l : List Entry). paged w l size) ((session_pages (contract_of w) ns zs rs n z).waiting ∙ ap (sixty q) e) ∙ sixty_accepted q size h

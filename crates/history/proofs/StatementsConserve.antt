@@ -18,10 +18,6 @@ use Rattle.laws.specs.Lists.{every}
 use Rattle.laws.proofs.Choice.{by_cases}
 use Rattle.numbers.specs.declared.Value.{Value}
 use Rattle.numbers.specs.declared.Value.TheVariants.{Integer, Text}
-use Rattle.numbers.specs.declared.Answer.{Answer}
-use Rattle.numbers.specs.declared.Answer.TheVariants as answer
-use Rattle.numbers.specs.declared.Truth.{Truth}
-use Rattle.numbers.specs.declared.Truth.TheVariants as truth
 use Rattle.contract.specs.Tree.{held, Action, assign, send, move, pay, move_all, pay_all, Block, none, perform, conditional, broken_block}
 use Rattle.contract.specs.Sizes.{statements}
 use Rattle.evaluation.specs.Meaning.{value_of, truth_of}
@@ -30,6 +26,10 @@ use Rattle.statements.specs.declared.Work.{Work}
 use Rattle.statements.specs.Running.{integer_label, string_label, asset_label, max_labels, max_holdings, memory_in, stopped, onward, stored, with_holdings, labelled, sent, receiver, place, moved, paid, with_value, with_amount, performed, by_truth, ran}
 use Rattle.history.specs.Histories.{payouts_in, values_of, weighed, alike}
 use Rattle.history.proofs.AmountSums.{paid_out, evenly, weighed_less, weighed_moved, paid_append, values_append, payouts_append}
+use Rattle.numbers.specs.Numbers.{Answer, Truth}
+use Rattle.std.specs.Prelude.{Ok, Err}
+use Rattle.questions.specs.declared.Question.TheVariants as ask
+use Rattle.questions.specs.declared.Question.{Question}
 
 abbrev label_of : ℕ → ℕ → ℤ → Label
 label_of kind party value = record { kind = kind; party = party; value = value }
@@ -102,7 +102,7 @@ module _ {f : ℕ → ℕ} {g : Label → ℕ} where
       }
 
   -- the labels, holdings and count decide
-  stopped_worth : {total m : ℕ} {w : Work} (n : ℕ) → Worth f g total m w → Worth f g total m (stopped w n)
+  stopped_worth : {total m : ℕ} {w : Work} (n : Question) → Worth f g total m w → Worth f g total m (stopped w n)
   stopped_worth n o =
       record { holdings_length = o.holdings_length; labels_length = o.labels_length; labels_few = o.labels_few; amounts = o.amounts; total_is = o.total_is }
 
@@ -163,10 +163,10 @@ module _ {f : ℕ → ℕ} {g : Label → ℕ} where
     moved_worth i j e n =
         let hs = w.holdings in
         more_room (suc m) (omega arith)
-        (by_cases (Worth f g total m) _ _ _ (λ _. stopped_worth 35 o) λ h.
-        by_cases (Worth f g total m) _ _ _ (λ _. stopped_worth 3 o) λ k.
+        (by_cases (Worth f g total m) _ _ _ (λ _. stopped_worth ask.AmountHeld o) λ h.
+        by_cases (Worth f g total m) _ _ _ (λ _. stopped_worth ask.TableCheck o) λ k.
         by_cases (Worth f g total m) _ _ _ (λ _. o) λ ne.
-        by_cases (Worth f g total m) _ _ _ (λ _. stopped_worth 36 o) λ _.
+        by_cases (Worth f g total m) _ _ _ (λ _. stopped_worth ask.SumFits o) λ _.
         let b = set hs i (get_or hs i 0 - n) in
         holdings_worth 0 total (set b j (get_or hs j 0 + n)) (length-set b j _ ∙ length-set hs i _)
         (omega (arith, weighed_moved f hs i j n e (ltb-false (get_or hs i 0) n h) (omega (arith, leb-false max_holdings j k, o.holdings_length)) (eqb-false i j ne)))
@@ -175,7 +175,7 @@ module _ {f : ℕ → ℕ} {g : Label → ℕ} where
     paid_worth : (i a : ℕ) → PaysAlike f g i a → (n : ℕ) → Worth f g total (suc m) (paid w i a n)
     unfolding paid
     paid_worth i a k n =
-        by_cases (Worth f g total (suc m)) _ _ _ (λ _. more_room (suc m) (omega arith) (stopped_worth 35 o)) λ h.
+        by_cases (Worth f g total (suc m)) _ _ _ (λ _. more_room (suc m) (omega arith) (stopped_worth ask.AmountHeld o)) λ h.
         let hs = w.holdings in
         let z : 0 + i ≡ i = omega arith in
         let e : weighed f 0 (set hs i (get_or hs i 0 - n)) + f i * n ≡ weighed f 0 hs =
@@ -185,14 +185,14 @@ module _ {f : ℕ → ℕ} {g : Label → ℕ} where
         (holdings_worth (f i * n) (total - f i * n) (set hs i (get_or hs i 0 - n)) (length-set hs i _) e q o)
 
     amount_worth : (x : Answer) (k : ℕ → Work) → ((n : ℕ) → Worth f g total (suc m) (k n)) → Worth f g total (suc m) (with_amount w x k)
-    amount_worth (answer.Refused n) k t = more_room (suc m) (omega arith) (stopped_worth n o)
-    amount_worth (answer.Is (Text s)) k t = more_room (suc m) (omega arith) (stopped_worth 31 o)
-    amount_worth (answer.Is (Integer (pos n))) k t = t n
-    amount_worth (answer.Is (Integer (negsuc n))) k t = more_room (suc m) (omega arith) (stopped_worth 34 o)
+    amount_worth (Err n) k t = more_room (suc m) (omega arith) (stopped_worth n o)
+    amount_worth (Ok (Text s)) k t = more_room (suc m) (omega arith) (stopped_worth ask.OperandKind o)
+    amount_worth (Ok (Integer (pos n))) k t = t n
+    amount_worth (Ok (Integer (negsuc n))) k t = more_room (suc m) (omega arith) (stopped_worth ask.AmountSign o)
 
     value_worth : (x : Answer) (k : Value → Work) → ((v : Value) → Worth f g total (suc m) (k v)) → Worth f g total (suc m) (with_value w x k)
-    value_worth (answer.Refused n) k t = more_room (suc m) (omega arith) (stopped_worth n o)
-    value_worth (answer.Is v) k t = t v
+    value_worth (Err n) k t = more_room (suc m) (omega arith) (stopped_worth n o)
+    value_worth (Ok v) k t = t v
 
     performed_worth : (v : List ℤ) (t : ℕ) (a : Action) → Keeps f g a → Worth f g total (suc m) (performed v t w a)
     unfolding performed
@@ -210,9 +210,9 @@ module _ {f : ℕ → ℕ} {g : Label → ℕ} where
   onward_worth {total} {m} {n} k h o t = by_cases (Worth f g total n) _ _ _ (λ _. t o) (λ _. more_room n h o)
 
   truth_worth : {total m n : ℕ} {w x : Work} (t : Truth) → m ≤ n → Worth f g total m w → Worth f g total n x → Worth f g total n (by_truth w t x)
-  truth_worth {n = n} (truth.Refused q) h o k = more_room n h (stopped_worth q o)
-  truth_worth (truth.Holds true) h o k = k
-  truth_worth {n = n} (truth.Holds false) h o k = more_room n h o
+  truth_worth {n = n} (Err q) h o k = more_room n h (stopped_worth q o)
+  truth_worth (Ok true) h o k = k
+  truth_worth {n = n} (Ok false) h o k = more_room n h o
 
   -- each statement sends at most one label
   pub ran_worth : {total m : ℕ} {w : Work} (v : List ℤ) (t : ℕ) (b : Block) → Respects f g b → m + statements b ≤ max_labels → Worth f g total m w
@@ -226,4 +226,4 @@ module _ {f : ℕ → ℕ} {g : Label → ℕ} where
       onward_worth _ (omega arith) (ran_worth v t b r.0 (omega arith) o)
       (λ k. truth_worth (truth_of (memory_in v t (ran v t w b)) c) (omega arith) k
       (more_room (m + suc (statements b + statements s)) (omega arith) (ran_worth {m = m + statements b} {w = ran v t w b} v t s r.1 (omega arith) k)))
-  ran_worth {m = m} v t broken_block r h o = more_room (m + 1) (omega arith) (stopped_worth 3 o)
+  ran_worth {m = m} v t broken_block r h o = more_room (m + 1) (omega arith) (stopped_worth ask.TableCheck o)

@@ -161,7 +161,7 @@ module _ (c : Contract) (t : FitsContract c) where
     came_good e (calls i n f ps o) =
         call_good g o.agreed i n f ps o (both_left (every within i.values) (every within i.assets) e) (both_right (every within i.values) (every within i.assets) e)
     came_good e (fires k a d h) = firing_good g a k
-    came_good e (fails k a d h) = removed_good g a k
+    came_good e (fails k n a d h) = removed_good g a k
     came_good e (ticks a d l) = tick_good g a l
     came_good e (jumps T a d l) =
         let r = time_in s.clock T e l in

@@ -16,7 +16,7 @@ use Rattle.grammar.specs.Meaning.{Means}
 use Rattle.grammar.specs.Order.{event_places, InOrder}
 use Rattle.grammar.proofs.Order.{events_in_order, resolved_functions, resolved_events}
 use Rattle.state.specs.declared.State.{State}
-use Rattle.state.specs.declared.Due.TheVariants.{At}
+use Rattle.std.specs.Prelude.{Some}
 use Rattle.state.specs.States.{no_function, live, state_ok, is_due, stands_before, due_in, pending_at, FirstToFire}
 use Rattle.state.proofs.Dues.{before_by, neither_before, first_to_fire, one_to_fire}
 use Rattle.history.specs.TextOrder.{beginning, FirstInText}
@@ -80,12 +80,12 @@ module _ (x : List ℕ) (t : Syntax) (i : InOrder t) (s : State) (o : state_ok (
           none_older = λ j h e u v. omega (arith, f.oldest j (omega (arith, f.is_pending)) e (together j k u v));
         }
 
-    due_text : (due_in c s ≡ At k) ↔ FirstInText t c s k
+    due_text : (due_in c s ≡ Some k) ↔ FirstInText t c s k
     due_text = (λ d. text_first (first_to_fire c s k d), λ f. one_to_fire c s (first_text f))
 
 -- of every text that means a contract (those that reading accepts, `read_exactly`), in each state within question 4: the first due event is
 -- the due one that begins first in the text, the oldest of those that begin there
-pub first_in_text : (x : List ℕ) (c : Contract) (m : Means x c) (s : State) → state_ok c s ≡ true → (k : ℕ) → (due_in c s ≡ At k) ↔ FirstInText m.tree c s k
+pub first_in_text : (x : List ℕ) (c : Contract) (m : Means x c) (s : State) → state_ok c s ≡ true → (k : ℕ) → (due_in c s ≡ Some k) ↔ FirstInText m.tree c s k
 first_in_text x c m s o k =
-    subst (λ (d : Contract). (due_in d s ≡ At k) ↔ FirstInText m.tree d s k) m.resolved
+    subst (λ (d : Contract). (due_in d s ≡ Some k) ↔ FirstInText m.tree d s k) m.resolved
     (due_text x m.tree (events_in_order x m.tree m.tokens m.all m.derives) s (subst (λ (d : Contract). state_ok d s ≡ true) (sym m.resolved) o) k)

@@ -14,7 +14,7 @@ use Rattle.accepted.proofs.Accepted.{accepted_passes}
 use Rattle.accepted.proofs.Refusals.{refused_within}
 use Rattle.results.specs.Lines.{text_refusal, text_line}
 use Rattle.results.specs.Results.{text_written}
-use Rattle.results.specs.declared.Written.TheVariants.{Wrote}
+use Rattle.std.specs.Prelude.{Ok}
 use Rattle.history.specs.Histories.{Step, within64}
 use Rattle.history.specs.Demand.{Demand}
 use Rattle.history.proofs.Demand.{demand}
@@ -25,6 +25,6 @@ demand_of_text s words c e = demand (encode c) (accepted_passes s words c e)
 
 -- the line of a refused text is printed by `write_text_refusal`, given 128 bytes or more, and its place is within the text
 pub refusal_printed : (s : List ℕ) (words q p : ℕ) → read_text s words ≡ refused q p
-    → ((size : ℕ) → 128 ≤ size → text_written q p size ≡ Wrote (length (text_line q p))) × (p ≤ length s)
+    → ((size : ℕ) → 128 ≤ size → text_written q p size ≡ Ok (length (text_line q p))) × (p ≤ length s)
 unfolding text_written text_refusal
 refusal_printed s words q p e = (λ size h. pick_false _ _ _ (le-ltb size 128 h) ∙ pick_true _ _ _ (refused_within s words q p e).0, (refused_within s words q p e).1)

@@ -31,6 +31,10 @@ use Rattle.steps.specs.Left.{copied_of}
 use Rattle.history.specs.Histories.{Step, answer_to, returned, is_refused}
 use Rattle.history.specs.Untouched.{by_rule, Untouched}
 use Rattle.history.proofs.Cases.{ComesOut, refusal, agrees, calls, fires, fails, ticks, jumps, Answers, first_refusal, by_rule_lem, answered_so}
+use Rattle.questions.specs.declared.Question.TheVariants as ask
+use Rattle.std.specs.Prelude.{Some, None}
+use Rattle.questions.specs.declared.Question.{Question}
+use Rattle.machine.proofs.Gates.{same_question, none_some}
 
 -- an answer that no rule accepts has no label, and a refusal has the state it was given
 pub record Idle (s : State) (r : Stepped) : Type 0 where
@@ -45,7 +49,7 @@ came_idle c (refusal n) = record { no_labels = λ _. refl; state_same = λ _. re
 came_idle c (agrees ps a) = accepted_idle _ refl refl
 came_idle c (calls i n f ps o) = accepted_idle _ refl refl
 came_idle c (fires k a d h) = accepted_idle _ refl refl
-came_idle c (fails k a d h) = record { no_labels = λ _. refl; state_same = λ f. true_false (sym f) }
+came_idle c (fails k n a d h) = record { no_labels = λ _. refl; state_same = λ f. true_false (sym f) }
 came_idle c (ticks a d l) = accepted_idle _ refl refl
 came_idle c (jumps T a d l) = accepted_idle _ refl refl
 
@@ -78,30 +82,30 @@ table_zeros : (text : List ℕ) (words q p : ℕ) → read_text text words ≡ r
 table_zeros text words q p e = ap (table_of words) e
 
 -- question 3 comes first
-step_unread : (w : List ℕ) (s : State) (a : Step) → passes w ≡ false → (answer_to w s a).outcome ≡ Refused 3
+step_unread : (w : List ℕ) (s : State) (a : Step) → passes w ≡ false → (answer_to w s a).outcome ≡ Refused ask.TableCheck
 unfolding answer_to step
 step_unread w s a e = ap (λ (r : Stepped). r.outcome) (pick_false _ _ _ e)
 
 zeros_unread : (text : List ℕ) (words q p : ℕ) (s : State) (a : Step) → read_text text words ≡ refused q p
-    → (answer_to (table_of words (read_text text words)) s a).outcome ≡ Refused 3
+    → (answer_to (table_of words (read_text text words)) s a).outcome ≡ Refused ask.TableCheck
 zeros_unread text words q p s a e = step_unread _ s a (ap passes (table_zeros text words q p e) ∙ zeros_fail words)
 
 -- ---- a session
 
 -- question 3, 4 or 20 has done nothing and told nothing
-nothing_done : (a b d : Bool) (s : State) (e : Session)
-    → let x = pick a (pick b (pick d (record { question = 0; state = e.state; used = e.at; many = length e.reports }) (not_played s 20)) (not_played s 4)) (not_played s 3) in
-    (x.question ≡ 0 → ⊥) → (x ≡ not_played s x.question) × (pick a (pick b (pick d e.reports []) []) [] ≡ [])
+nothing_done : (a b d : Bool) (s : State) (e : Session) (q : Question)
+    → let x = pick a (pick b (pick d (record { question = None; state = e.state; used = e.at; many = length e.reports }) (not_played s ask.LabelRoom)) (not_played s ask.StateRanges)) (not_played s ask.TableCheck) in
+    x.question ≡ Some q → (x ≡ not_played s q) × (pick a (pick b (pick d e.reports []) []) [] ≡ [])
 unfolding pick
-nothing_done true true true s e h = absurd (h refl)
-nothing_done true true false s e h = (refl, refl)
-nothing_done true false d s e h = (refl, refl)
-nothing_done false b d s e h = (refl, refl)
+nothing_done true true true s e q h = none_some q (sym h)
+nothing_done true true false s e q h = (ap (not_played s) (same_question ask.LabelRoom q h), refl)
+nothing_done true false d s e q h = (ap (not_played s) (same_question ask.StateRanges q h), refl)
+nothing_done false b d s e q h = (ap (not_played s) (same_question ask.TableCheck q h), refl)
 
-module _ (w : List ℕ) (s : State) (bytes : List ℕ) (room : ℕ) (h : (played w s bytes room).question ≡ 0 → ⊥) where
-  refused_session : (played w s bytes room ≡ not_played s (played w s bytes room).question) × (reports_of w s bytes room ≡ [])
+module _ (w : List ℕ) (s : State) (bytes : List ℕ) (room : ℕ) (q : Question) (h : (played w s bytes room).question ≡ Some q) where
+  refused_session : (played w s bytes room ≡ not_played s q) × (reports_of w s bytes room ≡ [])
   unfolding played reports_of
-  refused_session = let c = contract_of w in nothing_done (passes w) (state_ok c s) (leb max_told room) s (session c bytes room s) h
+  refused_session = let c = contract_of w in nothing_done (passes w) (state_ok c s) (leb max_told room) s (session c bytes room s) q h
 
   lists_same : (numbers : List ℕ) (integers : List ℤ)
       → (sets numbers 0 (coded_all (reports_of w s bytes room)) ≡ numbers) × (sets integers 0 (integers_of (reports_of w s bytes room)) ≡ integers)
@@ -121,6 +125,6 @@ untouched =
       results = refused_writes_nothing;
       page = refused_untouched;
       line = λ c s n. refl;
-      session_state = λ w s bytes room h. (refused_session w s bytes room h).0;
-      session = λ w s bytes room numbers integers h. lists_same w s bytes room h numbers integers;
+      session_state = λ w s bytes room q h. (refused_session w s bytes room q h).0;
+      session = λ w s bytes room numbers integers q h. lists_same w s bytes room q h numbers integers;
     }

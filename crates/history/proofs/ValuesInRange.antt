@@ -11,11 +11,9 @@ use lib.IntN.{ℤ, pos}
 use borrow.Author.Tests.{ltb-true, lt-ltb, eqb-true, eqb-false}
 use Rattle.laws.specs.Choice.{pick}
 use Rattle.laws.proofs.Choice.{by_cases, pick_true, pick_false}
-use Rattle.numbers.specs.Numbers.{within, in_range, eq_z, divided, arithmetic, applied}
+use Rattle.numbers.specs.Numbers.{within, in_range, eq_z, divided, arithmetic, applied, Answer}
 use Rattle.numbers.specs.declared.Value.{Value}
 use Rattle.numbers.specs.declared.Value.TheVariants.{Integer, Text}
-use Rattle.numbers.specs.declared.Answer.{Answer}
-use Rattle.numbers.specs.declared.Answer.TheVariants as answer
 use Rattle.numbers.specs.declared.Operator.{Operator}
 use Rattle.numbers.specs.declared.Operator.TheVariants.{Plus, Minus, Times, Over}
 use Rattle.contract.specs.Limits.{max_fields}
@@ -25,6 +23,7 @@ use Rattle.laws.proofs.Truths.{both_left, both_right, both_true}
 use Rattle.evaluation.specs.Memory.{Memory}
 use Rattle.evaluation.specs.Meaning.{field_value, joined, value_of}
 use Rattle.state.specs.States.{field_ok}
+use Rattle.std.specs.Prelude.{Ok, Err}
 
 -- a value, and an answer
 abbrev pub ValueIn : ℕ → Value → Type 0
@@ -32,8 +31,8 @@ ValueIn strings (Integer z) = within z ≡ true
 ValueIn strings (Text n) = n < strings
 
 abbrev pub AnswerIn : ℕ → Answer → Type 0
-AnswerIn strings (answer.Is v) = ValueIn strings v
-AnswerIn strings (answer.Refused n) = Unit {0}
+AnswerIn strings (Ok v) = ValueIn strings v
+AnswerIn strings (Err n) = Unit {0}
 
 -- ---- fields
 
@@ -113,9 +112,9 @@ applied_in strings o (Integer a) (Text n) = tt
 applied_in strings o (Text m) b = tt
 
 joined_in : (strings : ℕ) (o : Operator) (x y : Answer) → AnswerIn strings (joined o x y)
-joined_in strings o (answer.Refused n) y = tt
-joined_in strings o (answer.Is a) (answer.Refused n) = tt
-joined_in strings o (answer.Is a) (answer.Is b) = applied_in strings o a b
+joined_in strings o (Err n) y = tt
+joined_in strings o (Ok a) (Err n) = tt
+joined_in strings o (Ok a) (Ok b) = applied_in strings o a b
 
 -- a memory that the scope's expressions may be worked out in
 pub record MemoryIn (c : Scope) (m : Memory) : Type 0 where

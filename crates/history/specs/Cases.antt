@@ -1,9 +1,7 @@
 -- Document 01's starred cases, one as document 02, F-2, changes it: an expression, a move, or a step, with what it must give.
-use Rattle.std.specs.Prelude.{ℕ, List, [], ◌∷◌, take, ℤ, pos, negsuc}
+use Rattle.std.specs.Prelude.{ℕ, List, [], ◌∷◌, take, ℤ, pos, negsuc, Ok, Err, Option, Some, None}
 use Rattle.laws.specs.Bytes.{bytes}
 use Rattle.numbers.specs.declared.Value.TheVariants.{Integer}
-use Rattle.numbers.specs.declared.Answer.{Answer}
-use Rattle.numbers.specs.declared.Answer.TheVariants as answer
 use Rattle.numbers.specs.declared.Operator.TheVariants.{Plus, Minus, Over}
 use Rattle.numbers.specs.declared.Comparison.TheVariants.{AtLeast}
 use Rattle.contract.specs.Limits.{top, max_fields}
@@ -23,6 +21,9 @@ use Rattle.outcomes.specs.declared.Stepped.{Stepped}
 use Rattle.machine.specs.Steps.{begun, Request, call, tick}
 use Rattle.outcomes.specs.Outcomes.{no_labels}
 use Rattle.history.specs.Histories.{answer_to}
+use Rattle.numbers.specs.Numbers.{Answer}
+use Rattle.questions.specs.declared.Question.TheVariants as ask
+use Rattle.questions.specs.declared.Question.{Question}
 
 pub data Case : Type 0 where
   -- an expression
@@ -34,8 +35,8 @@ pub data Case : Type 0 where
 
 pub data Result : Type 0 where
   gives : Answer → Result
-  -- the two amounts after it, and the refusal
-  leaves : List ℕ → ℕ → Result
+  -- the two amounts after it, and the question that refused, if any
+  leaves : List ℕ → Option Question → Result
   -- what came of the step, and how many events are pending
   comes : Outcome → ℕ → Result
 
@@ -171,19 +172,19 @@ cases =
 
 abbrev pub expected : List Result
 expected =
-    gives (answer.Is (Integer (pos 3)))
-    ∷ gives (answer.Is (Integer (negsuc 3)))
-    ∷ gives (answer.Refused 32)
-    ∷ leaves (0 ∷ 7 ∷ []) 0
-    ∷ leaves (7 ∷ 0 ∷ []) 35
-    ∷ leaves (7 ∷ 0 ∷ []) 34
-    ∷ leaves (7 ∷ 0 ∷ []) 0
-    ∷ leaves (7 ∷ top ∷ []) 36
-    ∷ comes (Refused 29) 0
-    ∷ comes (Refused 28) 0
-    ∷ comes (Refused 25) 1
+    gives (Ok (Integer (pos 3)))
+    ∷ gives (Ok (Integer (negsuc 3)))
+    ∷ gives (Err ask.ResultRange)
+    ∷ leaves (0 ∷ 7 ∷ []) None
+    ∷ leaves (7 ∷ 0 ∷ []) (Some ask.AmountHeld)
+    ∷ leaves (7 ∷ 0 ∷ []) (Some ask.AmountSign)
+    ∷ leaves (7 ∷ 0 ∷ []) None
+    ∷ leaves (7 ∷ top ∷ []) (Some ask.SumFits)
+    ∷ comes (Refused ask.Precondition) 0
+    ∷ comes (Refused ask.AssetArguments) 0
+    ∷ comes (Refused ask.NothingDue) 1
     ∷ comes (Accepted Call) 0
-    ∷ comes (Refused 37) 0
+    ∷ comes (Refused ask.ParametersEmpty) 0
     ∷ []
 
 abbrev pub after_move : Work → Result

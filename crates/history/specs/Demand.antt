@@ -1,12 +1,11 @@
 -- Demand 3 of document 01, and what document 02 adds to it: what holds of every list of steps.
-use Rattle.std.specs.Prelude.{ℕ, suc, ◌+◌, ◌*◌, ◌≤◌, ◌<◌, ◌≡◌, Bool, true, List, length, leb, ℤ, pos, ◌+ℤ◌}
+use Rattle.std.specs.Prelude.{ℕ, suc, ◌+◌, ◌*◌, ◌≤◌, ◌<◌, ◌≡◌, Bool, true, List, length, leb, ℤ, pos, ◌+ℤ◌, None}
 use Rattle.std.specs.Int.Signed.{le_z}
 use Rattle.contract.specs.Limits.{top}
 use Rattle.laws.specs.Lists.{every}
 use Rattle.numbers.specs.Numbers.{within}
 use Rattle.contract.specs.Decode.{contract_of}
 use Rattle.state.specs.declared.State.{State}
-use Rattle.state.specs.declared.Due.TheVariants.{Nothing}
 use Rattle.state.specs.States.{fresh_at, state_ok, due_in}
 use Rattle.statements.specs.declared.Label.{Label}
 use Rattle.outcomes.specs.declared.Rule.TheVariants.{Tick}
@@ -26,7 +25,7 @@ pub record Same (w : List ℕ) (s : State) (xs ys : List Step) (rs : List Return
 -- after firings with these label slices: none was refused, nothing is due, and a tick is accepted and takes the clock one further
 pub record Cleared (w : List ℕ) (s : State) (ls : List (List Label)) : Type 0 where
   pub none-refused : none_refused (history w s (firings ls)).answers ≡ true
-  pub nothing_due : due_in (contract_of w) (history w s (firings ls)).state ≡ Nothing
+  pub nothing_due : due_in (contract_of w) (history w s (firings ls)).state ≡ None
   pub tick_accepted : (l : List Label) → room_needed (contract_of w) ≤ length l
       → (answer_to w (history w s (firings ls)).state (record { request = tick; slice = l })).outcome ≡ Accepted Tick
   pub clock_rises : (l : List Label) → room_needed (contract_of w) ≤ length l
@@ -55,25 +54,25 @@ pub record IsTicks (w : List ℕ) (s : State) (T : ℤ) (r : Stepped) : Type 0 w
   pub all_ticks : (ls : List (List Label)) → length ls ≡ count → all_roomy w ls ≡ true → AllTicks (history w s (ticks ls)).answers
   pub same : (ls : List (List Label)) → length ls ≡ count → all_roomy w ls ≡ true → r ≡ answered (Accepted Tick) (history w s (ticks ls)).state
   -- after fewer nothing is due
-  pub not_before : (ls : List (List Label)) → length ls < count → all_roomy w ls ≡ true → due_in (contract_of w) (history w s (ticks ls)).state ≡ Nothing
+  pub not_before : (ls : List (List Label)) → length ls < count → all_roomy w ls ≡ true → due_in (contract_of w) (history w s (ticks ls)).state ≡ None
   -- the clock rises by one a tick
   pub clock_rises : r.state.clock ≡ s.clock + count
   -- T is not passed, and it is reached if nothing is due
   pub no_further : le_z (pos r.state.clock) T ≡ true
-  pub due_or_there : due_in (contract_of w) r.state ≡ Nothing → pos r.state.clock ≡ T
+  pub due_or_there : due_in (contract_of w) r.state ≡ None → pos r.state.clock ≡ T
 
 -- a jump with T not before the clock, from an agreed state with nothing due; proved (`jump_ticks`) of every table that question 3 passes and
 -- every state that question 4 passes; a field of `Holds` below
 abbrev pub JumpIsTicks : List ℕ → State → Type 0
 JumpIsTicks w s =
-    s.agreed ≡ true → due_in (contract_of w) s ≡ Nothing → (T : ℤ) → within T ≡ true → le_z (pos s.clock) T ≡ true
+    s.agreed ≡ true → due_in (contract_of w) s ≡ None → (T : ℤ) → within T ≡ true → le_z (pos s.clock) T ≡ true
     → (l : List Label) → roomy w l ≡ true → IsTicks w s T (answer_to w s (record { request = jump T; slice = l }))
 
 -- after steps towards T with these label slices: none was refused, the clock is T, and nothing is due
 pub record There (w : List ℕ) (T : ℤ) (s : State) (ls : List (List Label)) : Type 0 where
   pub none-refused : none_refused (history w s (steps_towards w T s ls)).answers ≡ true
   pub clock_is : pos (history w s (steps_towards w T s ls)).state.clock ≡ T
-  pub nothing_due : due_in (contract_of w) (history w s (steps_towards w T s ls)).state ≡ Nothing
+  pub nothing_due : due_in (contract_of w) (history w s (steps_towards w T s ls)).state ≡ None
 
 -- so many steps towards T, each given what question 20 wants: at most 2 times the pending events plus 1, so at most 129
 pub record Reaches (w : List ℕ) (T : ℤ) (s : State) : Type 0 where

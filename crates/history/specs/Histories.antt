@@ -1,12 +1,10 @@
 -- Lists of agreements, calls, firings, ticks and jumps, each with any arguments and a lent label slice of any length.
-use Rattle.std.specs.Prelude.{ℕ, suc, ◌+◌, ◌*◌, ◌≡◌, Bool, true, false, not, ◌&&◌, List, [], ◌∷◌, ◌++◌, length, take, eqb, ℤ, pos, ◌+ℤ◌}
+use Rattle.std.specs.Prelude.{ℕ, suc, ◌+◌, ◌*◌, ◌≡◌, Bool, true, false, not, ◌&&◌, List, [], ◌∷◌, ◌++◌, length, take, eqb, ℤ, pos, ◌+ℤ◌, Option, Some, None}
 use Rattle.laws.specs.Choice.{pick}
 use Rattle.laws.specs.Lists.{every, keep}
 use Rattle.numbers.specs.Numbers.{within}
 use Rattle.contract.specs.Decode.{contract_of}
 use Rattle.state.specs.declared.State.{State}
-use Rattle.state.specs.declared.Due.{Due}
-use Rattle.state.specs.declared.Due.TheVariants as due
 use Rattle.state.specs.States.{due_in}
 use Rattle.statements.specs.declared.Label.{Label}
 use Rattle.statements.specs.Running.{asset_label}
@@ -147,9 +145,9 @@ ticks [] = []
 ticks (l ∷ ls) = record { request = tick; slice = l } ∷ ticks ls
 
 -- towards clock T: a firing where an event is due, else a jump to T
-abbrev pub towards : ℤ → Due → Request
-towards T (due.At k) = firing
-towards T due.Nothing = jump T
+abbrev pub towards : ℤ → Option ℕ → Request
+towards T (Some k) = firing
+towards T None = jump T
 
 -- that request, with a label slice
 abbrev pub step_towards : List ℕ → ℤ → State → List Label → Step

@@ -18,7 +18,7 @@ use Rattle.pages.specs.Entries.{is_payout}
 use Rattle.pages.specs.Answers.{page_bytes, paged}
 use Rattle.pages.specs.Gathering.{payouts}
 use Rattle.pages.specs.Promises.{entries_in, taken, sheets_after, no_sheets, file_of, closed}
-use Rattle.pages.specs.declared.Paged.TheVariants as page
+use Rattle.std.specs.Prelude.{Ok}
 use Rattle.outcomes.specs.declared.Stepped.{Stepped}
 use Rattle.outcomes.specs.Outcomes.{refused}
 use Rattle.machine.specs.Steps.{requested, step}
@@ -27,6 +27,7 @@ use Rattle.machine.specs.Sessions.{Said, asks, unread, heard, Turn, takes, wait,
 use Rattle.history.specs.Histories.{Step, Returned, history}
 use Rattle.history.specs.Demand.{Demand}
 use Rattle.history.specs.Settled.{settled, labels_in}
+use Rattle.questions.specs.Numbers.{number_of}
 
 -- arrays of full length and 64-bit integers, as every state has that code holds
 pub record Stored (s : State) : Type 0 where
@@ -115,7 +116,7 @@ lines_of r = report_of r.left.outcome r.left.state.state r.left.state.clock ∷ 
 -- the result lines of what is taken up, given the answers to the steps among it
 unfoldable pub told_by : List Said → List Returned → List Report
 told_by [] rs = []
-told_by (unread n ∷ xs) rs = report.Refused n ∷ told_by xs rs
+told_by (unread q ∷ xs) rs = report.Refused (number_of q) ∷ told_by xs rs
 told_by (asks q ∷ xs) [] = []
 told_by (asks q ∷ xs) (r ∷ rs) = lines_of r ++ told_by xs rs
 
@@ -163,9 +164,9 @@ pub record Serves (w : List ℕ) (clock : ℕ) (ws : List Window) (slice : List 
   -- and `page` accepts what that loop hands to it: the entries that wait after any line r, so also those that fill a page, and at the end
   pub asked : (numbers : List ℕ) (values : List ℤ) → 300 ≤ length numbers → 60 ≤ length values → (size : ℕ) → page_bytes ≤ size
       → (rs more : List Report) (r : Report) → (windows (contract_of w) ws (fresh_at clock)).reports ≡ rs ++ (r ∷ more)
-      → paged w (entries_in (taken (sheets_after (contract_of w) (no_sheets numbers values) rs) r)) size ≡ page.Accepted
+      → paged w (entries_in (taken (sheets_after (contract_of w) (no_sheets numbers values) rs) r)) size ≡ Ok tt
   pub asked_last : (numbers : List ℕ) (values : List ℤ) → 300 ≤ length numbers → 60 ≤ length values → (size : ℕ) → page_bytes ≤ size
-      → paged w (entries_in (sheets_after (contract_of w) (no_sheets numbers values) (windows (contract_of w) ws (fresh_at clock)).reports)) size ≡ page.Accepted
+      → paged w (entries_in (sheets_after (contract_of w) (no_sheets numbers values) (windows (contract_of w) ws (fresh_at clock)).reports)) size ≡ Ok tt
 
 -- proved (`desk`) of tables that pass, clocks up to top, and slices of `room_needed` entries or more, for all windows: the arguments of a
 -- line that is read are within 64 bits

@@ -1,5 +1,5 @@
 -- Demand 1 of document 01: what is refused writes to nothing that was lent, but for a reading, whose table becomes zeros.
-use Rattle.std.specs.Prelude.{ℕ, ◌≡◌, Bool, true, false, List, ℤ}
+use Rattle.std.specs.Prelude.{ℕ, ◌≡◌, Bool, true, false, List, ℤ, Some}
 use Rattle.std.proofs.lemmas.List.Edits.{sets}
 use Rattle.contract.specs.Tree.{Contract}
 use Rattle.contract.specs.Check.{ranges}
@@ -15,6 +15,9 @@ use Rattle.outcomes.specs.declared.Outcome.TheVariants.{Accepted, Failed, Refuse
 use Rattle.machine.specs.Sessions.{unread, heard, not_played, played, reports_of}
 use Rattle.history.specs.Histories.{Step, answer_to, returned, is_refused, within64}
 use Rattle.history.specs.Sessions.{Stored}
+use Rattle.questions.specs.declared.Question.TheVariants as ask
+use Rattle.questions.specs.declared.Question.{Question}
+use Rattle.questions.specs.Numbers.{number_of}
 
 -- accepted by a rule: neither refused nor a firing that fails
 abbrev pub by_rule : Outcome → Bool
@@ -31,25 +34,26 @@ pub record Untouched : Type 0 where
   pub table : (text : List ℕ) (words q p : ℕ) → read_text text words ≡ refused q p → table_of words (read_text text words) ≡ zeros words
   -- and every step on that table answers 3
   pub unread_table : (text : List ℕ) (words q p : ℕ) (s : State) (a : Step) → read_text text words ≡ refused q p
-      → (answer_to (table_of words (read_text text words)) s a).outcome ≡ Refused 3
+      → (answer_to (table_of words (read_text text words)) s a).outcome ≡ Refused ask.TableCheck
   -- a refused writing of result lines leaves the bytes that were lent for them
   pub results : RefusedWritesNothing
   -- a refused settlement page leaves the bytes that were lent for it
   pub page : RefusedPage
   -- a session line that questions 50 and 51 refuse leaves the state
-  pub line : (c : Contract) (s : State) (n : ℕ) → (heard c s (unread n)).state ≡ s
+  pub line : (c : Contract) (s : State) (q : Question) → (heard c s (unread q)).state ≡ s
   -- a session that is refused hands back the state it was given, takes no byte and tells nothing
-  pub session_state : (w : List ℕ) (s : State) (bytes : List ℕ) (room : ℕ) → ((played w s bytes room).question ≡ 0 → ⊥)
-      → played w s bytes room ≡ not_played s (played w s bytes room).question
+  pub session_state : (w : List ℕ) (s : State) (bytes : List ℕ) (room : ℕ) (q : Question) → (played w s bytes room).question ≡ Some q
+      → played w s bytes room ≡ not_played s q
   -- and leaves both lists that were lent for its result lines
-  pub session : (w : List ℕ) (s : State) (bytes : List ℕ) (room : ℕ) (numbers : List ℕ) (integers : List ℤ) → ((played w s bytes room).question ≡ 0 → ⊥)
+  pub session : (w : List ℕ) (s : State) (bytes : List ℕ) (room : ℕ) (numbers : List ℕ) (integers : List ℤ) (q : Question)
+      → (played w s bytes room).question ≡ Some q
       → (sets numbers 0 (coded_all (reports_of w s bytes room)) ≡ numbers) × (sets integers 0 (integers_of (reports_of w s bytes room)) ≡ integers)
 
 -- a refused step has one of the documents' numbers for steps and session lines, a failed firing one of questions 30 to 36
 abbrev pub number_ok : Outcome → Bool
 number_ok (Accepted r) = true
-number_ok (Failed n) = ranges 30 n 36
-number_ok (Refused n) = refusal n
+number_ok (Failed q) = ranges 30 (number_of q) 36
+number_ok (Refused q) = refusal (number_of q)
 
 -- proved (`numbered`), of any table and slice
 abbrev pub Numbered : Type 0

@@ -13,8 +13,10 @@ use borrow.Author.Tests.{ltb-true, ltb-false, leb-true, eqb-true, eqb-false}
 use Rattle.laws.proofs.Choice.{by_cases}
 use Rattle.numbers.specs.declared.Value.{Value}
 use Rattle.numbers.specs.declared.Value.TheVariants.{Integer, Text}
-use Rattle.numbers.specs.declared.Answer.{Answer}
-use Rattle.numbers.specs.declared.Answer.TheVariants as answer
+use Rattle.std.specs.Prelude.{None, Some, Ok, Err}
+use Rattle.questions.specs.declared.Question.{Question}
+use Rattle.questions.specs.declared.Question.TheVariants as ask
+use Rattle.numbers.specs.Numbers.{Answer}
 use Rattle.contract.specs.Limits.{top, max_parties, max_assets, max_parameters}
 use Rattle.contract.specs.Check.{ranges}
 use Rattle.contract.specs.Fits.{Scope, holder_in, expression_in, action_in}
@@ -60,11 +62,11 @@ module _ (c : Scope) (l : Limited c) where
 module _ (v : List ℤ) (t : ℕ) where
   -- statement s on work w gives this work
   pub data Acted (w : Work) (s : Statement) (most : ℕ) (w' : Work) : Type 0 where
-    goes : (ls : List Label) → w'.refusal ≡ 0 → Room most w' → labels_of w' ≡ labels_of w ++ ls
+    goes : (ls : List Label) → w'.refusal ≡ None → Room most w' → labels_of w' ≡ labels_of w ++ ls
         → ((rest : List Statement) → Table3 (memory_in v t w) (s ∷ rest) ls (memory_in v t w') rest) → Acted w s most w'
-    sticks : Meets (memory_in v t w) s w'.refusal → Stops w'.refusal → Acted w s most w'
+    sticks : {q : Question} → w'.refusal ≡ Some q → Meets (memory_in v t w) s q → Stops q → Acted w s most w'
 
-  module _ {m : ℕ} {w : Work} (o : Room m w) (z : w.refusal ≡ 0) (few : m < max_labels) where
+  module _ {m : ℕ} {w : Work} (o : Room m w) (z : w.refusal ≡ None) (few : m < max_labels) where
     more : {w' : Work} → w'.labels ≡ w.labels → w'.count ≡ w.count → Room (suc m) w'
     more e c = record { labels_length = ap length e ∙ o.labels_length; few = omega (arith, o.few) }
 
@@ -72,7 +74,7 @@ module _ (v : List ℤ) (t : ℕ) where
     same_labels = sym (append-nil (labels_of w))
 
     -- one label more, on the memory of x
-    labelled_goes : (s : Statement) (x : Work) (kind party : ℕ) (value : ℤ) → x.labels ≡ w.labels → x.count ≡ w.count → x.refusal ≡ 0
+    labelled_goes : (s : Statement) (x : Work) (kind party : ℕ) (value : ℤ) → x.labels ≡ w.labels → x.count ≡ w.count → x.refusal ≡ None
         → ((rest : List Statement) → Table3 (memory_in v t w) (s ∷ rest) (record { kind = kind; party = party; value = value } ∷ []) (memory_in v t x) rest)
         → Acted w s (suc m) (labelled x kind party value)
     unfolding labelled
@@ -84,56 +86,56 @@ module _ (v : List ℤ) (t : ℕ) where
         (take-suc-set x.labels x.count l (omega (arith, ap length le, o.few, o.labels_length)) ∙ (λ i. take (ce i) (le i) ++ (l ∷ []))) r)
         (λ h. absurd (omega (arith, ltb-false x.count max_labels h, o.few)))
 
-    sent_goes : (e : Expression) (a : ℕ) (x : Value) → value_of (memory_in v t w) e ≡ answer.Is x → Acted w (act (send e a)) (suc m) (sent w a x)
+    sent_goes : (e : Expression) (a : ℕ) (x : Value) → value_of (memory_in v t w) e ≡ Ok x → Acted w (act (send e a)) (suc m) (sent w a x)
     sent_goes e a (Integer y) h = labelled_goes (act (send e a)) w integer_label a y refl refl z (λ rest. value_send h)
     sent_goes e a (Text n) h = labelled_goes (act (send e a)) w string_label a (pos n) refl refl z (λ rest. value_send h)
 
-    stored_goes : (e : Expression) (x : ℕ) (y : Value) → value_of (memory_in v t w) e ≡ answer.Is y → Acted w (act (assign e x)) (suc m) (stored w x y)
+    stored_goes : (e : Expression) (x : ℕ) (y : Value) → value_of (memory_in v t w) e ≡ Ok y → Acted w (act (assign e x)) (suc m) (stored w x y)
     stored_goes e x (Integer y) h = goes [] z (more refl refl) same_labels (λ rest. field_update h)
     stored_goes e x (Text n) h = goes [] z (more refl refl) same_labels (λ rest. field_update h)
 
     -- ---- amounts
 
     module _ (e : Expression) (h : Holder) where
-      paid_acts : (a n : ℕ) → value_of (memory_in v t w) e ≡ answer.Is (Integer (pos n)) → Acted w (act (pay e h a)) (suc m) (paid w (place_of h) a n)
+      paid_acts : (a n : ℕ) → value_of (memory_in v t w) e ≡ Ok (Integer (pos n)) → Acted w (act (pay e h a)) (suc m) (paid w (place_of h) a n)
       unfolding paid ranges
       paid_acts a n g =
           by_cases (Acted w (act (pay e h a)) (suc m)) _ _ _
-          (λ l. sticks (pay_meets (uncovered g (ltb-true (amount_at w (place_of h)) n l))) refl)
+          (λ l. sticks refl (pay_meets (uncovered g (ltb-true (amount_at w (place_of h)) n l))) refl)
           (λ l. labelled_goes (act (pay e h a)) _ asset_label a (pos n) refl refl z (λ rest. asset_send g (ltb-false (amount_at w (place_of h)) n l)))
 
-      moved_acts : (k : Holder) → place_of k < max_holdings → (n : ℕ) → value_of (memory_in v t w) e ≡ answer.Is (Integer (pos n)) → Acted w (act (move e h k)) (suc m) (moved w (place_of h) (place_of k) n)
+      moved_acts : (k : Holder) → place_of k < max_holdings → (n : ℕ) → value_of (memory_in v t w) e ≡ Ok (Integer (pos n)) → Acted w (act (move e h k)) (suc m) (moved w (place_of h) (place_of k) n)
       unfolding moved ranges
       moved_acts k p n g =
           by_cases (Acted w (act (move e h k)) (suc m)) _ _ _
-          (λ l. sticks (move_meets (uncovered g (ltb-true (amount_at w (place_of h)) n l))) refl) λ l.
+          (λ l. sticks refl (move_meets (uncovered g (ltb-true (amount_at w (place_of h)) n l))) refl) λ l.
           by_cases (Acted w (act (move e h k)) (suc m)) _ _ _
           (λ x. absurd (omega (arith, leb-true max_holdings (place_of k) x))) λ _.
           by_cases (Acted w (act (move e h k)) (suc m)) _ _ _
           (λ d. goes [] z (more refl refl) same_labels
           (λ rest. asset_update_self g (ltb-false (amount_at w (place_of h)) n l) (eqb-true (place_of h) (place_of k) d))) λ d.
           by_cases (Acted w (act (move e h k)) (suc m)) _ _ _
-          (λ f. sticks
+          (λ f. sticks refl
           (move_full g (ltb-false (amount_at w (place_of h)) n l) (eqb-false (place_of h) (place_of k) d) (ltb-true top (amount_at w (place_of k) + n) f)) refl) λ f.
           goes [] z (more refl refl) same_labels
           (λ rest. asset_update g (ltb-false (amount_at w (place_of h)) n l) (eqb-false (place_of h) (place_of k) d)
           (ltb-false top (amount_at w (place_of k) + n) f))
 
       -- with an amount, of a statement that asks for one
-      amount_acts : (s : Statement) (f : ℕ → Work) → ((n : ℕ) → NoAmount (memory_in v t w) e h n → Meets (memory_in v t w) s n)
-          → ((n : ℕ) → value_of (memory_in v t w) e ≡ answer.Is (Integer (pos n)) → Acted w s (suc m) (f n))
+      amount_acts : (s : Statement) (f : ℕ → Work) → ((q : Question) → NoAmount (memory_in v t w) e h q → Meets (memory_in v t w) s q)
+          → ((n : ℕ) → value_of (memory_in v t w) e ≡ Ok (Integer (pos n)) → Acted w s (suc m) (f n))
           → (x : Answer) → AnswerStops x → value_of (memory_in v t w) e ≡ x → Acted w s (suc m) (running.with_amount w x f)
       unfolding ranges
-      amount_acts s f i g (answer.Refused n) k q = sticks (i n (refuses q)) k
-      amount_acts s f i g (answer.Is (Text n)) k q = sticks (i 31 (string q)) refl
-      amount_acts s f i g (answer.Is (Integer (pos n))) k q = g n q
-      amount_acts s f i g (answer.Is (Integer (negsuc n))) k q = sticks (i 34 (negative q)) refl
+      amount_acts s f i g (Err n) k q = sticks refl (i n (refuses q)) k
+      amount_acts s f i g (Ok (Text n)) k q = sticks refl (i ask.OperandKind (string q)) refl
+      amount_acts s f i g (Ok (Integer (pos n))) k q = g n q
+      amount_acts s f i g (Ok (Integer (negsuc n))) k q = sticks refl (i ask.AmountSign (negative q)) refl
 
-    value_acts : (e : Expression) (s : Statement) (f : Value → Work) → ((n : ℕ) → value_of (memory_in v t w) e ≡ answer.Refused n → Meets (memory_in v t w) s n)
-        → ((y : Value) → value_of (memory_in v t w) e ≡ answer.Is y → Acted w s (suc m) (f y))
+    value_acts : (e : Expression) (s : Statement) (f : Value → Work) → ((q : Question) → value_of (memory_in v t w) e ≡ Err q → Meets (memory_in v t w) s q)
+        → ((y : Value) → value_of (memory_in v t w) e ≡ Ok y → Acted w s (suc m) (f y))
         → (x : Answer) → AnswerStops x → value_of (memory_in v t w) e ≡ x → Acted w s (suc m) (running.with_value w x f)
-    value_acts e s f i g (answer.Refused n) k q = sticks (i n q) k
-    value_acts e s f i g (answer.Is y) k q = g y q
+    value_acts e s f i g (Err n) k q = sticks refl (i n q) k
+    value_acts e s f i g (Ok y) k q = g y q
 
     -- in scope, at the machine's places
     module _ (c : Scope) (l : Limited c) (e : Expression) (j : expression_in c e ≡ true) (h : Holder) (i : holder_in c h ≡ true) where

@@ -17,7 +17,9 @@ use Rattle.laws.proofs.Choice.{by_cases, pick_true, pick_false, true_false}
 use Rattle.laws.proofs.Bytes.{same_refl, same_equal}
 use Rattle.numbers.specs.Numbers.{eq_z}
 use Rattle.numbers.specs.declared.Value.TheVariants.{Integer, Text}
-use Rattle.numbers.specs.declared.Answer.TheVariants.{Is, Refused}
+use Rattle.std.specs.Prelude.{Ok, Err}
+use Rattle.questions.specs.declared.Question.{Question}
+use Rattle.questions.specs.declared.Question.TheVariants as ask
 use Rattle.contract.specs.Tree as tree
 use Rattle.contract.specs.Tree.{Word, Verb, Clause, Contract}
 use Rattle.laws.proofs.Members.{below_at}
@@ -152,17 +154,17 @@ integers_equal : (a : ℤ) → eq_z a a ≡ true
 integers_equal (pos a) = eq-eqb a a refl
 integers_equal (negsuc a) = eq-eqb a a refl
 
-integer_field : (kind : ℕ) (number z : ℤ) (text : ℕ) → eqb kind 1 ≡ true → eq_z number z ≡ true → field_value kind number text ≡ Is (Integer z)
+integer_field : (kind : ℕ) (number z : ℤ) (text : ℕ) → eqb kind 1 ≡ true → eq_z number z ≡ true → field_value kind number text ≡ Ok (Integer z)
 unfolding field_value pick
 integer_field kind number z text e q =
     let k : kind ≡ 1 = eqb-true kind 1 e in
-    ap (λ (n : ℕ). field_value n number text) k ∙ ap (λ (y : ℤ). Is (Integer y)) (equal_integers number z q)
+    ap (λ (n : ℕ). field_value n number text) k ∙ ap (λ (y : ℤ). Ok (Integer y)) (equal_integers number z q)
 
-field_integer : (kind : ℕ) (number z : ℤ) (text : ℕ) → field_value kind number text ≡ Is (Integer z) → eqb kind 1 && eq_z number z ≡ true
+field_integer : (kind : ℕ) (number z : ℤ) (text : ℕ) → field_value kind number text ≡ Ok (Integer z) → eqb kind 1 && eq_z number z ≡ true
 unfolding field_value pick
 field_integer kind number z text = go (eqb kind 0) (eqb kind 1)
   where
-    go : (a b : Bool) → pick a (Refused 30) (pick b (Is (Integer number)) (Is (Text text))) ≡ Is (Integer z) → b && eq_z number z ≡ true
+    go : (a b : Bool) → pick a (Err ask.FieldValue) (pick b (Ok (Integer number)) (Ok (Text text))) ≡ Ok (Integer z) → b && eq_z number z ≡ true
     go true b e = let y : ◌≡◌ {A = ℕ} 0 1 = cc in absurd (omega arith)
     go false true e = let y : number ≡ z = cc in subst (λ (x : ℤ). eq_z number x ≡ true) y (integers_equal number)
     go false false e = let y : ◌≡◌ {A = ℕ} 0 1 = cc in absurd (omega arith)
@@ -307,7 +309,7 @@ module _ (c : Contract) (s : State) (ps : List Part) (ok : state_ok c s ≡ true
   abbrev Derives : Stepped → Type 0
   Derives r = (C : Configuration) → Comes r (Accepted Agree) [] C → Table2 c (idle s) (agreement ps) C
 
-  refused_derives : (n : ℕ) → Derives (refused s n)
+  refused_derives : (n : Question) → Derives (refused s n)
   refused_derives n C o = let z : ◌≡◌ {A = ℕ} 0 1 = cc o.outcome_is in absurd (omega arith)
 
   idle_unagreed : s.agreed ≡ false → idle s ≡ runtime no_state (memory_at s) nothing (live s)
@@ -332,10 +334,10 @@ module _ (c : Contract) (s : State) (ps : List Part) (ok : state_ok c s ≡ true
   on_derives : Derives (agreed_on c s ps)
   unfolding agreed_on
   on_derives =
-      by_cases Derives _ _ _ (λ _. refused_derives 21) λ a.
+      by_cases Derives _ _ _ (λ _. refused_derives ask.NotAgreed) λ a.
       by_cases Derives _ _ _
-      (λ e. by_cases Derives _ _ _ (λ h. agrees_derives a e h) (λ _. refused_derives 24))
-      (λ _. refused_derives 23)
+      (λ e. by_cases Derives _ _ _ (λ h. agrees_derives a e h) (λ _. refused_derives ask.SameValues))
+      (λ _. refused_derives ask.SameClauses)
 
   pub agreement_derives : {C : Configuration} → Comes (agreed_on c s ps) (Accepted Agree) [] C → Table2 c (idle s) (agreement ps) C
   agreement_derives {C} o = on_derives C o

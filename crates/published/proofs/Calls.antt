@@ -10,8 +10,9 @@ use lib.IntN.{ℤ, pos, negsuc}
 use lib.Signed.{le_z}
 use borrow.Author.Tests.{eqb-true, eq-eqb, leb-true, le-leb}
 use Rattle.laws.proofs.Choice.{by_cases, pick_true, true_false}
-use Rattle.numbers.specs.declared.Truth.{Truth}
-use Rattle.numbers.specs.declared.Truth.TheVariants as truth
+use Rattle.questions.specs.declared.Question.{Question}
+use Rattle.questions.specs.declared.Question.TheVariants as ask
+use Rattle.numbers.specs.Numbers.{Truth}
 use Rattle.contract.specs.Limits.{max_assets}
 use Rattle.contract.specs.Tree.{Function, Contract}
 use Rattle.contract.specs.Fits.{scope_of, scope_in, function_in}
@@ -22,8 +23,7 @@ use Rattle.contract.proofs.Fitting.{FitsContract, fits_function}
 use Rattle.evaluation.specs.Memory.{Memory}
 use Rattle.state.specs.declared.State.{State}
 use Rattle.state.specs.declared.Pending.{Pending}
-use Rattle.state.specs.declared.Due.{Due}
-use Rattle.state.specs.declared.Due.TheVariants as due
+use Rattle.std.specs.Prelude.{Option, Some, None, Ok, Err}
 use Rattle.state.specs.States.{max_pending, live, due_in}
 use Rattle.statements.specs.declared.Label.{Label}
 use Rattle.statements.specs.Running.{memory_in}
@@ -33,13 +33,14 @@ use Rattle.outcomes.specs.declared.Stepped.{Stepped}
 use Rattle.outcomes.specs.Outcomes.{refused}
 use Rattle.holdings.specs.Holdings.{amounts}
 use Rattle.machine.specs.Steps.{accepted, begun, ended, Invocation, Chosen, chosen, unknown, choose, precondition_holds, Scheduled, times, no, schedule, with_scheduled, finished, by_precondition, invoked, by_chosen, call_by_due, called}
+use Rattle.machine.proofs.Refusals.{by_refusal}
 use Rattle.history.proofs.Cases.{body_ran}
 use Rattle.published.specs.Published.{here, there, Configuration, runtime, in_state, nothing, in_order, bound, unbound, Statements, First, Called, Times, integers, call, function, state_change, Whole, whole, phase_of, memory_at, idle, Comes}
 use Rattle.published.proofs.Actions.{labels_of}
 use Rattle.published.proofs.Bodies.{Fit, body_runs, body_counts, run_is}
 use Rattle.published.proofs.Finding.{none_ready, ready_none, first_called, called_first}
 use Rattle.published.proofs.Guards.{schedule_times, times_schedule}
-use Rattle.published.proofs.Idle.{idle_standing, idle_ended, comes_by, whole_same, starts}
+use Rattle.published.proofs.Idle.{idle_standing, idle_ended, comes_by, goes_on, whole_same, starts}
 
 -- ---- asset arguments of 0 or more are amounts
 
@@ -86,7 +87,7 @@ module _ (c : Contract) (fit : FitsContract c) (s : State) (i : Invocation) wher
         few = omega (arith, g.body_few);
       }
 
-  pub call_counts : (n : ℕ) (f : Function) → choose c s i 0 c.functions ≡ chosen n f → (body_ran s i f).refusal ≡ 0 → (body_ran s i f).count ≡ length (labels_of (body_ran s i f))
+  pub call_counts : (n : ℕ) (f : Function) → choose c s i 0 c.functions ≡ chosen n f → (body_ran s i f).refusal ≡ None → (body_ran s i f).count ≡ length (labels_of (body_ran s i f))
   call_counts n f e z = body_counts s i.values (amounts i.assets) f.body (body_fit (first_called c s i 0 n f c.functions e).2) z
 
   -- ---- from the machine to the rules
@@ -94,13 +95,13 @@ module _ (c : Contract) (fit : FitsContract c) (s : State) (i : Invocation) wher
   abbrev Derives : Stepped → Type 0
   Derives r = (ls : List Label) (C : Configuration) → Comes r (Accepted Call) ls C → Whole c (idle s) (call i) ls C
 
-  refused_derives : (n : ℕ) → Derives (refused s n)
+  refused_derives : (n : Question) → Derives (refused s n)
   refused_derives n ls C o = let z : ◌≡◌ {A = ℕ} 0 1 = cc o.outcome_is in absurd (omega arith)
 
-  module _ (a : s.agreed ≡ true) (d : due_in c s ≡ due.Nothing) {n : ℕ} {f : Function} (h : First (Called c s.state i) n f c.functions) where
+  module _ (a : s.agreed ≡ true) (d : due_in c s ≡ None) {n : ℕ} {f : Function} (h : First (Called c s.state i) n f c.functions) where
     module _ (v : length i.values ≡ length f.values) (l : length i.assets ≡ length f.parameters) (p : every (le_z (pos 0)) i.assets ≡ true) where
-      module _ (q : precondition_holds (bound (memory_at s) i.values (amounts i.assets)) f.precondition ≡ truth.Holds true) where
-        scheduled_derives : (body_ran s i f).refusal ≡ 0 → every (λ a. eqb a 0) (drop max_assets (body_ran s i f).holdings) ≡ true → (z : Scheduled)
+      module _ (q : precondition_holds (bound (memory_at s) i.values (amounts i.assets)) f.precondition ≡ Ok true) where
+        scheduled_derives : (body_ran s i f).refusal ≡ None → every (λ a. eqb a 0) (drop max_assets (body_ran s i f).holdings) ≡ true → (z : Scheduled)
             → schedule (memory_in i.values s.clock (body_ran s i f)) s.clock n 0 f.events ≡ z
             → Derives (with_scheduled s (body_ran s i f) f.last z)
         scheduled_derives w e (no k) t = refused_derives k
@@ -112,20 +113,20 @@ module _ (c : Contract) (fit : FitsContract c) (s : State) (i : Invocation) wher
             (function (amounts i.assets) h (none_ready c s d) v (length_amounts i.assets ∙ l) (integers_amounts i.assets p) q)
             (body_runs s i.values (amounts i.assets) f.body (body_fit h) w)
             (state_change e (schedule_times (memory_in i.values s.clock (body_ran s i f)) n 0 f.events ps t) (leb-true (length (live s) + length ps) max_pending r))))
-            (λ _. refused_derives 39)
+            (λ _. refused_derives ask.PendingRoom)
 
         finished_derives : Derives (finished s n f i.values (body_ran s i f))
         unfolding finished
         finished_derives =
-            by_cases Derives _ _ _
-            (λ w. by_cases Derives _ _ _ (λ e. scheduled_derives (eqb-true (body_ran s i f).refusal 0 w) e _ refl) (λ _. refused_derives 37))
-            (λ _. refused_derives _)
+            by_refusal Derives (body_ran s i f).refusal (refused s) _
+            (λ w. by_cases Derives (every (λ a. eqb a 0) (drop max_assets (body_ran s i f).holdings)) _ _ (λ e. scheduled_derives w e _ refl) (λ _. refused_derives ask.ParametersEmpty))
+            (λ q _. refused_derives q)
 
       precondition_derives : (t : Truth) → precondition_holds (bound (memory_at s) i.values (amounts i.assets)) f.precondition ≡ t
           → Derives (by_precondition s n f i.values (begun s (amounts i.assets)) t)
-      precondition_derives (truth.Refused k) q = refused_derives k
-      precondition_derives (truth.Holds false) q = refused_derives 29
-      precondition_derives (truth.Holds true) q = finished_derives q
+      precondition_derives (Err k) q = refused_derives k
+      precondition_derives (Ok false) q = refused_derives ask.Precondition
+      precondition_derives (Ok true) q = finished_derives q
 
     invoked_derives : Derives (invoked s i n f)
     unfolding invoked
@@ -136,23 +137,23 @@ module _ (c : Contract) (fit : FitsContract c) (s : State) (i : Invocation) wher
         (eqb-true _ _ (both_left (eqb (length i.values) (length f.values)) (eqb (length i.assets) (length f.parameters)) v))
         (eqb-true _ _ (both_right (eqb (length i.values) (length f.values)) (eqb (length i.assets) (length f.parameters)) v))
         p (precondition_holds (memory_in i.values s.clock (begun s (amounts i.assets))) f.precondition) refl)
-        (λ _. refused_derives 28))
-        (λ _. refused_derives 27)
+        (λ _. refused_derives ask.AssetArguments))
+        (λ _. refused_derives ask.ArgumentCount)
 
-  chosen_derives : s.agreed ≡ true → due_in c s ≡ due.Nothing → (z : Chosen) → choose c s i 0 c.functions ≡ z → Derives (by_chosen s i z)
-  chosen_derives a d unknown e = refused_derives 26
+  chosen_derives : s.agreed ≡ true → due_in c s ≡ None → (z : Chosen) → choose c s i 0 c.functions ≡ z → Derives (by_chosen s i z)
+  chosen_derives a d unknown e = refused_derives ask.FunctionKnown
   chosen_derives a d (chosen n f) e =
       let h = first_called c s i 0 n f c.functions e in
       let k : h.0 ≡ n = omega (arith, h.1) in
       invoked_derives a d (subst (λ (j : ℕ). First (Called c s.state i) j f c.functions) k h.2)
 
-  due_derives : s.agreed ≡ true → (d : Due) → due_in c s ≡ d → Derives (call_by_due c s i d)
-  due_derives a (due.At k) d = refused_derives 25
-  due_derives a due.Nothing d = chosen_derives a d (choose c s i 0 c.functions) refl
+  due_derives : s.agreed ≡ true → (d : Option ℕ) → due_in c s ≡ d → Derives (call_by_due c s i d)
+  due_derives a (Some k) d = refused_derives ask.NothingDue
+  due_derives a None d = chosen_derives a d (choose c s i 0 c.functions) refl
 
   called_derives : Derives (called c s i)
   unfolding called
-  called_derives = by_cases Derives _ _ _ (λ a. due_derives a (due_in c s) refl) (λ _. refused_derives 22)
+  called_derives = by_cases Derives _ _ _ (λ a. due_derives a (due_in c s) refl) (λ _. refused_derives ask.Agreed)
 
   pub call_derives : {ls : List Label} {C : Configuration} → Comes (called c s i) (Accepted Call) ls C → Whole c (idle s) (call i) ls C
   call_derives {ls} {C} o = called_derives ls C o
@@ -161,13 +162,13 @@ module _ (c : Contract) (fit : FitsContract c) (s : State) (i : Invocation) wher
 
   module _ {n : ℕ} (f : Function) {ps : List Pending}
       (v : length i.values ≡ length f.values) (l : length i.assets ≡ length f.parameters) (p : every (le_z (pos 0)) i.assets ≡ true)
-      (q : precondition_holds (bound (memory_at s) i.values (amounts i.assets)) f.precondition ≡ truth.Holds true)
-      (w : (body_ran s i f).refusal ≡ 0) (e : every (λ a. eqb a 0) (drop max_assets (body_ran s i f).holdings) ≡ true)
+      (q : precondition_holds (bound (memory_at s) i.values (amounts i.assets)) f.precondition ≡ Ok true)
+      (w : (body_ran s i f).refusal ≡ None) (e : every (λ a. eqb a 0) (drop max_assets (body_ran s i f).holdings) ≡ true)
       (t : Times (memory_in i.values s.clock (body_ran s i f)) n 0 f.events ps) (r : length (live s) + length ps ≤ max_pending) where
     finished_is : finished s n f i.values (body_ran s i f) ≡ accepted Call (ended s (body_ran s i f) f.last (live s ++ ps)) (body_ran s i f)
     unfolding finished
     finished_is =
-        pick_true _ _ _ (eq-eqb (body_ran s i f).refusal 0 w)
+        goes_on _ _ w
         ∙ pick_true _ _ _ e
         ∙ ap (with_scheduled s (body_ran s i f) f.last) (times_schedule (memory_in i.values s.clock (body_ran s i f)) n 0 t)
         ∙ pick_true _ _ _ (le-leb (length (live s) + length ps) max_pending r)
@@ -193,7 +194,7 @@ module _ (c : Contract) (fit : FitsContract c) (s : State) (i : Invocation) wher
       ∙ ap (call_by_due c s i) (ready_none c s d)
       ∙ ap (by_chosen s i) (called_first c s i 0 h ∙ ap (λ (j : ℕ). chosen j f) (omega arith))
       ∙ invoked_is f v (ap length e ∙ length_integers vs ∙ l) (ap (every (le_z (pos 0))) e ∙ integers_positive vs)
-      (subst (λ (y : List ℕ). precondition_holds (bound (memory_at s) i.values y) f.precondition ≡ truth.Holds true) (sym same) q)
+      (subst (λ (y : List ℕ). precondition_holds (bound (memory_at s) i.values y) f.precondition ≡ Ok true) (sym same) q)
       run.0
       (subst (λ (y : Memory). every (λ a. eqb a 0) (drop max_assets y.holdings) ≡ true) (sym run.2) z)
       (subst (λ (y : Memory). Times y n 0 f.events ps) (sym run.2) t)

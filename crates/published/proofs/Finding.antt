@@ -15,7 +15,8 @@ use Rattle.contract.specs.Tree.{Function, Contract}
 use Rattle.laws.proofs.Truths.{both_left, both_right, both_true, not_so}
 use Rattle.state.specs.declared.State.{State}
 use Rattle.state.specs.declared.Pending.{Pending}
-use Rattle.state.specs.declared.Due.TheVariants.{At, Nothing}
+use Rattle.std.specs.Prelude.{Some}
+use Rattle.std.specs.declared.option.Option.TheVariants as option
 use Rattle.state.specs.States.{blank, live, event_of, is_due, stands_before, due_in, pending_at, FirstToFire, party_name}
 use Rattle.state.proofs.Dues.{function_before, event_before, before_by, same_clear, neither_before, first_to_fire, none_to_fire, one_to_fire, due_none}
 use Rattle.machine.specs.Steps.{Invocation, answers_to, chosen, choose}
@@ -95,13 +96,13 @@ module _ (c : Contract) (s : State) where
   unfolding is_due
   ready_is p r = both_true _ _ (eq-eqb _ _ r.at_time) (eq-eqb _ _ r.at_state)
 
-  pub none_ready : due_in c s ≡ Nothing → None ReadyNow (live s)
+  pub none_ready : due_in c s ≡ option.None → None ReadyNow (live s)
   none_ready e = none_by ReadyNow blank (live s) (λ j h r. true_false (sym (ready_is _ r) ∙ none_to_fire c s e j h))
 
-  pub ready_none : None ReadyNow (live s) → due_in c s ≡ Nothing
+  pub ready_none : None ReadyNow (live s) → due_in c s ≡ option.None
   ready_none n = due_none c s (λ j h. not_so _ λ e. none_told ReadyNow blank n j h (is_ready (pending_at s j) e))
 
-  pub some_ready : (k : ℕ) → due_in c s ≡ At k → (n : ℕ) × First ReadyNow n (pending_at s n) (live s)
+  pub some_ready : (k : ℕ) → due_in c s ≡ Some k → (n : ℕ) × First ReadyNow n (pending_at s n) (live s)
   some_ready k e =
       let f = first_to_fire c s k e in
       some_first ReadyNow blank (is_due c s) is_ready ready_is (live s) k f.is_pending (is_ready (pending_at s k) f.is-due)
@@ -124,7 +125,7 @@ module _ (c : Contract) (s : State) where
             none_by (Earlier p) blank (live s) (λ j h r. true_false (sym (before_is (pending_at s j) p r.1) ∙ f j h (ready_is (pending_at s j) r.0)));
       }
 
-  pub first_ready : (k : ℕ) → due_in c s ≡ At k → First ForemostNow k (pending_at s k) (live s)
+  pub first_ready : (k : ℕ) → due_in c s ≡ Some k → First ForemostNow k (pending_at s k) (live s)
   first_ready k e =
       let f : FirstToFire c s k = first_to_fire c s k e in
       first_by ForemostNow blank k (live s) f.is_pending (foremost_by (pending_at s k) f.is-due f.none_before) (older f)
@@ -137,7 +138,7 @@ module _ (c : Contract) (s : State) where
           (none_earlier (pending_at s j) o k f.is_pending f.is-due) in
           f.none_older j h d x.0 x.1
 
-  pub ready_first : {k : ℕ} {p : Pending} → First ForemostNow k p (live s) → due_in c s ≡ At k
+  pub ready_first : {k : ℕ} {p : Pending} → First ForemostNow k p (live s) → due_in c s ≡ Some k
   ready_first {k} {p} g =
       let f : FirstAt ForemostNow blank k p (live s) = first_told ForemostNow blank g in
       let o : ForemostNow (pending_at s k) = subst ForemostNow (sym f.there_is) f.has in

@@ -1,4 +1,4 @@
--- A firing is accepted exactly if EVENT MATCH, the handler's statements and STATE CHANGE lead to an idle state, and fails with number n
+-- A firing is accepted exactly if EVENT MATCH, the handler's statements and STATE CHANGE lead to an idle state, and fails with question n
 -- exactly if the handler's statements stick at no n. Assumes nothing.
 use mathlib.Core.Path.{◌≡◌, refl, sym, ap, subst, ◌∙◌}
 use mathlib.Core.Bool.{Bool, true, false}
@@ -7,8 +7,9 @@ use Prim.Native.Nat.{ℕ, ◌≤◌}
 use native.Mathlib.Omega.{arith}
 use lib.ListN.{length, drop}
 use lib.Dec.{eqb}
-use borrow.Author.Tests.{eq-eqb, ne_eqb}
-use Rattle.laws.proofs.Choice.{pick_true, pick_false}
+use Rattle.laws.proofs.Choice.{pick_true}
+use Rattle.std.specs.Prelude.{None, Some}
+use Rattle.questions.specs.declared.Question.{Question}
 use Rattle.contract.specs.Limits.{max_assets}
 use Rattle.contract.specs.Tree.{Contract}
 use Rattle.contract.specs.Fits.{scope_of}
@@ -34,9 +35,9 @@ use Rattle.published.specs.Published.{Configuration, runtime, in_state, nothing,
 use Rattle.published.proofs.Meeting.{meets_stuck}
 use Rattle.published.proofs.Actions.{labels_of}
 use Rattle.published.proofs.Blocks.{Sticks, at}
-use Rattle.published.proofs.Bodies.{Fit, body_runs, body_counts, body_sticks, body_stops, run_is, stick_refused, stick_is}
+use Rattle.published.proofs.Bodies.{Fit, body_runs, body_counts, body_sticks, body_stops, run_is, stick_is}
 use Rattle.published.proofs.Finding.{first_ready, ready_first, first_at}
-use Rattle.published.proofs.Idle.{standing, idle_standing, idle_ended, comes_by, whole_same, starts, nothing_bound}
+use Rattle.published.proofs.Idle.{standing, idle_standing, idle_ended, comes_by, goes_on, stops_at, whole_same, starts, nothing_bound}
 
 module _ (c : Contract) (b : Bounded c) (s : State) where
   handler_bounded : (k : ℕ) → BoundedEvent c (event_at c s k)
@@ -53,7 +54,7 @@ module _ (c : Contract) (b : Bounded c) (s : State) where
         few = omega (arith, (handler_bounded k).handler_few);
       }
 
-  pub handler_counts : (k : ℕ) → (handler_ran c s k).refusal ≡ 0 → (handler_ran c s k).count ≡ length (labels_of (handler_ran c s k))
+  pub handler_counts : (k : ℕ) → (handler_ran c s k).refusal ≡ None → (handler_ran c s k).count ≡ length (labels_of (handler_ran c s k))
   handler_counts k z = body_counts s [] [] (event_at c s k).handler (handler_fit k) z
 
   -- a handler names no parameter
@@ -81,7 +82,7 @@ module _ (c : Contract) (b : Bounded c) (s : State) where
   module _ (few : length (live s) ≤ max_pending) where
     fired_derives : {r : Stepped} {ls : List Label} {C : Configuration} → ComesOut c s steps.firing r → Comes r (Accepted EventMatch) ls C → Whole c (idle s) match ls C
     fired_derives (refusal n) o = let z : ◌≡◌ {A = ℕ} 0 1 = cc o.outcome_is in absurd (omega arith)
-    fired_derives (fails k a d h) o = let z : ◌≡◌ {A = ℕ} 0 1 = cc o.outcome_is in absurd (omega arith)
+    fired_derives (fails k x a d h) o = let z : ◌≡◌ {A = ℕ} 0 1 = cc o.outcome_is in absurd (omega arith)
     fired_derives {ls = ls} {C = C} (fires k a d h) o =
         whole_same (sym (idle_standing s a)) o.labels_are (sym (idle_fired k a) ∙ o.leads_to)
         (whole (event_match (first_ready c s k d)) (body_runs s [] [] (event_at c s k).handler (handler_fit k) h)
@@ -90,21 +91,21 @@ module _ (c : Contract) (b : Bounded c) (s : State) where
     pub firing_derives : {ls : List Label} {C : Configuration} → Comes (fired c s) (Accepted EventMatch) ls C → Whole c (idle s) match ls C
     firing_derives o = fired_derives (firing_came c s) o
 
-  failed_derives : {r : Stepped} {n : ℕ} {ls : List Label} {C : Configuration} → ComesOut c s steps.firing r → Comes r (Failed n) ls C → Table2 c (idle s) (failure n) C
+  failed_derives : {r : Stepped} {n : Question} {ls : List Label} {C : Configuration} → ComesOut c s steps.firing r → Comes r (Failed n) ls C → Table2 c (idle s) (failure n) C
   failed_derives (refusal n) o = let z : ◌≡◌ {A = ℕ} 0 1 = cc o.outcome_is in absurd (omega arith)
   failed_derives (fires k a d h) o = let z : ◌≡◌ {A = ℕ} 0 1 = cc o.outcome_is in absurd (omega arith)
-  failed_derives {n = n} {C = C} (fails k a d h) o =
-      let e : (handler_ran c s k).refusal ≡ n = cc o.outcome_is in
+  failed_derives {n = n} {C = C} (fails k x a d h) o =
+      let e : x ≡ n = cc o.outcome_is in
       subst (λ (x : Configuration). Table2 c x (failure n) C) (sym (idle_standing s a))
       (subst (Table2 c (standing s) (failure n)) (sym (idle_removed k a) ∙ o.leads_to)
-      (subst (λ (x : ℕ). Table2 c (standing s) (failure x) (runtime (in_state s.state) (memory_at s) nothing (without k (live s)))) e
-      (go (body_sticks s [] [] (event_at c s k).handler (handler_fit k) h))))
+      (subst (λ (x : Question). Table2 c (standing s) (failure x) (runtime (in_state s.state) (memory_at s) nothing (without k (live s)))) e
+      (go (body_sticks s [] [] (event_at c s k).handler (handler_fit k) x h))))
     where
-      go : {x : ℕ} → Sticks (bound (memory_at s) [] []) (in_order (event_at c s k).handler) x
+      go : {x : Question} → Sticks (bound (memory_at s) [] []) (in_order (event_at c s k).handler) x
           → Table2 c (standing s) (failure x) (runtime (in_state s.state) (memory_at s) nothing (without k (live s)))
       go (at r x) = event_failed (first_ready c s k d) r (meets_stuck x _) x
 
-  pub failure_derives : {n : ℕ} {ls : List Label} {C : Configuration} → Comes (fired c s) (Failed n) ls C → Table2 c (idle s) (failure n) C
+  pub failure_derives : {n : Question} {ls : List Label} {C : Configuration} → Comes (fired c s) (Failed n) ls C → Table2 c (idle s) (failure n) C
   failure_derives o = failed_derives (firing_came c s) o
 
   -- ---- from the rules to the machine
@@ -119,7 +120,7 @@ module _ (c : Contract) (b : Bounded c) (s : State) where
       let e : pending_at s k ≡ p = first_at blank f in
       let t = run_is s [] [] (event_at c s k).handler (handler_fit k)
       (subst (λ (x : Pending). Statements (bound (memory_at s) [] []) (in_order (event_of c x).handler) ls m []) (sym e) r) in
-      comes_by (pick_true _ _ _ a ∙ ap (fire_by_due c s) (ready_first c s f) ∙ pick_true _ _ _ (eq-eqb (handler_ran c s k).refusal 0 t.0))
+      comes_by (pick_true _ _ _ a ∙ ap (fire_by_due c s) (ready_first c s f) ∙ goes_on _ _ t.0)
       (record {
         outcome_is = refl;
         count_is = handler_counts k t.0 ∙ ap length t.1;
@@ -135,7 +136,7 @@ module _ (c : Contract) (b : Bounded c) (s : State) where
   pub firing_comes : {ls : List Label} {C : Configuration} → Whole c (idle s) match ls C → Comes (fired c s) (Accepted EventMatch) ls C
   firing_comes t = match_comes s.agreed refl t
 
-  fail_comes : {n : ℕ} {C : Configuration} (x : Bool) → s.agreed ≡ x → Table2 c (runtime (phase_of x s.state) (memory_at s) nothing (live s)) (failure n) C
+  fail_comes : {n : Question} {C : Configuration} (x : Bool) → s.agreed ≡ x → Table2 c (runtime (phase_of x s.state) (memory_at s) nothing (live s)) (failure n) C
       → Comes (fired c s) (Failed n) [] C
   unfolding fired handled
   fail_comes false a t = absurd (starts t)
@@ -143,21 +144,21 @@ module _ (c : Contract) (b : Bounded c) (s : State) where
       let e : pending_at s k ≡ p = first_at blank f in
       let g : Sticks (bound (memory_at s) [] []) (in_order (event_at c s k).handler) n =
       subst (λ (z : Pending). Sticks (bound (memory_at s) [] []) (in_order (event_of c z).handler) n) (sym e) (at r y) in
-      let j : (handler_ran c s k).refusal ≡ n = stick_is s [] [] (event_at c s k).handler (handler_fit k) g in
-      comes_by (pick_true _ _ _ a ∙ ap (fire_by_due c s) (ready_first c s f) ∙ pick_false _ _ _ (ne_eqb (handler_ran c s k).refusal 0 (stick_refused s [] [] (event_at c s k).handler (handler_fit k) g)))
-      (record { outcome_is = ap Failed j; count_is = refl; labels_are = refl; leads_to = idle_removed k a })
+      let j : (handler_ran c s k).refusal ≡ Some n = stick_is s [] [] (event_at c s k).handler (handler_fit k) g in
+      comes_by (pick_true _ _ _ a ∙ ap (fire_by_due c s) (ready_first c s f) ∙ stops_at _ _ j)
+      (record { outcome_is = refl; count_is = refl; labels_are = refl; leads_to = idle_removed k a })
 
-  pub failure_comes : {n : ℕ} {C : Configuration} → Table2 c (idle s) (failure n) C → Comes (fired c s) (Failed n) [] C
+  pub failure_comes : {n : Question} {C : Configuration} → Table2 c (idle s) (failure n) C → Comes (fired c s) (Failed n) [] C
   failure_comes t = fail_comes s.agreed refl t
 
-  -- ---- the number of a failed firing is one of questions 30 to 36
+  -- ---- the question of a failed firing is one of questions 30 to 36
 
-  failed_stops : {r : Stepped} {n : ℕ} {ls : List Label} {C : Configuration} → ComesOut c s steps.firing r → Comes r (Failed n) ls C → Stops n
+  failed_stops : {r : Stepped} {n : Question} {ls : List Label} {C : Configuration} → ComesOut c s steps.firing r → Comes r (Failed n) ls C → Stops n
   failed_stops (refusal n) o = let z : ◌≡◌ {A = ℕ} 0 1 = cc o.outcome_is in absurd (omega arith)
   failed_stops (fires k a d h) o = let z : ◌≡◌ {A = ℕ} 0 1 = cc o.outcome_is in absurd (omega arith)
-  failed_stops {n = n} (fails k a d h) o =
-      let e : (handler_ran c s k).refusal ≡ n = cc o.outcome_is in
-      subst Stops e (body_stops s [] [] (event_at c s k).handler (handler_fit k) h)
+  failed_stops {n = n} (fails k x a d h) o =
+      let e : x ≡ n = cc o.outcome_is in
+      subst Stops e (body_stops s [] [] (event_at c s k).handler (handler_fit k) x h)
 
-  pub failure_stops : {n : ℕ} {C : Configuration} → Table2 c (idle s) (failure n) C → Stops n
+  pub failure_stops : {n : Question} {C : Configuration} → Table2 c (idle s) (failure n) C → Stops n
   failure_stops t = failed_stops (firing_came c s) (failure_comes t)

@@ -9,8 +9,8 @@ use borrow.Author.Tests.{leb-true, le-leb}
 use Rattle.laws.specs.Choice.{pick}
 use Rattle.laws.proofs.Choice.{pick_true, pick_false, true_false}
 use Rattle.numbers.specs.declared.Value.TheVariants.{Integer, Text}
-use Rattle.numbers.specs.declared.Answer.{Answer}
-use Rattle.numbers.specs.declared.Answer.TheVariants as answer
+use Rattle.std.specs.Prelude.{Ok, Err}
+use Rattle.numbers.specs.Numbers.{Answer}
 use Rattle.contract.specs.Tree.{Event}
 use Rattle.evaluation.specs.Memory.{Memory}
 use Rattle.evaluation.specs.Meaning.{value_of}
@@ -20,7 +20,7 @@ use Rattle.published.specs.Published.{Times, no_event, pending, dropped}
 
 module _ (m : Memory) (n : ℕ) where
   -- a time at or after the clock joins, an earlier one is dropped
-  timed : (j : ℕ) (e : Event) (es : List Event) (z : ℤ) (ps : List Pending) → value_of m e.guard ≡ answer.Is (Integer z) → Times m n (suc j) es ps
+  timed : (j : ℕ) (e : Event) (es : List Event) (z : ℤ) (ps : List Pending) → value_of m e.guard ≡ Ok (Integer z) → Times m n (suc j) es ps
       → (b : Bool) → le_z (pos m.clock) z ≡ b → Times m n j (e ∷ es) (pick b (record { function = n; event = j; time = nat_abs z } ∷ ps) ps)
   unfolding pick
   timed j e es (pos t) ps q r true h = pending q (leb-true m.clock t h) r
@@ -33,10 +33,10 @@ module _ (m : Memory) (n : ℕ) where
   Given j es (no q) = Unit {0}
 
   scheduled_given : (j : ℕ) (e : Event) (es : List Event) (x : Answer) → value_of m e.guard ≡ x → (r : Scheduled) → Given (suc j) es r → Given j (e ∷ es) (scheduled m.clock n j x r)
-  scheduled_given j e es (answer.Refused q) h r g = tt
-  scheduled_given j e es (answer.Is (Text x)) h r g = tt
-  scheduled_given j e es (answer.Is (Integer z)) h (no q) g = tt
-  scheduled_given j e es (answer.Is (Integer z)) h (times ps) g = timed j e es z ps h g (le_z (pos m.clock) z) refl
+  scheduled_given j e es (Err q) h r g = tt
+  scheduled_given j e es (Ok (Text x)) h r g = tt
+  scheduled_given j e es (Ok (Integer z)) h (no q) g = tt
+  scheduled_given j e es (Ok (Integer z)) h (times ps) g = timed j e es z ps h g (le_z (pos m.clock) z) refl
 
   schedule_given : (j : ℕ) (es : List Event) → Given j es (schedule m m.clock n j es)
   unfolding schedule

@@ -1,5 +1,5 @@
 -- The configurations of states. Assumes nothing.
-use mathlib.Core.Path.{◌≡◌, refl, sym, subst}
+use mathlib.Core.Path.{◌≡◌, refl, sym, ap, subst}
 use mathlib.Core.Bool.{true}
 use mathlib.Core.List.{List, [], ◌∷◌, ◌++◌}
 use Prim.Native.Nat.{ℕ, zero, suc, ◌≤◌}
@@ -8,6 +8,8 @@ use lib.ListN.{length, take, drop, length-take}
 use lib.Seq.{take_all}
 use lib.Dec.{eqb}
 use lib.IntN.{ℤ}
+use Rattle.std.specs.Prelude.{Option, None, Some}
+use Rattle.questions.specs.declared.Question.{Question}
 use Rattle.contract.specs.Limits.{max_assets, max_parameters}
 use Rattle.laws.proofs.Members.{every_tail}
 use Rattle.laws.specs.Lists.{every, repeated}
@@ -21,7 +23,7 @@ use Rattle.statements.specs.declared.Work.{Work}
 use Rattle.statements.specs.Running.{memory_in}
 use Rattle.outcomes.specs.declared.Outcome.{Outcome}
 use Rattle.outcomes.specs.declared.Stepped.{Stepped}
-use Rattle.machine.specs.Steps.{begun, ended}
+use Rattle.machine.specs.Steps.{begun, ended, unless_refused}
 use Rattle.published.specs.Published.{Configuration, runtime, no_state, in_state, nothing, unbound, Mark, agreement, call, change, match, failure, time, Table2, agree, function, state_change, event_match, event_failed, tick, Whole, phase_of, memory_at, idle, Comes}
 
 -- an agreed state
@@ -45,6 +47,13 @@ idle_ended s w q ps v a =
 -- how a step comes out
 pub comes_by : {r r' : Stepped} {o : Outcome} {ls : List Label} {C : Configuration} → r ≡ r' → Comes r' o ls C → Comes r o ls C
 comes_by {o = o} {ls = ls} {C = C} e h = subst (λ (r : Stepped). Comes r o ls C) (sym e) h
+
+-- what comes of statements that met no refusal, and of those that question q refused
+pub goes_on : {r : Option Question} (f : Question → Stepped) (t : Stepped) → r ≡ None → unless_refused r f t ≡ t
+goes_on f t e = ap (λ (r : Option Question). unless_refused r f t) e
+
+pub stops_at : {r : Option Question} {q : Question} (f : Question → Stepped) (t : Stepped) → r ≡ Some q → unless_refused r f t ≡ f q
+stops_at f t e = ap (λ (r : Option Question). unless_refused r f t) e
 
 -- a derivation between equal configurations, with equal labels
 pub whole_same : {c : Contract} {μ : Mark} {A B C D : Configuration} {ls ls' : List Label} → A ≡ B → ls ≡ ls' → C ≡ D → Whole c A μ ls C → Whole c B μ ls' D

@@ -16,8 +16,8 @@ use Rattle.contract.specs.Tree.{Contract}
 use Rattle.evaluation.specs.Memory.{Memory}
 use Rattle.state.specs.declared.State.{State}
 use Rattle.state.specs.declared.Pending.{Pending}
-use Rattle.state.specs.declared.Due.{Due}
-use Rattle.state.specs.declared.Due.TheVariants as due
+use Rattle.std.specs.Prelude.{Option, Some}
+use Rattle.std.specs.declared.option.Option.TheVariants as option
 use Rattle.state.specs.States.{live, due_in, pending_at, with_pending, lapsed, time_passed, passed_times, times_until_due, FirstStop}
 use Rattle.state.proofs.Within.{live_lapsed}
 use Rattle.state.proofs.Passing.{passed_clock, passed_state, passed_agreed, first_stop, one_stop}
@@ -43,7 +43,7 @@ module _ (c : Contract) where
   unfolding with_pending lapsed
   one_later s = λ i. runtime (in_state s.state) (after_tick (memory_at s)) nothing (sym (live_lapsed s) i)
 
-  ticks_derive : (n : ℕ) (s : State) → s.clock + n ≤ top → ((k : ℕ) → k < n → due_in c (passed_times k s) ≡ due.Nothing)
+  ticks_derive : (n : ℕ) (s : State) → s.clock + n ≤ top → ((k : ℕ) → k < n → due_in c (passed_times k s) ≡ option.None)
       → Ticks c n (standing s) (at s.state (passed_times n s))
   unfolding passed_times with_pending lapsed
   ticks_derive zero s h f = no_tick
@@ -54,7 +54,7 @@ module _ (c : Contract) where
   -- so many ticks lead to one configuration, and nothing was due before it
   record Led (n : ℕ) (s : State) (C : Configuration) : Type 0 where
     end_is : C ≡ at s.state (passed_times n s)
-    idle_before : (k : ℕ) → k < n → due_in c (passed_times k s) ≡ due.Nothing
+    idle_before : (k : ℕ) → k < n → due_in c (passed_times k s) ≡ option.None
 
   ticks_lead : (n : ℕ) {C : Configuration} (s : State) → Ticks c n (standing s) C → Led n s C
   unfolding passed_times with_pending lapsed
@@ -63,20 +63,20 @@ module _ (c : Contract) where
       let x : Led n (time_passed s) C = ticks_lead n (time_passed s) (subst (λ (D : Configuration). Ticks c n D C) (one_later s) t) in
       record { end_is = x.end_is; idle_before = before x }
     where
-      before : Led n (time_passed s) C → (k : ℕ) → k < suc n → due_in c (passed_times k s) ≡ due.Nothing
+      before : Led n (time_passed s) C → (k : ℕ) → k < suc n → due_in c (passed_times k s) ≡ option.None
       before x zero h = ready_none c s r
       before x (suc k) h = x.idle_before k (omega arith)
 
 -- ---- from the machine's answer
 
 -- where so many ticks end, in the terms of the first state
-end_stop : (c : Contract) (s : State) (T : ℤ) (n : ℕ) → le_z (pos (s.clock + n)) T ≡ true → (due_in c (passed_times n s) ≡ due.Nothing → pos (s.clock + n) ≡ T)
+end_stop : (c : Contract) (s : State) (T : ℤ) (n : ℕ) → le_z (pos (s.clock + n)) T ≡ true → (due_in c (passed_times n s) ≡ option.None → pos (s.clock + n) ≡ T)
     → Stop c T s.state (memory_at (passed_times n s)) (live (passed_times n s))
 end_stop c s T n l f = go (due_in c (passed_times n s)) refl
   where
-    go : (d : Due) → due_in c (passed_times n s) ≡ d → Stop c T s.state (memory_at (passed_times n s)) (live (passed_times n s))
-    go due.Nothing d = at_time (ap pos (passed_clock n s) ∙ f d)
-    go (due.At k) d =
+    go : (d : Option ℕ) → due_in c (passed_times n s) ≡ d → Stop c T s.state (memory_at (passed_times n s)) (live (passed_times n s))
+    go option.None d = at_time (ap pos (passed_clock n s) ∙ f d)
+    go (Some k) d =
         let r = some_ready c (passed_times n s) k d in
         at_event (ap (λ (t : ℕ). le_z (pos t) T) (passed_clock n s) ∙ l)
         (subst (λ (q : ℕ). First (Ready c q (passed_times n s).clock) r.0 (pending_at (passed_times n s) r.0) (live (passed_times n s))) (passed_state n s) r.1)
@@ -126,7 +126,7 @@ module _ {c : Contract} {T : ℤ} {q : ℕ} {m : Memory} {Ψ : List Pending} whe
 
 module _ (c : Contract) (s : State) (T : ℤ) where
   -- the ticks of a derivation are those of the machine
-  led_stop : (n : ℕ) → ((k : ℕ) → k < n → due_in c (passed_times k s) ≡ due.Nothing)
+  led_stop : (n : ℕ) → ((k : ℕ) → k < n → due_in c (passed_times k s) ≡ option.None)
       → Stop c T s.state (memory_at (passed_times n s)) (live (passed_times n s)) → FirstStop c (nat_abs T - s.clock) s n
   led_stop n f x =
       let u : State = passed_times n s in
@@ -140,7 +140,7 @@ module _ (c : Contract) (s : State) (T : ℤ) where
             omega (arith, passed_clock n s);
       }
 
-  led_comes : {C : Configuration} (n : ℕ) → s.agreed ≡ true → due_in c s ≡ due.Nothing → Led c n s C
+  led_comes : {C : Configuration} (n : ℕ) → s.agreed ≡ true → due_in c s ≡ option.None → Led c n s C
       → Stop c T s.state (memory_at (passed_times n s)) (live (passed_times n s)) → Comes (jumped c s T) (Accepted Tick) [] C
   unfolding jumped
   led_comes n a d t x =

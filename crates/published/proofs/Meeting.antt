@@ -5,8 +5,10 @@ use Prim.Native.Nat.{ℕ, ◌≤◌}
 use native.Mathlib.Omega.{arith}
 use lib.IntN.{pos, negsuc}
 use Rattle.numbers.specs.declared.Value.TheVariants.{Integer, Text}
-use Rattle.numbers.specs.declared.Answer.{Answer}
-use Rattle.numbers.specs.declared.Answer.TheVariants as answer
+use Rattle.std.specs.Prelude.{Ok, Err}
+use Rattle.questions.specs.declared.Question.{Question}
+use Rattle.questions.specs.declared.Question.TheVariants as ask
+use Rattle.numbers.specs.Numbers.{Answer}
 use Rattle.numbers.proofs.Answers.{same_amount, same_refusal, no_value, no_text, no_negative, same_undecided, undecided}
 use Rattle.contract.specs.Tree.{Holder, Expression}
 use Rattle.evaluation.specs.Memory.{Memory}
@@ -16,13 +18,13 @@ use Rattle.published.specs.Published.{Statement, amount_of, Table3, value_send, 
 
 -- ---- no rule applies
 
-no_amount : {m : Memory} {e : Expression} {h : Holder} {n k : ℕ} → NoAmount m e h n → value_of m e ≡ answer.Is (Integer (pos k)) → k ≤ amount_of m h → ⊥
+no_amount : {m : Memory} {e : Expression} {h : Holder} {n : Question} {k : ℕ} → NoAmount m e h n → value_of m e ≡ Ok (Integer (pos k)) → k ≤ amount_of m h → ⊥
 no_amount (refuses q) g l = no_value q g
 no_amount (string q) g l = no_text q g
 no_amount (negative q) g l = no_negative q g
 no_amount (uncovered q f) g l = let y = same_amount q g in omega arith
 
-no_rule : {m m' : Memory} {s : Statement} {rest ss : List Statement} {ls : List Label} {n : ℕ} → Meets m s n → Table3 m (s ∷ rest) ls m' ss → ⊥
+no_rule : {m m' : Memory} {s : Statement} {rest ss : List Statement} {ls : List Label} {n : Question} → Meets m s n → Table3 m (s ∷ rest) ls m' ss → ⊥
 no_rule (send_meets q) (value_send g) = no_value q g
 no_rule (assign_meets q) (field_update g) = no_value q g
 no_rule (pay_meets x) (asset_send g l) = no_amount x g l
@@ -33,29 +35,29 @@ no_rule (move_full q l d f) (asset_update_self g l' d') = d d'
 no_rule (condition_meets q) (cond_true g) = undecided q g
 no_rule (condition_meets q) (cond_false g) = undecided q g
 
-pub meets_stuck : {m : Memory} {s : Statement} {n : ℕ} → Meets m s n → (rest : List Statement) → Stuck m (s ∷ rest)
+pub meets_stuck : {m : Memory} {s : Statement} {n : Question} → Meets m s n → (rest : List Statement) → Stuck m (s ∷ rest)
 meets_stuck x rest = record { no_rule = no_rule x }
 
 -- ---- no other is met
 
--- the number of what is no amount; more than is held has 35
-abbrev number_of : Answer → ℕ
-number_of (answer.Refused n) = n
-number_of (answer.Is (Text n)) = 31
-number_of (answer.Is (Integer (negsuc n))) = 34
-number_of (answer.Is (Integer (pos n))) = 35
+-- the question of what is no amount; more than is held has 35
+abbrev question_of : Answer → Question
+question_of (Err n) = n
+question_of (Ok (Text n)) = ask.OperandKind
+question_of (Ok (Integer (negsuc n))) = ask.AmountSign
+question_of (Ok (Integer (pos n))) = ask.AmountHeld
 
-number_is : {m : Memory} {e : Expression} {h : Holder} {n : ℕ} → NoAmount m e h n → number_of (value_of m e) ≡ n
-number_is (refuses q) = ap number_of q
-number_is (string q) = ap number_of q
-number_is (negative q) = ap number_of q
-number_is (uncovered q l) = ap number_of q
+question_is : {m : Memory} {e : Expression} {h : Holder} {n : Question} → NoAmount m e h n → question_of (value_of m e) ≡ n
+question_is (refuses q) = ap question_of q
+question_is (string q) = ap question_of q
+question_is (negative q) = ap question_of q
+question_is (uncovered q l) = ap question_of q
 
-pub one_no : {m : Memory} {s : Statement} {n k : ℕ} → Meets m s n → Meets m s k → n ≡ k
+pub one_no : {m : Memory} {s : Statement} {n k : Question} → Meets m s n → Meets m s k → n ≡ k
 one_no (send_meets q) (send_meets q') = same_refusal q q'
 one_no (assign_meets q) (assign_meets q') = same_refusal q q'
-one_no (pay_meets x) (pay_meets y) = sym (number_is x) ∙ number_is y
-one_no (move_meets x) (move_meets y) = sym (number_is x) ∙ number_is y
+one_no (pay_meets x) (pay_meets y) = sym (question_is x) ∙ question_is y
+one_no (move_meets x) (move_meets y) = sym (question_is x) ∙ question_is y
 one_no (move_meets x) (move_full q l d f) = absurd (no_amount x q l)
 one_no (move_full q l d f) (move_meets x) = absurd (no_amount x q l)
 one_no (move_full q l d f) (move_full q' l' d' f') = refl

@@ -3,8 +3,8 @@ use mathlib.Core.Path.{◌≡◌, refl, sym, ap, ◌∙◌}
 use mathlib.Core.Bool.{true}
 use mathlib.Core.List.{List, []}
 use mathlib.Core.Logic.{◌⊎◌, inl, inr}
-use Prim.Native.Nat.{ℕ}
 use lib.ListN.{take}
+use Rattle.questions.specs.declared.Question.{Question}
 use Rattle.contract.specs.Tree.{Contract}
 use Rattle.contract.proofs.Fitting.{FitsContract}
 use Rattle.state.specs.declared.State.{State}
@@ -29,7 +29,7 @@ By o r = Comes r o (take r.count r.labels) (idle r.state)
 abbrev pub ByRule : Request → Stepped → Type 0
 ByRule (agreement ps) r = Comes r (Accepted Agree) [] (idle r.state)
 ByRule (call i) r = By (Accepted Call) r
-ByRule firing r = By (Accepted EventMatch) r ⊎ ((n : ℕ) × Comes r (Failed n) [] (idle r.state))
+ByRule firing r = By (Accepted EventMatch) r ⊎ ((n : Question) × Comes r (Failed n) [] (idle r.state))
 ByRule tick r = Comes r (Accepted Tick) [] (idle r.state)
 ByRule (jump T) r = Comes r (Accepted Tick) [] (idle r.state)
 
@@ -38,11 +38,11 @@ refused_or_by c t b (refusal n) = inl (n, refl)
 refused_or_by c t b (agrees ps a) = inr (record { outcome_is = refl; count_is = refl; labels_are = refl; leads_to = refl })
 refused_or_by c t b {s} (calls i n f ps o) = inr (record { outcome_is = refl; count_is = call_counts c t s i n f o.runs o.went; labels_are = refl; leads_to = refl })
 refused_or_by c t b {s} (fires k a d h) = inr (inl (record { outcome_is = refl; count_is = handler_counts c b s k h; labels_are = refl; leads_to = refl }))
-refused_or_by c t b (fails k a d h) = inr (inr (_, record { outcome_is = refl; count_is = refl; labels_are = refl; leads_to = refl }))
+refused_or_by c t b (fails k n a d h) = inr (inr (_, record { outcome_is = refl; count_is = refl; labels_are = refl; leads_to = refl }))
 refused_or_by c t b (ticks a d l) = inr (record { outcome_is = refl; count_is = refl; labels_are = refl; leads_to = refl })
 refused_or_by c t b (jumps T a d l) = inr (record { outcome_is = refl; count_is = refl; labels_are = refl; leads_to = refl })
 
-pub not_fired : {r : Stepped} → (By (Accepted EventMatch) r → ⊥) → ((n : ℕ) → Comes r (Failed n) [] (idle r.state) → ⊥) → ByRule firing r → ⊥
+pub not_fired : {r : Stepped} → (By (Accepted EventMatch) r → ⊥) → ((n : Question) → Comes r (Failed n) [] (idle r.state) → ⊥) → ByRule firing r → ⊥
 not_fired f g (inl x) = f x
 not_fired f g (inr x) = g x.0 x.1
 

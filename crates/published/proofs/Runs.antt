@@ -2,6 +2,7 @@
 use mathlib.Core.Path.{◌≡◌, refl, sym, ap, subst}
 use mathlib.Core.List.{List, [], ◌∷◌, ◌++◌, append_assoc}
 use Prim.Native.Nat.{ℕ, ◌+◌, ◌-◌}
+use Rattle.questions.specs.declared.Question.{Question}
 use Rattle.numbers.specs.declared.Value.{Value}
 use Rattle.numbers.proofs.Answers.{same_value, same_amount, true_not_false}
 use Rattle.evaluation.specs.Memory.{Memory}
@@ -78,14 +79,14 @@ one_run (next x r) (next x' r') =
     (λ i. e.labels i ++ d.0 i, d.1)
 
 -- a run to the end comes to no statement that meets a no
-pub not_stuck : {m m1 m2 : Memory} {ss xs : List Statement} {x : Statement} {l1 l2 : List Label} {n : ℕ}
+pub not_stuck : {m m1 m2 : Memory} {ss xs : List Statement} {x : Statement} {l1 l2 : List Label} {n : Question}
     → Statements m ss l1 m1 [] → Statements m ss l2 m2 (x ∷ xs) → Meets m2 x n → ⊥
 not_stuck stop (next x r) k = carried x
 not_stuck (next x r) stop k = (meets_stuck k _).no_rule x
 not_stuck (next x r) (next x' r') k = not_stuck r (moved_over (one_end x x') r') k
 
 -- two runs that come to a no meet the same
-pub one_stop : {m m1 m2 : Memory} {ss xs ys : List Statement} {x y : Statement} {l1 l2 : List Label} {n k : ℕ}
+pub one_stop : {m m1 m2 : Memory} {ss xs ys : List Statement} {x y : Statement} {l1 l2 : List Label} {n k : Question}
     → Statements m ss l1 m1 (x ∷ xs) → Meets m1 x n → Statements m ss l2 m2 (y ∷ ys) → Meets m2 y k → n ≡ k
 one_stop stop q stop q' = one_no q q'
 one_stop stop q (next x r) q' = absurd ((meets_stuck q _).no_rule x)

@@ -9,6 +9,8 @@ use native.Mathlib.Omega.{arith}
 use lib.ListN.{length, length-take}
 use lib.Dec.{leb}
 use borrow.Author.Tests.{leb-true, le-leb, lt-leb}
+use Rattle.questions.specs.declared.Question.{Question}
+use Rattle.questions.specs.Numbers.{number_of}
 use Rattle.laws.specs.Lists.{repeated}
 use Rattle.laws.proofs.Members.{repeated_length}
 use Rattle.laws.proofs.Choice.{pick_true, pick_false, true_false}
@@ -108,9 +110,10 @@ module _ (w : List ℕ) (s : State) (room : ℕ) (p : passes w ≡ true) (o : st
       }
 
   -- a handler fails at one of questions 30 to 36
-  pub failure_numbered : {n : ℕ} {C : Configuration} → Table2 (contract_of w) (idle s) (failure n) C → (30 ≤ n) × (n ≤ 36)
+  pub failure_numbered : {q : Question} {C : Configuration} → Table2 (contract_of w) (idle s) (failure q) C → (30 ≤ number_of q) × (number_of q ≤ 36)
   unfolding ranges
-  failure_numbered {n} d =
+  failure_numbered {q} d =
+      let n = number_of q in
       let k = failure_stops (contract_of w) (bounded (contract_of w) (sound w p)) s d in
       (leb-true 30 n (both_left (leb 30 n) (leb n 36) k), leb-true n 36 (both_right (leb 30 n) (leb n 36) k))
 

@@ -10,7 +10,7 @@ use Rattle.laws.proofs.Choice.{pick_true}
 use Rattle.contract.specs.Limits.{top}
 use Rattle.contract.specs.Tree.{Contract}
 use Rattle.state.specs.declared.State.{State}
-use Rattle.state.specs.declared.Due.TheVariants as due
+use Rattle.std.specs.Prelude.{None}
 use Rattle.state.specs.States.{live, due_in, with_pending, lapsed, time_passed}
 use Rattle.laws.specs.Lists.{keep}
 use Rattle.state.proofs.Within.{live_lapsed}
@@ -46,7 +46,7 @@ module _ (c : Contract) (s : State) where
   unfolding ticked
   derived_comes false a t = absurd (starts t)
   derived_comes true a (tick l n) =
-      let d : due_in c s ≡ due.Nothing = ready_none c s n in
+      let d : due_in c s ≡ None = ready_none c s n in
       let e : ticked c s ≡ answered (Accepted Tick) (time_passed s) = pick_true _ _ _ a ∙ ap (tick_by_due s) d ∙ pick_true _ _ _ (lt-ltb s.clock top l) in
       comes_by e (record { outcome_is = refl; count_is = refl; labels_are = refl; leads_to = idle_later a })
 

@@ -4,6 +4,8 @@
 -- `event_failed` derives it. Proved (`exactly`) of tables that pass, states within question 4, and slices of `room_needed` entries or more:
 -- elsewhere questions 3, 4 and 20 refuse every step (`FirstQuestions`).
 use Rattle.std.specs.Prelude.{ℕ, ◌<◌, ◌≡◌, true, false, ◌↔◌, List, [], ℤ}
+use Rattle.questions.specs.declared.Question.{Question}
+use Rattle.questions.specs.declared.Question.TheVariants as ask
 use Rattle.numbers.specs.Numbers.{within}
 use Rattle.contract.specs.Decode.{contract_of}
 use Rattle.contract.specs.Check.{passes}
@@ -27,9 +29,9 @@ answer w s room q = step w room s (requested s q)
 
 -- the questions that every step asks first, in this order; proved (`first_questions`) of all tables, states, slices and steps
 pub record FirstQuestions (w : List ℕ) (s : State) (room : ℕ) (q : Request) : Type 0 where
-  pub table_refused : passes w ≡ false → answer w s room q ≡ refused s 3
-  pub state_refused : passes w ≡ true → state_ok (contract_of w) s ≡ false → answer w s room q ≡ refused s 4
-  pub slice_refused : passes w ≡ true → state_ok (contract_of w) s ≡ true → room < room_needed (contract_of w) → answer w s room q ≡ refused s 20
+  pub table_refused : passes w ≡ false → answer w s room q ≡ refused s ask.TableCheck
+  pub state_refused : passes w ≡ true → state_ok (contract_of w) s ≡ false → answer w s room q ≡ refused s ask.StateRanges
+  pub slice_refused : passes w ≡ true → state_ok (contract_of w) s ≡ true → room < room_needed (contract_of w) → answer w s room q ≡ refused s ask.LabelRoom
 
 pub record Exactly (w : List ℕ) (s : State) (room : ℕ) : Type 0 where
   -- AGREE
@@ -45,11 +47,11 @@ pub record Exactly (w : List ℕ) (s : State) (room : ℕ) : Type 0 where
   -- EVENT MATCH, Table 3, STATE CHANGE
   pub firings : (ls : List Label) (C : Configuration)
       → Comes (answer w s room steps.firing) (Accepted EventMatch) ls C ↔ Whole (contract_of w) (idle s) match ls C
-  -- the failed handler, by the number that it meets
-  pub failures : (n : ℕ) (C : Configuration)
+  -- the failed handler, by the question that it meets
+  pub failures : (n : Question) (C : Configuration)
       → Comes (answer w s room steps.firing) (Failed n) [] C ↔ Table2 (contract_of w) (idle s) (failure n) C
   pub firings_refused : IsRefused s (answer w s room steps.firing)
-      ↔ (((ls : List Label) (C : Configuration) → Whole (contract_of w) (idle s) match ls C → ⊥) × ((n : ℕ) (C : Configuration) → Table2 (contract_of w) (idle s) (failure n) C → ⊥))
+      ↔ (((ls : List Label) (C : Configuration) → Whole (contract_of w) (idle s) match ls C → ⊥) × ((n : Question) (C : Configuration) → Table2 (contract_of w) (idle s) (failure n) C → ⊥))
   -- TICK
   pub ticks : (C : Configuration)
       → Comes (answer w s room steps.tick) (Accepted Tick) [] C ↔ Table2 (contract_of w) (idle s) time C

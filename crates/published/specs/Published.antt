@@ -1,13 +1,12 @@
 -- The published rules (source 000, section 4): Table 2 and Table 3 as relations, one constructor a rule; [ASSET UPDATE] has two
 -- constructors, and `event_failed` is document 01's. Where document 01 or 02 changes a rule or completes it, its words stand at that place. A
 -- jump (document 02) is so many [TICK]s.
-use Rattle.std.specs.Prelude.{ℕ, suc, ◌+◌, ◌-◌, ◌<◌, ◌≤◌, ◌≡◌, ◌↔◌, Bool, true, false, not, List, [], ◌∷◌, ◌++◌, length, get_or, take, drop, set, eqb, ℤ, pos, negsuc}
+use Rattle.std.specs.Prelude.{ℕ, suc, ◌+◌, ◌-◌, ◌<◌, ◌≤◌, ◌≡◌, ◌↔◌, Bool, true, false, not, List, [], ◌∷◌, ◌++◌, length, get_or, take, drop, set, eqb, ℤ, pos, negsuc, Ok, Err}
 use Rattle.std.specs.Int.Signed.{le_z}
+use Rattle.questions.specs.declared.Question.{Question}
+use Rattle.questions.specs.declared.Question.TheVariants as ask
 use Rattle.numbers.specs.declared.Value.{Value}
 use Rattle.numbers.specs.declared.Value.TheVariants.{Integer, Text}
-use Rattle.numbers.specs.declared.Answer.TheVariants.{Is, Refused}
-use Rattle.numbers.specs.declared.Truth.TheVariants.{Holds}
-use Rattle.numbers.specs.declared.Truth.TheVariants as truth
 use Rattle.contract.specs.Limits.{top, max_fields, max_assets, max_parameters}
 use Rattle.laws.specs.Lists.{every, repeated, keep}
 use Rattle.contract.specs.Tree as tree
@@ -105,33 +104,33 @@ pays n a = record { kind = asset_label; party = a; value = pos n }
 -- a memory and the statements left, the label sent if any, the memory and the statements left then; Φ, Ψ, W and Q' stay as they are
 pub data Table3 : Memory → List Statement → List Label → Memory → List Statement → Type 0 where
   value_send : {m : Memory} {e : Expression} {a : ℕ} {v : Value} {rest : List Statement}
-      → value_of m e ≡ Is v
+      → value_of m e ≡ Ok v
       → Table3 m (act (send e a) ∷ rest) (sends v a ∷ []) m rest
   -- A negative amount meets the published premise, so it is refused: the amount is a natural number here and below.
   asset_send : {m : Memory} {e : Expression} {h : Holder} {a n : ℕ} {rest : List Statement}
-      → value_of m e ≡ Is (Integer (pos n))
+      → value_of m e ≡ Ok (Integer (pos n))
       → n ≤ amount_of m h
       → Table3 m (act (pay e h a) ∷ rest) (pays n a ∷ []) (with_amount m h (amount_of m h - n)) rest
   field_update : {m : Memory} {e : Expression} {x : ℕ} {v : Value} {rest : List Statement}
-      → value_of m e ≡ Is v
+      → value_of m e ≡ Ok v
       → Table3 m (act (assign e x) ∷ rest) [] (with_value m x v) rest
   -- the other asset's sum fits
   asset_update : {m : Memory} {e : Expression} {h k : Holder} {n : ℕ} {rest : List Statement}
-      → value_of m e ≡ Is (Integer (pos n))
+      → value_of m e ≡ Ok (Integer (pos n))
       → n ≤ amount_of m h → (place_of h ≡ place_of k → ⊥)
       → amount_of m k + n ≤ top
       → Table3 m (act (move e h k) ∷ rest) [] (with_amount (with_amount m h (amount_of m h - n)) k (amount_of m k + n)) rest
   -- A move from an asset to itself changes nothing (the published double update would mint).
   asset_update_self : {m : Memory} {e : Expression} {h k : Holder} {n : ℕ} {rest : List Statement}
-      → value_of m e ≡ Is (Integer (pos n))
+      → value_of m e ≡ Ok (Integer (pos n))
       → n ≤ amount_of m h
       → place_of h ≡ place_of k
       → Table3 m (act (move e h k) ∷ rest) [] m rest
   cond_true : {m : Memory} {t : Condition} {s : Block} {rest : List Statement}
-      → truth_of m t ≡ Holds true
+      → truth_of m t ≡ Ok true
       → Table3 m (when t s ∷ rest) [] m (in_order s ++ rest)
   cond_false : {m : Memory} {t : Condition} {s : Block} {rest : List Statement}
-      → truth_of m t ≡ Holds false
+      → truth_of m t ≡ Ok false
       → Table3 m (when t s ∷ rest) [] m rest
 
 -- any number of them, with their labels in order
@@ -142,23 +141,27 @@ pub data Statements : Memory → List Statement → List Label → Memory → Li
       → Statements m' ss' ls' m'' ss''
       → Statements m ss (ls ++ ls') m'' ss''
 
--- which no, by its number, the amount e of h meets: e has no value, a string's is none, one below 0, or more than h holds
-pub data NoAmount (m : Memory) (e : Expression) (h : Holder) : ℕ → Type 0 where
-  refuses : {n : ℕ} → value_of m e ≡ Refused n → NoAmount m e h n
-  string : {n : ℕ} → value_of m e ≡ Is (Text n) → NoAmount m e h 31
-  negative : {n : ℕ} → value_of m e ≡ Is (Integer (negsuc n)) → NoAmount m e h 34
-  uncovered : {n : ℕ} → value_of m e ≡ Is (Integer (pos n)) → amount_of m h < n → NoAmount m e h 35
+-- which question the amount e of h answers by no: e has no value, a string's is none, one below 0, or more than h holds
+pub data NoAmount (m : Memory) (e : Expression) (h : Holder) : Question → Type 0 where
+  refuses : {q : Question} → value_of m e ≡ Err q → NoAmount m e h q
+  -- 31
+  string : {n : ℕ} → value_of m e ≡ Ok (Text n) → NoAmount m e h ask.OperandKind
+  -- 34
+  negative : {n : ℕ} → value_of m e ≡ Ok (Integer (negsuc n)) → NoAmount m e h ask.AmountSign
+  -- 35
+  uncovered : {n : ℕ} → value_of m e ≡ Ok (Integer (pos n)) → amount_of m h < n → NoAmount m e h ask.AmountHeld
 
--- which no a statement meets (of a table that passes, one of questions 30 to 36: `failure_numbered`)
-pub data Meets (m : Memory) : Statement → ℕ → Type 0 where
-  send_meets : {e : Expression} {a n : ℕ} → value_of m e ≡ Refused n → Meets m (act (send e a)) n
-  assign_meets : {e : Expression} {x n : ℕ} → value_of m e ≡ Refused n → Meets m (act (assign e x)) n
-  pay_meets : {e : Expression} {h : Holder} {a n : ℕ} → NoAmount m e h n → Meets m (act (pay e h a)) n
-  move_meets : {e : Expression} {h k : Holder} {n : ℕ} → NoAmount m e h n → Meets m (act (move e h k)) n
-  move_full : {e : Expression} {h k : Holder} {n : ℕ} → value_of m e ≡ Is (Integer (pos n)) → n ≤ amount_of m h → (place_of h ≡ place_of k → ⊥)
+-- which question a statement answers by no (of a table that passes, one of 30 to 36: `failure_numbered`)
+pub data Meets (m : Memory) : Statement → Question → Type 0 where
+  send_meets : {e : Expression} {a : ℕ} {q : Question} → value_of m e ≡ Err q → Meets m (act (send e a)) q
+  assign_meets : {e : Expression} {x : ℕ} {q : Question} → value_of m e ≡ Err q → Meets m (act (assign e x)) q
+  pay_meets : {e : Expression} {h : Holder} {a : ℕ} {q : Question} → NoAmount m e h q → Meets m (act (pay e h a)) q
+  move_meets : {e : Expression} {h k : Holder} {q : Question} → NoAmount m e h q → Meets m (act (move e h k)) q
+  -- 36
+  move_full : {e : Expression} {h k : Holder} {n : ℕ} → value_of m e ≡ Ok (Integer (pos n)) → n ≤ amount_of m h → (place_of h ≡ place_of k → ⊥)
       → top < amount_of m k + n
-      → Meets m (act (move e h k)) 36
-  condition_meets : {t : Condition} {b : Block} {n : ℕ} → truth_of m t ≡ truth.Refused n → Meets m (when t b) n
+      → Meets m (act (move e h k)) ask.SumFits
+  condition_meets : {t : Condition} {b : Block} {q : Question} → truth_of m t ≡ Err q → Meets m (when t b) q
 
 -- no rule applies to what is left
 pub record Stuck (m : Memory) (ss : List Statement) : Type 0 where
@@ -205,12 +208,12 @@ pub record Called (c : Contract) (q : ℕ) (i : Invocation) (f : Function) : Typ
 pub data Times (m : Memory) (n : ℕ) : ℕ → List Event → List Pending → Type 0 where
   no_event : {j : ℕ} → Times m n j [] []
   pending : {j t : ℕ} {e : Event} {es : List Event} {ps : List Pending}
-      → value_of m e.guard ≡ Is (Integer (pos t))
+      → value_of m e.guard ≡ Ok (Integer (pos t))
       → m.clock ≤ t
       → Times m n (suc j) es ps
       → Times m n j (e ∷ es) (record { function = n; event = j; time = t } ∷ ps)
   dropped : {j : ℕ} {z : ℤ} {e : Event} {es : List Event} {ps : List Pending}
-      → value_of m e.guard ≡ Is (Integer z)
+      → value_of m e.guard ≡ Ok (Integer z)
       → le_z (pos m.clock) z ≡ false
       → Times m n (suc j) es ps
       → Times m n j (e ∷ es) ps
@@ -232,7 +235,7 @@ integers (n ∷ ns) = pos n ∷ integers ns
 
 -- ∅: no field has a value, no asset an amount
 pub record Empty (m : Memory) : Type 0 where
-  pub no_value : (x : ℕ) → x < max_fields → value_of m (field x) ≡ Refused 30
+  pub no_value : (x : ℕ) → x < max_fields → value_of m (field x) ≡ Err ask.FieldValue
   pub no_amount : (k : ℕ) → k < max_assets → get_or m.holdings k 0 ≡ 0
 
 unfoldable pub field_names : Contract → List ℕ → List Word
@@ -271,7 +274,7 @@ with_clauses m (k ∷ ks) (p ∷ ps) = with_clauses (with_clause m k p k.verb) k
 -- fields have these values
 pub data Values (m : Memory) : List ℕ → List ℤ → Type 0 where
   no_field : Values m [] []
-  a_field : {x : ℕ} {z : ℤ} {xs : List ℕ} {zs : List ℤ} → value_of m (field x) ≡ Is (Integer z) → Values m xs zs → Values m (x ∷ xs) (z ∷ zs)
+  a_field : {x : ℕ} {z : ℤ} {xs : List ℕ} {zs : List ℤ} → value_of m (field x) ≡ Ok (Integer z) → Values m xs zs → Values m (x ∷ xs) (z ∷ zs)
 
 -- a clause of OK gives the values that were set
 pub data Agreed (m : Memory) : List Clause → List Part → Type 0 where
@@ -298,7 +301,7 @@ pub data Mark : Type 0 where
   call : Invocation → Mark
   change : Mark
   match : Mark
-  failure : ℕ → Mark
+  failure : Question → Mark
   time : Mark
 
 pub data Table2 (c : Contract) : Configuration → Mark → Configuration → Type 0 where
@@ -317,7 +320,7 @@ pub data Table2 (c : Contract) : Configuration → Mark → Configuration → Ty
       → length i.values ≡ length f.values
       → length vs ≡ length f.parameters
       → i.assets ≡ integers vs
-      → precondition_holds (bound m i.values vs) f.precondition ≡ Holds true
+      → precondition_holds (bound m i.values vs) f.precondition ≡ Ok true
       → Table2 c (runtime (in_state q) m nothing Ψ) (call i)
       (runtime (in_state q) (bound m i.values vs) (left (in_order f.body) n f.events f.last) Ψ)
   -- Leftovers in an asset parameter refuse the call. Up to 64 pending events. Parameters end with the code that names them; a handler
@@ -332,9 +335,9 @@ pub data Table2 (c : Contract) : Configuration → Mark → Configuration → Ty
       → First (Foremost c q m.clock Ψ) k p Ψ
       → Table2 c (runtime (in_state q) m nothing Ψ) match
       (runtime (in_state q) (bound m [] []) (left (in_order (event_of c p).handler) 0 [] (event_of c p).last) (without k Ψ))
-  -- A failed handler consumes its event instead of sticking; the answer has the number that it meets. `Stuck` follows from `Meets`, and
+  -- A failed handler consumes its event instead of sticking; the answer has the question that it meets. `Stuck` follows from `Meets`, and
   -- stands here as the published reason.
-  event_failed : {q k n : ℕ} {p : Pending} {m m' : Memory} {Ψ : List Pending} {ls : List Label} {s : Statement} {ss : List Statement}
+  event_failed : {q k : ℕ} {n : Question} {p : Pending} {m m' : Memory} {Ψ : List Pending} {ls : List Label} {s : Statement} {ss : List Statement}
       → First (Foremost c q m.clock Ψ) k p Ψ
       → Statements (bound m [] []) (in_order (event_of c p).handler) ls m' (s ∷ ss)
       → Stuck m' (s ∷ ss)
@@ -386,7 +389,7 @@ idle s = runtime (phase_of s.agreed s.state) (memory_at s) nothing (live s)
 
 -- a step of the machine is refused: it hands back the state that it was given, and sends nothing
 abbrev pub IsRefused : State → Stepped → Type 0
-IsRefused s r = (n : ℕ) × (r ≡ refused s n)
+IsRefused s r = (q : Question) × (r ≡ refused s q)
 
 -- a step of the machine comes out so, with these labels and no more, and leads to the idle configuration C
 pub record Comes (r : Stepped) (o : Outcome) (ls : List Label) (C : Configuration) : Type 0 where
