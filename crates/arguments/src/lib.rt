@@ -2,8 +2,7 @@
 #![tactic(auto)]
 
 ghost use Rattle.std.specs.Prelude.{◌≡◌};
-ghost use Rattle.laws.specs.Bytes.{same_bytes};
-ghost use Rattle.arguments.specs.Asking.{nothing_asked, kind_of, wrong, with_help, with_explain, with_review, with_pages, with_file, with_out, heard, ended};
+ghost use Rattle.arguments.specs.Asking.{nothing_asked, kind_of, wrong, once, with_file, with_out, heard, ended};
 
 // What one argument is.
 #[derive(Clone, Copy)]
@@ -19,43 +18,45 @@ pub enum Argument {
     Long,
 }
 
+// What may be wrong with an argument.
+#[derive(Clone, Copy, PartialEq, Eq)]
+pub enum Mistake {
+    Long,
+    Unknown,
+    // An option that was given before.
+    Twice,
+    // `--review` with another option.
+    Alone,
+    // A FILE too many.
+    Many,
+    // An option without its argument.
+    Without,
+}
+
+// Which argument is wrong, and what is wrong with it.
+#[derive(Clone, Copy)]
+pub struct Fault {
+    pub place: usize,
+    pub mistake: Mistake,
+}
+
 // What is asked so far.
 #[derive(Clone, Copy)]
 pub struct Asked {
     pub help: bool,
     pub explain: bool,
     pub review: bool,
-    // Which argument the OUT of `--pages` is, or 0.
-    pub pages: usize,
-    // Which argument is an option whose own argument is still to come, or 0.
-    pub option: usize,
-    // How many FILEs, and which argument the last of them is.
-    pub files: usize,
-    pub file: usize,
-    // The first thing that is wrong, or 0, and which argument it is wrong with.
-    pub fault: u8,
-    pub place: usize,
+    // Which argument the OUT of `--pages` is.
+    pub pages: Option<usize>,
+    // Which argument is an option whose own argument is still to come.
+    pub option: Option<usize>,
+    // Which argument the FILE is.
+    pub file: Option<usize>,
 }
 
 impl Asked {
-    // The most bytes of an argument, and the most FILEs.
+    // The most bytes of an argument.
     pub const ARGUMENT_BYTES: usize = 1024;
-
-    pub const FILES: usize = 1;
-
-    // What may be wrong: an argument that is too long; no option; an option given twice; `--review` with another option; a FILE
-    // too many; an option without its argument.
-    pub const LONG: u8 = 1;
-
-    pub const UNKNOWN: u8 = 2;
-
-    pub const TWICE: u8 = 3;
-
-    pub const ALONE: u8 = 4;
-
-    pub const MANY: u8 = 5;
-
-    pub const WITHOUT: u8 = 6;
 
     // No argument yet.
     pub fn nothing() -> Asked
@@ -65,186 +66,142 @@ impl Asked {
             help: false,
             explain: false,
             review: false,
-            pages: 0,
-            option: 0,
-            files: 0,
-            file: 0,
-            fault: 0,
-            place: 0,
+            pages: None,
+            option: None,
+            file: None,
         }
     }
-}
-
-// Whether two byte strings are the same.
-fn same(a: &[u8], b: &[u8]) -> bool
-    ensures { result ≡ same_bytes a.now b.now }
-{
-    if a.len() != b.len() {
-        return false;
-    }
-    let mut i: usize = 0;
-    while i < b.len() {
-        if a[i] != b[i] {
-            return false;
-        }
-        i += 1;
-    }
-    true
 }
 
 // What an argument is.
 pub fn classify(argument: &[u8]) -> Argument
     ensures { result ≡ kind_of argument.now }
 {
+    let is = |option: &[u8]| argument == option;
     if Asked::ARGUMENT_BYTES < argument.len() {
-        return Argument::Long;
+        Argument::Long
+    } else if is(b"--help") {
+        Argument::Help
+    } else if is(b"--explain") {
+        Argument::Explain
+    } else if is(b"--review") {
+        Argument::Review
+    } else if is(b"--pages") {
+        Argument::Pages
+    } else if argument.starts_with(b"-") {
+        Argument::Unknown
+    } else {
+        Argument::File
     }
-    if same(argument, b"--help") {
-        return Argument::Help;
-    }
-    if same(argument, b"--explain") {
-        return Argument::Explain;
-    }
-    if same(argument, b"--review") {
-        return Argument::Review;
-    }
-    if same(argument, b"--pages") {
-        return Argument::Pages;
-    }
-    if tokens::byte_at(argument, 0) == b'-' {
-        return Argument::Unknown;
-    }
-    Argument::File
 }
 
-// Something is wrong with argument n.
-fn blame(asked: Asked, n: usize, fault: u8) -> Asked
-    ensures { result ≡ wrong asked n fault }
+// Argument n is wrong.
+fn wrong(n: usize, mistake: Mistake) -> Result<Asked, Fault>
+    ensures { result ≡ wrong n mistake }
 {
-    let mut next = asked;
-    next.fault = fault;
-    next.place = n;
-    next
+    Err(Fault { place: n, mistake })
 }
 
-fn take_help(asked: Asked, n: usize) -> Asked
-    ensures { result ≡ with_help asked n }
+// An option, the n-th argument: given before it is wrong, and so is one that goes with none of those given.
+fn once(n: usize, given: bool, barred: bool, next: Asked) -> Result<Asked, Fault>
+    ensures { result ≡ once n given barred next }
 {
-    if asked.help {
-        return blame(asked, n, Asked::TWICE);
+    if given {
+        wrong(n, Mistake::Twice)
+    } else if barred {
+        wrong(n, Mistake::Alone)
+    } else {
+        Ok(next)
     }
-    if asked.review {
-        return blame(asked, n, Asked::ALONE);
-    }
-    let mut next = asked;
-    next.help = true;
-    next
 }
 
-fn take_explain(asked: Asked, n: usize) -> Asked
-    ensures { result ≡ with_explain asked n }
-{
-    if asked.explain {
-        return blame(asked, n, Asked::TWICE);
-    }
-    if asked.review {
-        return blame(asked, n, Asked::ALONE);
-    }
-    let mut next = asked;
-    next.explain = true;
-    next
-}
-
-fn take_review(asked: Asked, n: usize) -> Asked
-    ensures { result ≡ with_review asked n }
-{
-    if asked.review {
-        return blame(asked, n, Asked::TWICE);
-    }
-    if asked.help | asked.explain | (0 < asked.pages) {
-        return blame(asked, n, Asked::ALONE);
-    }
-    let mut next = asked;
-    next.review = true;
-    next
-}
-
-fn take_pages(asked: Asked, n: usize) -> Asked
-    ensures { result ≡ with_pages asked n }
-{
-    if 0 < asked.pages {
-        return blame(asked, n, Asked::TWICE);
-    }
-    if asked.review {
-        return blame(asked, n, Asked::ALONE);
-    }
-    let mut next = asked;
-    next.option = n;
-    next
-}
-
-fn take_file(asked: Asked, n: usize) -> Asked
+// One FILE.
+fn take_file(asked: Asked, n: usize) -> Result<Asked, Fault>
     ensures { result ≡ with_file asked n }
 {
-    if asked.files < Asked::FILES {
-        let mut next = asked;
-        next.files = asked.files + 1;
-        next.file = n;
-        return next;
+    if asked.file.is_some() {
+        return wrong(n, Mistake::Many);
     }
-    blame(asked, n, Asked::MANY)
+    Ok(Asked {
+        file: Some(n),
+        ..asked
+    })
 }
 
-// The argument of the option before it.
-fn take_out(asked: Asked, n: usize, argument: &[u8]) -> Asked
-    ensures { result ≡ with_out asked n argument.now }
+// The argument of the option before it, which stands at a place.
+fn take_out(asked: Asked, place: usize, n: usize, argument: &[u8]) -> Result<Asked, Fault>
+    ensures { result ≡ with_out asked place n argument.now }
 {
-    if Asked::ARGUMENT_BYTES < argument.len() {
-        return blame(asked, n, Asked::LONG);
+    match argument {
+        _ if Asked::ARGUMENT_BYTES < argument.len() => wrong(n, Mistake::Long),
+        [b'-', ..] => wrong(place, Mistake::Without),
+        _ => Ok(Asked {
+            pages: Some(n),
+            option: None,
+            ..asked
+        }),
     }
-    let first = tokens::byte_at(argument, 0);
-    let dashed = first == b'-';
-    if dashed {
-        return blame(asked, asked.option, Asked::WITHOUT);
-    }
-    let mut next = asked;
-    next.pages = n;
-    next.option = 0;
-    next
 }
 
-// One more argument, the n-th. Once something is wrong, nothing more is heard.
-pub fn hear(asked: Asked, n: usize, argument: &[u8]) -> Asked
+// One more argument, the n-th.
+pub fn hear(asked: Asked, n: usize, argument: &[u8]) -> Result<Asked, Fault>
     ensures { result ≡ heard asked n argument.now }
 {
-    if asked.fault != 0 {
-        return asked;
+    if let Some(place) = asked.option {
+        return take_out(asked, place, n, argument);
     }
-    if asked.option != 0 {
-        return take_out(asked, n, argument);
-    }
-    let kind = classify(argument);
-    match kind {
-        Argument::Help => take_help(asked, n),
-        Argument::Explain => take_explain(asked, n),
-        Argument::Review => take_review(asked, n),
-        Argument::Pages => take_pages(asked, n),
+    match classify(argument) {
+        Argument::Help => once(
+            n,
+            asked.help,
+            asked.review,
+            Asked {
+                help: true,
+                ..asked
+            },
+        ),
+        Argument::Explain => once(
+            n,
+            asked.explain,
+            asked.review,
+            Asked {
+                explain: true,
+                ..asked
+            },
+        ),
+        Argument::Review => {
+            let other = asked.help | asked.explain | asked.pages.is_some();
+            once(
+                n,
+                asked.review,
+                other,
+                Asked {
+                    review: true,
+                    ..asked
+                },
+            )
+        }
+        Argument::Pages => once(
+            n,
+            asked.pages.is_some(),
+            asked.review,
+            Asked {
+                option: Some(n),
+                ..asked
+            },
+        ),
         Argument::File => take_file(asked, n),
-        Argument::Unknown => blame(asked, n, Asked::UNKNOWN),
-        Argument::Long => blame(asked, n, Asked::LONG),
+        Argument::Unknown => wrong(n, Mistake::Unknown),
+        Argument::Long => wrong(n, Mistake::Long),
     }
 }
 
 // No argument is left: an option whose argument did not come is wrong.
-pub fn finish(asked: Asked) -> Asked
+pub fn finish(asked: Asked) -> Result<Asked, Fault>
     ensures { result ≡ ended asked }
 {
-    if asked.fault != 0 {
-        return asked;
+    match asked.option {
+        Some(place) => wrong(place, Mistake::Without),
+        None => Ok(asked),
     }
-    let option = asked.option;
-    if option != 0 {
-        return blame(asked, option, Asked::WITHOUT);
-    }
-    asked
 }

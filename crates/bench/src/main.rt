@@ -3,7 +3,7 @@
 #![tactic(auto)]
 
 use contract::Contract;
-use reading::Answer;
+use reading::Refusal;
 use results::Report;
 use state::State;
 use std::io;
@@ -24,80 +24,63 @@ const PARTS: u64 = 9223372036854775808;
 
 // A checksum with one number more.
 fn mix(sum: u64, number: u64) -> u64 {
-    ((sum << 7) ^ (sum >> 57)).wrapping_add(number)
+    sum.rotate_left(7).wrapping_add(number)
 }
 
-// A checksum with the first numbers.
-fn mix_all(sum: u64, numbers: &[u64], many: usize) -> u64 {
-    let mut next = sum;
-    let mut i: usize = 0;
-    while i < many {
-        next = mix(next, contract::word(numbers, i));
-        i += 1;
-    }
-    next
+// A checksum with more numbers.
+fn mix_all(sum: u64, numbers: &[u64]) -> u64 {
+    numbers.iter().fold(sum, |sum, number| mix(sum, *number))
 }
 
-fn mix_answer(sum: u64, answer: Answer) -> u64 {
+fn mix_answer(sum: u64, answer: Result<(), Refusal>) -> u64 {
     match answer {
-        Answer::Accepted => mix(sum, 0),
-        Answer::Refused(number, place) => mix(mix(sum, number as u64), place as u64),
+        Ok(()) => mix(sum, 0),
+        Err(r) => mix(mix(sum, r.question.number() as u64), r.place as u64),
     }
 }
 
 // The checksum of so many readings of a text, and of the table at the end.
 fn read_often(text: &[u8], table: &mut [u64], times: u64) -> u64 {
-    let mut sum: u64 = 0;
-    let mut left = times;
-    while 0 < left {
-        left -= 1;
+    let mut sum = 0;
+    for _ in 0..times {
         sum = mix_answer(sum, reader::read(text, table));
     }
-    mix_all(sum, table, table.len())
+    mix_all(sum, table)
+}
+
+// The numbers and the integers that a session tells at once.
+#[derive(Drop)]
+struct Told {
+    numbers: [u64; LINES * Report::WORDS],
+    integers: [i64; LINES],
 }
 
 // The checksum with what a session tells.
-fn play_once(
-    table: &[u64],
-    input: &[u8],
-    numbers: &mut [u64],
-    integers: &mut [i64],
-    sum: u64,
-) -> u64 {
+fn play_once(table: &[u64], input: &[u8], told: &mut Told, sum: u64) -> u64 {
     let mut state = State::fresh(0);
     let mut next = sum;
-    let mut at: usize = 0;
-    let mut left = PARTS;
-    while 0 < left {
-        left -= 1;
-        let p = machine::play(
-            table,
-            state,
-            tokens::between(input, at, input.len()),
-            numbers,
-            integers,
-        );
+    let mut rest = input;
+    for _ in 0..PARTS {
+        let p = machine::play(table, state, rest, &mut told.numbers, &mut told.integers);
         if p.many == 0 {
-            return next;
+            break;
         }
-        if p.many <= LINES {
-            next = mix_all(next, numbers, Report::WORDS * p.many);
-        }
+        next = mix_all(next, &told.numbers[..Report::WORDS * p.many.min(LINES)]);
         state = p.state;
-        at = desk_lines::past(at, p.used, input.len());
+        rest = &rest[p.used.min(rest.len())..];
     }
     next
 }
 
 // The checksum of what so many sessions tell.
 fn play_often(table: &[u64], input: &[u8], times: u64) -> u64 {
-    let mut numbers = [0u64; LINES * Report::WORDS];
-    let mut integers = [0i64; LINES];
-    let mut sum: u64 = 0;
-    let mut left = times;
-    while 0 < left {
-        left -= 1;
-        sum = play_once(table, input, &mut numbers, &mut integers, sum);
+    let mut told = Told {
+        numbers: [0; LINES * Report::WORDS],
+        integers: [0; LINES],
+    };
+    let mut sum = 0;
+    for _ in 0..times {
+        sum = play_once(table, input, &mut told, sum);
     }
     sum
 }
@@ -119,7 +102,7 @@ fn number(rt: &impl Env, i: usize) -> u64 {
 // Reads the text, so many times; then plays the session, so many times.
 fn work(rt: &(impl Env + Files), reads: u64, plays: u64) -> u64 {
     let mut table = [0u64; Contract::TABLE];
-    let mut text = [0u8; Answer::TEXT + 1];
+    let mut text = [0u8; Contract::TEXT + 1];
     let n = load(rt, 2, &mut text);
     let sum = read_often(tokens::between(&text, 0, n), &mut table, reads);
     if plays == 0 {

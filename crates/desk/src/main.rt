@@ -3,16 +3,15 @@
 // settlement pages of the session's payouts.
 #![tactic(auto)]
 
-use arguments::Asked;
+use arguments::{Asked, Fault, Mistake};
 use contract::Contract;
 use diagnoses::Diagnosis;
-use pages::{Gathered, Paged, Sheet};
+use pages::{Gathered, Sheet};
 use question_words::Sentence;
-use reading::Answer;
-use results::{Report, Written};
+use results::Report;
 use state::State;
 use std::io;
-use std::io::{Read, Write};
+use std::io::Write;
 use std::rt::{Env, Files};
 use streams::Errors;
 
@@ -21,38 +20,11 @@ const BLOCK: usize = 65536;
 
 const LINES: usize = 1024;
 
-// ---- files
+// ---- what is printed and said
 
-// No number of bytes.
-const FAILED: usize = 18446744073709551615;
-
-// How many bytes were read, 0 at the file's end.
+// What ended the desk before its end, which is said already.
 #[derive(Clone, Copy)]
-enum Got {
-    Bytes(usize),
-    Failed,
-}
-
-// Reads once; an interrupted read is tried again.
-fn get(file: &mut impl Read, bytes: &mut [u8]) -> Got {
-    match streams::get(file, bytes) {
-        Ok(n) => Got::Bytes(n),
-        Err(_) => Got::Failed,
-    }
-}
-
-// Reads the file with a name until the bytes are full or the file ends.
-fn get_all(rt: &impl Files, name: &[u8], bytes: &mut [u8]) -> Got {
-    match streams::load(rt, name, bytes) {
-        Ok(n) => Got::Bytes(n),
-        Err(_) => Got::Failed,
-    }
-}
-
-// Writes all bytes; an interrupted write is tried again. Answers whether all are written.
-fn put_all(file: &mut impl Write, bytes: &[u8]) -> bool {
-    file.write_all(bytes).is_ok()
-}
+struct Said;
 
 // Writes on standard error, where nothing can be said of a failure.
 fn say(rt: &impl Errors, bytes: &[u8]) {
@@ -60,114 +32,150 @@ fn say(rt: &impl Errors, bytes: &[u8]) {
 }
 
 // Says of a file what can't be done with it.
-fn say_of(rt: &impl Errors, name: &[u8], words: &[u8]) {
+fn say_of(rt: &impl Errors, name: &[u8], words: &[u8]) -> Said {
     say(rt, b"desk: ");
     say(rt, name);
     say(rt, words);
+    Said
 }
 
-// Writes on standard output. Answers whether that went well, and says where it did not.
-fn print(rt: &(impl Print + Errors), bytes: &[u8]) -> bool {
+// Writes on standard output.
+fn print(rt: &(impl Print + Errors), bytes: &[u8]) -> Result<(), Said> {
     if rt.write_all(bytes).is_ok() {
-        return true;
+        return Ok(());
     }
     say(rt, b"desk: standard output can't be written\n");
-    false
+    Err(Said)
+}
+
+// Prints the words of a question on a line of their own; of 0, nothing.
+fn explain(rt: &(impl Print + Errors), question: u8) -> Result<(), Said> {
+    if question == 0 {
+        return Ok(());
+    }
+    let mut words = [0u8; Sentence::BYTES];
+    let n = question_words::words(question, &mut words);
+    print(rt, b"  ")?;
+    print(rt, tokens::between(&words, 0, n))?;
+    print(rt, b"\n")
 }
 
 // ---- result lines
 
-// Prints result lines that are given as numbers, from `from` up to, not including, `to`. The buffer has 128 bytes for each line that there are
-// numbers for, and no line is longer.
-fn print_lines(
-    rt: &(impl Print + Errors),
-    table: &[u64],
-    numbers: &[u64],
-    integers: &[i64],
-    from: usize,
-    to: usize,
-    out: &mut [u8],
-) -> bool {
-    let b = results::write_batch(table, numbers, integers, from, to, out);
-    print(rt, tokens::between(out, 0, b.used))
+// Result lines as numbers, four and an integer each, and the bytes that they print as: 128 for each, and no line is longer.
+#[derive(Drop)]
+struct Reports {
+    numbers: [u64; LINES * Report::WORDS],
+    integers: [i64; LINES],
+    out: [u8; LINES * Report::ROOM],
 }
 
-// Prints the words of a question on a line of their own; of 0, nothing.
-fn explain(rt: &(impl Print + Errors), question: u8) -> bool {
-    if question == 0 {
-        return true;
+impl Reports {
+    // Prints those from `from` up to, not including, `to`.
+    fn print(
+        &mut self,
+        rt: &(impl Print + Errors),
+        table: &[u64],
+        from: usize,
+        to: usize,
+    ) -> Result<(), Said> {
+        let batch = results::write_batch(
+            table,
+            &self.numbers,
+            &self.integers,
+            from,
+            to,
+            &mut self.out,
+        );
+        let used = batch.map_or(0, |lines| lines.used);
+        print(rt, tokens::between(&self.out, 0, used))
     }
-    let mut words = [0u8; Sentence::BYTES];
-    let n = question_words::words(question, &mut words);
-    if print(rt, b"  ") {
-        if print(rt, tokens::between(&words, 0, n)) {
-            return print(rt, b"\n");
-        }
-    }
-    false
-}
 
-// Prints the first result lines one by one, and after each that has a question its words.
-fn explain_lines(
-    rt: &(impl Print + Errors),
-    table: &[u64],
-    numbers: &[u64],
-    integers: &[i64],
-    many: usize,
-    out: &mut [u8],
-) -> bool {
-    let mut i: usize = 0;
-    while i < many {
-        if !print_lines(rt, table, numbers, integers, i, i + 1, out) {
-            return false;
+    // Prints the first ones one by one, and after each that has a question its words.
+    fn explain(
+        &mut self,
+        rt: &(impl Print + Errors),
+        table: &[u64],
+        many: usize,
+    ) -> Result<(), Said> {
+        for i in 0..many {
+            self.print(rt, table, i, i + 1)?;
+            explain(rt, desk_lines::question_of(&self.numbers, i))?;
         }
-        if !explain(rt, desk_lines::question_of(numbers, i)) {
-            return false;
-        }
-        i += 1;
+        Ok(())
     }
-    true
-}
-
-// Prints the first result lines, explained or not.
-fn print_block(
-    rt: &(impl Print + Errors),
-    table: &[u64],
-    explained: bool,
-    numbers: &[u64],
-    integers: &[i64],
-    many: usize,
-    out: &mut [u8],
-) -> bool {
-    if explained {
-        return explain_lines(rt, table, numbers, integers, many, out);
-    }
-    print_lines(rt, table, numbers, integers, 0, many, out)
 }
 
 // ---- settlement pages
 
-// What results go to: standard output, explained or not, and OUT, where it is asked for.
-#[derive(Clone, Copy)]
-struct Output {
-    explain: bool,
-    // Which argument OUT is, or 0.
-    argument: usize,
-    // What is gathered for the next page, and whether a page is written.
+// The settlement pages of a session: their file and its name, what is gathered for the next page, and whether a page is written.
+#[derive(Drop)]
+struct Settlement<'a, W> {
+    name: &'a [u8],
+    file: W,
     gathered: Gathered,
+    entries: [u64; Sheet::LINES * Sheet::NUMBERS],
+    values: [i64; Sheet::LINES],
     begun: bool,
-    // Whether all went well so far.
-    whole: bool,
 }
 
-// OUT can't be written.
-fn fail_pages(rt: &(impl Env + Errors), output: Output) -> Output {
-    let mut name = [0u8; Asked::ARGUMENT_BYTES + 1];
-    let n = get_argument(rt, output.argument, &mut name);
-    say_of(rt, tokens::between(&name, 0, n), b" can't be written\n");
-    let mut next = output;
-    next.whole = false;
-    next
+impl<W: Write> Settlement<'_, W> {
+    // The file can't be written.
+    fn fail(&self, rt: &impl Errors) -> Result<(), Said> {
+        Err(say_of(rt, self.name, b" can't be written\n"))
+    }
+
+    // Writes the page of what is gathered; then nothing is.
+    fn write_page(&mut self, rt: &impl Errors, table: &[u64]) -> Result<(), Said> {
+        let count = self.gathered.count.min(Sheet::LINES);
+        let numbers = &self.entries[..Sheet::NUMBERS * count];
+        let values = &self.values[..count];
+        let mut page = [0u8; Sheet::BYTES];
+        if pages::page(table, numbers, values, 0, &mut page).is_err() {
+            return self.fail(rt);
+        }
+        if self.file.write_all(&page).is_err() {
+            return self.fail(rt);
+        }
+        self.gathered.count = 0;
+        self.begun = true;
+        Ok(())
+    }
+
+    // The first result lines, one by one; a page that one fills is written.
+    fn settle(
+        &mut self,
+        rt: &impl Errors,
+        table: &[u64],
+        reports: &Reports,
+        many: usize,
+    ) -> Result<(), Said> {
+        for i in 0..many {
+            self.gathered = pages::gather(
+                self.gathered,
+                &reports.numbers,
+                &reports.integers,
+                i,
+                &mut self.entries,
+                &mut self.values,
+            );
+            if Sheet::LINES <= self.gathered.count {
+                self.write_page(rt, table)?;
+            }
+        }
+        Ok(())
+    }
+
+    // The last page, if it has a payout or is the only one.
+    fn close(&mut self, rt: &impl Errors, table: &[u64]) -> Result<(), Said> {
+        if (0 < self.gathered.count) | !self.begun {
+            self.write_page(rt, table)?;
+        }
+        if self.file.flush().is_err() {
+            return self.fail(rt);
+        }
+        Ok(())
+    }
 }
 
 // Takes the numbers of standard streams that are closed, so that OUT gets none of them.
@@ -186,452 +194,256 @@ fn hold_streams<R: Files>(
 }
 
 // Makes or empties OUT; what is said where it can't be written does not go into it.
-fn open_pages<R: Env + Files + Errors>(rt: &R, output: Output) -> io::Result<R::File> {
-    let mut name = [0u8; Asked::ARGUMENT_BYTES + 1];
-    let n = get_argument(rt, output.argument, &mut name);
+fn open_pages<'a, R: Files + Errors>(
+    rt: &R,
+    name: &'a [u8],
+) -> Result<Settlement<'a, R::File>, Said> {
     let held = hold_streams(rt);
-    let file = streams::create(rt, tokens::between(&name, 0, n));
+    let made = streams::create(rt, name);
     drop(held);
-    if file.is_err() {
-        fail_pages(rt, output);
+    match made {
+        Ok(file) => Ok(Settlement {
+            name,
+            file,
+            gathered: Gathered::nothing(),
+            entries: [0; Sheet::LINES * Sheet::NUMBERS],
+            values: [0; Sheet::LINES],
+            begun: false,
+        }),
+        Err(_) => Err(say_of(rt, name, b" can't be written\n")),
     }
-    file
-}
-
-fn open_output(asked: Asked) -> Output {
-    Output {
-        explain: asked.explain,
-        argument: asked.pages,
-        gathered: Gathered::nothing(),
-        begun: false,
-        whole: true,
-    }
-}
-
-// The numbers of the first entries, and their values; none where there are not so many.
-fn first_numbers(entries: &[u64], count: usize) -> &[u64] {
-    if count <= entries.len() / Sheet::NUMBERS {
-        &entries[..Sheet::NUMBERS * count]
-    } else {
-        &entries[..0]
-    }
-}
-
-fn first_values(values: &[i64], count: usize) -> &[i64] {
-    if count <= values.len() {
-        &values[..count]
-    } else {
-        &values[..0]
-    }
-}
-
-// Writes the page of what is gathered; then nothing is.
-fn write_page(
-    rt: &(impl Env + Errors),
-    pages: &mut impl Write,
-    table: &[u64],
-    output: Output,
-    entries: &[u64],
-    values: &[i64],
-) -> Output {
-    let g = output.gathered;
-    let count = g.count;
-    let mut page = [0u8; Sheet::BYTES];
-    let answer = pages::page(
-        table,
-        first_numbers(entries, count),
-        first_values(values, count),
-        0,
-        &mut page,
-    );
-    let Paged::Accepted = answer else {
-        return fail_pages(rt, output);
-    };
-    if !put_all(pages, &page) {
-        return fail_pages(rt, output);
-    }
-    let emptied = Gathered {
-        rule: g.rule,
-        clock: g.clock,
-        count: 0,
-    };
-    let mut next = output;
-    next.gathered = emptied;
-    next.begun = true;
-    next
-}
-
-// Result line i; a page that it fills is written.
-fn settle_line(
-    rt: &(impl Env + Errors),
-    pages: &mut impl Write,
-    table: &[u64],
-    output: Output,
-    numbers: &[u64],
-    integers: &[i64],
-    i: usize,
-    entries: &mut [u64],
-    values: &mut [i64],
-) -> Output {
-    let before = output.gathered;
-    let g = pages::gather(before, numbers, integers, i, entries, values);
-    let count = g.count;
-    let mut next = output;
-    next.gathered = g;
-    if count < Sheet::LINES {
-        return next;
-    }
-    write_page(rt, pages, table, next, entries, values)
-}
-
-// The first result lines, one by one.
-fn settle(
-    rt: &(impl Env + Errors),
-    pages: &mut impl Write,
-    table: &[u64],
-    output: Output,
-    numbers: &[u64],
-    integers: &[i64],
-    many: usize,
-    entries: &mut [u64],
-    values: &mut [i64],
-) -> Output {
-    let mut next = output;
-    let mut i: usize = 0;
-    while i < many {
-        next = settle_line(
-            rt, pages, table, next, numbers, integers, i, entries, values,
-        );
-        if !next.whole {
-            return next;
-        }
-        i += 1;
-    }
-    next
-}
-
-// The last page, if it has a payout or is the only one. Answers whether that went well.
-fn close_output(
-    rt: &(impl Env + Errors),
-    pages: &mut impl Write,
-    table: &[u64],
-    output: Output,
-    entries: &[u64],
-    values: &[i64],
-) -> bool {
-    if output.argument == 0 {
-        return true;
-    }
-    let g = output.gathered;
-    let mut last = output;
-    if (0 < g.count) | !output.begun {
-        last = write_page(rt, pages, table, output, entries, values);
-    }
-    if !last.whole {
-        return false;
-    }
-    if pages.flush().is_err() {
-        fail_pages(rt, last);
-        return false;
-    }
-    true
 }
 
 // ---- a session, line by line
 
-// What is left of the last line comes to the front, and bytes of standard input after it; at its end that line ends. Answers how many
-// bytes there are then, FAILED where they can't be read, or where nothing can be told any more. The buffer's last byte stays free.
-fn read_more(
-    rt: &(impl Input + Errors),
-    told: bool,
-    bytes: &mut [u8],
+// The bytes of a session that are read and not yet taken: those from `at` up to `size`. The last byte stays free.
+// Kept: (a) the desk runs in fixed memory, however long a session is.
+#[derive(Drop)]
+struct Session {
+    bytes: [u8; BLOCK],
     at: usize,
     size: usize,
-) -> usize {
-    let kept = desk_lines::bring(bytes, at, size);
-    if bytes.len() <= kept {
-        return 0;
-    }
-    if !told {
-        return FAILED;
-    }
-    let last = bytes.len() - 1;
-    let got = get(&mut rt.reader(), &mut bytes[kept..last]);
-    let Got::Bytes(n) = got else {
-        say(rt, b"desk: the session can't be read\n");
-        return FAILED;
-    };
-    if n == 0 {
-        return desk_lines::close(bytes, kept);
-    }
-    desk_lines::past(kept, n, last)
 }
 
-// The first result lines go where they are asked for.
-fn tell(
-    rt: &(impl Env + Print + Errors),
-    pages: &mut impl Write,
-    table: &[u64],
-    output: Output,
-    numbers: &[u64],
-    integers: &[i64],
-    many: usize,
-    out: &mut [u8],
-    entries: &mut [u64],
-    values: &mut [i64],
-) -> Output {
-    if print_block(rt, table, output.explain, numbers, integers, many, out) {
-        if output.argument == 0 {
-            return output;
+impl Session {
+    // What is left of the last line comes to the front, and bytes of standard input after it; at its end that line ends. Answers whether there
+    // are any bytes then.
+    fn read_more(&mut self, rt: &(impl Input + Errors)) -> Result<bool, Said> {
+        let kept = desk_lines::bring(&mut self.bytes, self.at, self.size);
+        self.at = 0;
+        self.size = 0;
+        if BLOCK <= kept {
+            return Ok(false);
         }
-        return settle(
-            rt, pages, table, output, numbers, integers, many, entries, values,
-        );
-    }
-    let mut next = output;
-    next.whole = false;
-    next
-}
-
-// Where a session stands: its state, what its results went to, and the bytes that are read and not yet taken, from `at` up to `size`;
-// `size` is FAILED where not all could be read, printed or written.
-#[derive(Clone, Copy)]
-struct Standing {
-    state: State,
-    output: Output,
-    at: usize,
-    size: usize,
-    done: bool,
-}
-
-// Takes the lines that are read, as many as there is room for, and fires the events that are due; where none is left, reads more.
-fn go_on(
-    rt: &(impl Env + Input + Print + Errors),
-    pages: &mut impl Write,
-    table: &[u64],
-    session: Standing,
-    bytes: &mut [u8],
-    numbers: &mut [u64],
-    integers: &mut [i64],
-    out: &mut [u8],
-    entries: &mut [u64],
-    values: &mut [i64],
-) -> Standing {
-    let before = session.state;
-    let went = session.output;
-    let size = session.size;
-    let input = tokens::between(bytes, session.at, size);
-    let p = machine::play(table, before, input, numbers, integers);
-    let output = tell(
-        rt, pages, table, went, numbers, integers, p.many, out, entries, values,
-    );
-    let at = desk_lines::past(session.at, p.used, size);
-    let state = p.state;
-    if (p.many != 0) & output.whole {
-        return Standing {
-            state,
-            output,
-            at,
-            size,
-            done: false,
-        };
-    }
-    let more = read_more(rt, output.whole, bytes, at, size);
-    Standing {
-        state,
-        output,
-        at: 0,
-        size: more,
-        done: (more == 0) | (more == FAILED) | (p.question != 0),
+        let last = BLOCK - 1;
+        match streams::get(&mut rt.reader(), &mut self.bytes[kept..last]) {
+            Ok(0) => self.size = desk_lines::close(&mut self.bytes, kept),
+            Ok(n) => self.size = desk_lines::past(kept, n, last),
+            Err(_) => {
+                say(rt, b"desk: the session can't be read\n");
+                return Err(Said);
+            }
+        }
+        Ok(self.size != 0)
     }
 }
 
 // The most steps of a session.
 const STEPS: u64 = 9223372036854775808;
 
-// Takes each line of standard input.
-fn take_session(
-    rt: &(impl Env + Input + Print + Errors),
-    pages: &mut impl Write,
+// Takes each line of standard input and fires the events that are due, as many at once as there is room for; the result lines go where they
+// are asked for.
+fn take_session<W: Write>(
+    rt: &(impl Input + Print + Errors),
     table: &[u64],
-    output: Output,
-    bytes: &mut [u8],
-    numbers: &mut [u64],
-    integers: &mut [i64],
-    out: &mut [u8],
-    entries: &mut [u64],
-    values: &mut [i64],
-) -> Standing {
-    let mut session = Standing {
-        state: State::fresh(0),
-        output,
-        at: 0,
-        size: 0,
-        done: false,
-    };
-    let mut left = STEPS;
-    while 0 < left {
-        left -= 1;
-        session = go_on(
-            rt, pages, table, session, bytes, numbers, integers, out, entries, values,
+    explained: bool,
+    pages: &mut Option<Settlement<W>>,
+    session: &mut Session,
+    reports: &mut Reports,
+) -> Result<State, Said> {
+    let mut state = State::fresh(0);
+    for _ in 0..STEPS {
+        let input = tokens::between(&session.bytes, session.at, session.size);
+        let p = machine::play(
+            table,
+            state,
+            input,
+            &mut reports.numbers,
+            &mut reports.integers,
         );
-        if session.done {
-            return session;
+        state = p.state;
+        session.at = desk_lines::past(session.at, p.used, session.size);
+        if explained {
+            reports.explain(rt, table, p.many)?;
+        } else {
+            reports.print(rt, table, 0, p.many)?;
+        }
+        if let Some(pages) = pages {
+            pages.settle(rt, table, reports, p.many)?;
+        }
+        if p.many == 0 {
+            let more = session.read_more(rt)?;
+            if !more | p.question.is_some() {
+                break;
+            }
         }
     }
-    session
+    Ok(state)
 }
 
 // A session on the contract in a table, then its last page, then what each asset holds.
-fn play(
-    rt: &(impl Env + Input + Print + Errors),
-    pages: &mut impl Write,
+fn play<W: Write>(
+    rt: &(impl Input + Print + Errors),
     table: &[u64],
-    output: Output,
-) {
-    let mut bytes = [0u8; BLOCK];
-    let mut numbers = [0u64; LINES * Report::WORDS];
-    let mut integers = [0i64; LINES];
-    let mut out = [0u8; LINES * Report::ROOM];
-    let mut entries = [0u64; Sheet::LINES * Sheet::NUMBERS];
-    let mut values = [0i64; Sheet::LINES];
-    let session = take_session(
-        rt,
-        pages,
-        table,
-        output,
-        &mut bytes,
-        &mut numbers,
-        &mut integers,
-        &mut out,
-        &mut entries,
-        &mut values,
-    );
-    if session.size != FAILED {
-        let last = session.output;
-        if close_output(rt, pages, table, last, &entries, &values) {
-            let s = session.state;
-            let assets = desk_lines::held(table, s, &mut numbers);
-            print_lines(rt, table, &numbers, &integers, 0, assets, &mut out);
-        }
+    explained: bool,
+    mut pages: Option<Settlement<W>>,
+) -> Result<(), Said>
+where
+    W: Drop,
+{
+    let mut session = Session {
+        bytes: [0; BLOCK],
+        at: 0,
+        size: 0,
+    };
+    let mut reports = Reports {
+        numbers: [0; LINES * Report::WORDS],
+        integers: [0; LINES],
+        out: [0; LINES * Report::ROOM],
+    };
+    let state = take_session(rt, table, explained, &mut pages, &mut session, &mut reports)?;
+    if let Some(pages) = &mut pages {
+        pages.close(rt, table)?;
     }
+    let assets = desk_lines::held(table, state, &mut reports.numbers);
+    reports.print(rt, table, 0, assets)
 }
 
 // A session, with its pages where they are asked for.
-fn run(rt: &(impl Env + Files + Input + Print + Errors), table: &[u64], asked: Asked) {
-    let output = open_output(asked);
-    if asked.pages == 0 {
-        return play(rt, &mut io::sink(), table, output);
-    }
-    if let Ok(mut pages) = open_pages(rt, output) {
-        play(rt, &mut pages, table, output);
-    }
+fn run<R: Env + Files + Input + Print + Errors>(
+    rt: &R,
+    table: &[u64],
+    asked: Asked,
+) -> Result<(), Said> {
+    let Some(place) = asked.pages else {
+        return play(rt, table, asked.explain, None::<Settlement<R::File>>);
+    };
+    let mut name = [0u8; Asked::ARGUMENT_BYTES + 1];
+    let out = get_argument(rt, place, &mut name);
+    let pages = open_pages(rt, out)?;
+    play(rt, table, asked.explain, Some(pages))
 }
 
 // ---- a contract
 
 // A refused text: the question and the place, then where that is.
-fn refuse(rt: &(impl Print + Errors), name: &[u8], text: &[u8], number: u8, place: usize) {
+fn refuse(
+    rt: &(impl Print + Errors),
+    name: &[u8],
+    text: &[u8],
+    number: u8,
+    place: usize,
+) -> Result<(), Said> {
     let mut line = [0u8; Report::ROOM];
     let written = results::write_text_refusal(number, place, &mut line);
-    if let Written::Wrote(n) = written {
-        print(rt, tokens::between(&line, 0, n));
-    }
+    let printed = match written {
+        Ok(n) => print(rt, tokens::between(&line, 0, n)),
+        Err(_) => Ok(()),
+    };
     let mut out = [0u8; Diagnosis::ROOM];
     let n = diagnoses::write(name, text, number, place, &mut out);
     say(rt, tokens::between(&out, 0, n));
+    printed
 }
 
-// A line for field x where a clause sets it and no clause agrees on it.
-fn review_field(rt: &(impl Print + Errors), table: &[u64], x: usize) -> bool {
-    if reviews::never_agreed(table, x) {
-        let mut name = [0u8; Contract::NAME];
-        let n = reviews::field_name(table, x, &mut name);
-        if print(rt, b"// never agreed: ") {
-            if print(rt, tokens::between(&name, 0, n)) {
-                return print(rt, b"\n");
-            }
+// What the terms say before any session: a line for each field that a clause sets and no clause agrees on.
+fn review(rt: &(impl Print + Errors), table: &[u64]) -> Result<(), Said> {
+    for x in 0..Contract::FIELDS {
+        if reviews::never_agreed(table, x) {
+            let mut name = [0u8; Contract::NAME];
+            let n = reviews::field_name(table, x, &mut name);
+            print(rt, b"// never agreed: ")?;
+            print(rt, tokens::between(&name, 0, n))?;
+            print(rt, b"\n")?;
         }
-        return false;
     }
-    true
-}
-
-// What the terms say before any session.
-fn review(rt: &(impl Print + Errors), table: &[u64]) {
-    let mut x: usize = 0;
-    while x < Contract::FIELDS {
-        if !review_field(rt, table, x) {
-            return;
-        }
-        x += 1;
-    }
+    Ok(())
 }
 
 // The contract's text, then what is asked.
-fn begin(rt: &(impl Env + Files + Input + Print + Errors), asked: Asked, name: &[u8], text: &[u8]) {
+fn begin(
+    rt: &(impl Env + Files + Input + Print + Errors),
+    asked: Asked,
+    name: &[u8],
+    text: &[u8],
+) -> Result<(), Said> {
     let mut table = [0u64; Contract::TABLE];
     let answer = reader::read(text, &mut table);
     match answer {
-        Answer::Refused(number, place) => refuse(rt, name, text, number, place),
-        Answer::Accepted => {
+        Err(r) => refuse(rt, name, text, r.question.number(), r.place),
+        Ok(()) => {
             if asked.review {
-                review(rt, &table);
+                review(rt, &table)
             } else {
-                run(rt, &table, asked);
+                run(rt, &table, asked)
             }
         }
     }
 }
 
 // The contract's text from the file with a name. There is room for one byte more than a text may have, so that a longer one is refused.
-fn start(rt: &(impl Env + Files + Input + Print + Errors), asked: Asked, name: &[u8]) {
-    let mut text = [0u8; Answer::TEXT + 1];
-    let got = get_all(rt, name, &mut text);
-    let Got::Bytes(n) = got else {
-        say_of(rt, name, b" can't be read\n");
-        return;
-    };
-    begin(rt, asked, name, tokens::between(&text, 0, n));
+fn start(
+    rt: &(impl Env + Files + Input + Print + Errors),
+    asked: Asked,
+    name: &[u8],
+) -> Result<(), Said> {
+    let mut text = [0u8; Contract::TEXT + 1];
+    match streams::load(rt, name, &mut text) {
+        Ok(n) => begin(rt, asked, name, &text[..n]),
+        Err(_) => Err(say_of(rt, name, b" can't be read\n")),
+    }
 }
 
 // ---- arguments
 
 // Argument i; all of the buffer where it has no room for it.
-fn get_argument(rt: &impl Env, i: usize, buffer: &mut [u8]) -> usize {
-    streams::argument(rt, i, buffer).unwrap_or(0)
+fn get_argument<'a>(rt: &impl Env, i: usize, buffer: &'a mut [u8]) -> &'a [u8] {
+    let n = streams::argument(rt, i, buffer).unwrap_or(0);
+    &buffer[..n]
 }
 
 // What the arguments ask for. There is room for one byte more than an argument may have, so that a longer one is told.
-fn ask(rt: &impl Env) -> Asked {
+fn ask(rt: &impl Env) -> Result<Asked, Fault> {
     let mut argument = [0u8; Asked::ARGUMENT_BYTES + 1];
     let mut asked = Asked::nothing();
     for i in 1..usize::MAX {
         let Some(n) = streams::argument(rt, i, &mut argument) else {
             break;
         };
-        asked = arguments::hear(asked, i, tokens::between(&argument, 0, n));
+        asked = arguments::hear(asked, i, &argument[..n])?;
     }
     arguments::finish(asked)
 }
 
-// What is wrong with the arguments.
-fn complain(rt: &(impl Eprint + Errors), asked: Asked) {
-    say(rt, b"desk: argument ");
-    let _ = rt.eprint(asked.place);
-    let fault = asked.fault;
-    match fault {
-        Asked::LONG => say(rt, b" is over 1024 bytes\n"),
-        Asked::UNKNOWN => say(rt, b" is no option of the desk\n"),
-        Asked::TWICE => say(rt, b" is an option given before\n"),
-        Asked::ALONE => say(rt, b": --review goes with no other option\n"),
-        Asked::WITHOUT => say(rt, b" is an option without its argument\n"),
-        _ => say(rt, b" is one FILE too many\n"),
+fn words_of(mistake: Mistake) -> &'static str {
+    match mistake {
+        Mistake::Long => " is over 1024 bytes",
+        Mistake::Unknown => " is no option of the desk",
+        Mistake::Twice => " is an option given before",
+        Mistake::Alone => ": --review goes with no other option",
+        Mistake::Without => " is an option without its argument",
+        Mistake::Many => " is one FILE too many",
     }
-    say(rt, b"desk: try desk --help\n");
 }
 
-fn help(rt: &(impl Print + Errors)) {
+// What is wrong with the arguments.
+fn complain(rt: &impl Eprint, fault: Fault) {
+    let place = fault.place;
+    let words = words_of(fault.mistake);
+    let _ = eprintln!(rt; "desk: argument {place}{words}\ndesk: try desk --help");
+}
+
+fn help(rt: &(impl Print + Errors)) -> Result<(), Said> {
     print(
         rt,
         b"\
@@ -641,24 +453,26 @@ fn help(rt: &(impl Print + Errors)) {
             \x20 --pages OUT           the settlement pages of the session's payouts, in the file OUT\n\
             \x20 --review              a report on the terms, without a session\n\
             \x20 --help                this\n",
-    );
+    )
+}
+
+// Does what is asked.
+fn answer(rt: &(impl Env + Files + Input + Print + Errors), asked: Asked) -> Result<(), Said> {
+    if asked.help {
+        return help(rt);
+    }
+    let Some(place) = asked.file else {
+        return start(rt, asked, b"terms.stipula");
+    };
+    let mut name = [0u8; Asked::ARGUMENT_BYTES + 1];
+    start(rt, asked, get_argument(rt, place, &mut name))
 }
 
 fn main(rt: HostRuntime) {
-    let asked = ask(&rt);
-    if asked.fault != 0 {
-        complain(&rt, asked);
-        return;
+    match ask(&rt) {
+        Ok(asked) => {
+            let _ = answer(&rt, asked);
+        }
+        Err(fault) => complain(&rt, fault),
     }
-    if asked.help {
-        help(&rt);
-        return;
-    }
-    if asked.files == 0 {
-        start(&rt, asked, b"terms.stipula");
-        return;
-    }
-    let mut name = [0u8; Asked::ARGUMENT_BYTES + 1];
-    let n = get_argument(&rt, asked.file, &mut name);
-    start(&rt, asked, tokens::between(&name, 0, n));
 }

@@ -5,11 +5,11 @@ use mathlib.Core.List.{List, [], ◌∷◌}
 use Prim.Native.Nat.{ℕ, suc, ◌+◌, ◌*◌, ◌-◌, ◌<◌, ◌≤◌, min}
 use native.Mathlib.Numerals.{add-one}
 use native.Mathlib.Omega.{arith}
-use borrow.Author.Tests.{leb-true, eqb-true, lt-ltb, le-ltb}
+use borrow.Author.Tests.{leb-true, eqb-true, ltb-true, ltb-false, lt-ltb, le-ltb}
 use lib.Dec.{eqb, ltb, leb}
 use lib.IntN.{ℤ, pos}
 use lib.ListN.{length, take, drop, get_or, set, length-set, length-take, length-drop, drop_of_length-le, get_or-eq_default}
-use lib.Seq.{sets, length-sets, drop-cons, get_or-take, get_or-drop, drop-drop, drop-set-lt, take-nil}
+use lib.Seq.{take_all, sets, length-sets, drop-cons, get_or-take, get_or-drop, drop-drop, drop-set-lt, take-nil}
 use Rattle.laws.specs.Choice.{pick}
 use Rattle.tokens.specs.Tokens.{between}
 use Rattle.laws.proofs.Choice.{by_cases, true_false}
@@ -129,17 +129,28 @@ unfolding held_from
 held_length i [] = refl
 held_length i (a ∷ l) = ap suc (held_length (suc i) l)
 
+-- as many as there are
+taken : (assets : List ℕ) (n m : ℕ) → n ≡ min m (length assets) → take n assets ≡ take m assets
+taken assets n m e = go (ltb m (length assets)) refl
+  where
+    go : (t : Bool) → ltb m (length assets) ≡ t → take n assets ≡ take m assets
+    go true q = let h = ltb-true m (length assets) q in ap (λ (k : ℕ). take k assets) (omega (arith, e))
+    go false q = let h = ltb-false m (length assets) q in take_all n assets (omega (arith, e)) ∙ sym (take_all m assets (omega arith))
+
 -- all are written: m is the number of assets
-pub holds_all : {old assets new : List ℕ} {n i : ℕ} → Holds old assets n i new → (m : ℕ) → n ≡ m → i ≡ min n (length assets)
-    → record { value : i ≡ length (held_from 0 (take m assets)); numbers_after : new ≡ sets old 0 (coded_all (held_from 0 (take m assets))) }
+pub holds_all : {old assets new : List ℕ} {n i : ℕ} → Holds old assets n i new → (m : ℕ) → n ≡ min m (length assets) → n ≤ i
+    → record { value : n ≡ length (held_from 0 (take m assets)); numbers_after : new ≡ sets old 0 (coded_all (held_from 0 (take m assets))) }
 unfolding coded_all held_from
 holds_all {old} {assets} {new} {n} {i} b m e h =
-    let none : length (take n assets) ≤ i = simp length-take (omega arith) in
-    rw (sym e)
-    (record {
-      value = h ∙ sym (held_length 0 (take n assets) ∙ length-take n assets);
-      numbers_after = ap (λ (l : List ℕ). sets new (4 * i) (coded_all (held_from i l))) (sym (drop_of_length-le (take n assets) none)) ∙ b.rest;
-    })
+    let none : length (take n assets) ≤ i = simp length-take (omega (arith, e)) in
+    let t : take n assets ≡ take m assets = taken assets n m e in
+    record {
+      value = sym (held_length 0 (take m assets) ∙ length-take m assets ∙ sym e);
+      numbers_after =
+          ap (λ (l : List ℕ). sets new (4 * i) (coded_all (held_from i l))) (sym (drop_of_length-le (take n assets) none))
+          ∙ b.rest
+          ∙ ap (λ (l : List ℕ). sets old 0 (coded_all (held_from 0 l))) t;
+    }
 
 -- ---- the question of a report
 

@@ -21,12 +21,7 @@ const KEPT: usize = Line::BYTES + 1;
 pub fn past(at: usize, n: usize, size: usize) -> usize
     ensures { result ≡ min (at + n) size }
 {
-    if at <= size {
-        if n <= size - at {
-            return at + n;
-        }
-    }
-    size
+    at.saturating_add(n).min(size)
 }
 
 // How many bytes are kept from a place up to an end, of so many.
@@ -35,12 +30,8 @@ fn count(from: usize, end: usize, size: usize) -> usize
 {
     if from <= end {
         if end <= size {
-            if end - from < KEPT {
-                return end - from;
-            }
-            return KEPT;
+            return KEPT.min(end - from);
         }
-        return 0;
     }
     0
 }
@@ -51,10 +42,8 @@ pub fn bring(bytes: &mut [u8], from: usize, end: usize) -> usize
     ensures bytes_after { bytes.new ≡ sets bytes.old 0 (kept bytes.old from end) }
 {
     let n = count(from, end, bytes.len());
-    let mut i: usize = 0;
-    while i < n {
+    for i in 0..n {
         bytes[i] = bytes[from + i];
-        i += 1;
     }
     n
 }
@@ -120,15 +109,10 @@ pub fn held(table: &[u64], s: State, numbers: &mut [u64]) -> usize
     ensures numbers_after { numbers.new ≡ sets numbers.old 0 (coded_all (holdings table.now s)) }
 {
     let c = contract::head(table);
-    let count = c.assets;
+    let count = c.assets.min(Contract::ASSETS);
     let amounts = s.assets;
-    let mut i: usize = 0;
-    while i < Contract::ASSETS {
-        if count <= i {
-            return i;
-        }
+    for i in 0..count {
         put_held(numbers, i, amounts[i]);
-        i += 1;
     }
-    i
+    count
 }

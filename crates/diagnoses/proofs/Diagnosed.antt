@@ -106,3 +106,7 @@ module _ (file text : List ℕ) (number q : ℕ) where
   pub none_written : (old : List ℕ) → fits (length file) (length old) ≡ false
       → record { value : 0 ≡ written file text number q (length old); buffer_after : old ≡ buffer_after file text number q old }
   none_written old t = record { value = sym (pick_false _ _ _ t); buffer_after = sym (pick_false _ _ _ t) }
+
+-- the two questions without a place, by their numbers
+pub told : (n : ℕ) {a b : ℕ} → a ≡ 1 → b ≡ 2 → (eqb n 1 || eqb n 2) ≡ (eqb n a || eqb n b)
+told n e f = λ i. eqb n (sym e i) || eqb n (sym f i)

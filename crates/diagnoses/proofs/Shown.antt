@@ -5,7 +5,9 @@ use Prim.Native.Nat.{ℕ, zero, suc, ◌+◌, ◌<◌, ◌≤◌, min}
 use native.Mathlib.Omega.{arith}
 use lib.ListN.{length, get_or, set, take, drop, length-take, length-map}
 use lib.Seq.{sets, sets-eq, get_or-take, take-append_seam}
-use borrow.Author.Tests.{le-leb, lt-leb}
+use mathlib.Core.Bool.{true, false, ◌&&◌}
+use lib.Dec.{leb}
+use Rattle.laws.proofs.Choice.{pick_true, pick_false}
 use Rattle.laws.specs.Choice.{pick}
 use Rattle.tokens.specs.Classes.{within, is_printable}
 use Rattle.printing.proofs.Puts.{store_next}
@@ -13,18 +15,17 @@ use Rattle.diagnoses.specs.Diagnoses.{shown, shown_line}
 
 -- ---- a byte
 
-module _ (b : ℕ) where
-  pub shown_low : b < 32 → 32 ≡ shown b
-  unfolding shown is_printable within pick
-  shown_low h = rw (lt-leb 32 b h)
+within_both : (b : ℕ) → within b 32 126 ≡ (leb 32 b && leb b 126)
+unfolding within pick
+within_both b = elim (leb 32 b) as (λ t. pick t (leb b 126) false ≡ (t && leb b 126)) [ true ↦ refl | false ↦ refl ]
 
-  pub shown_high : 32 ≤ b → 126 < b → 32 ≡ shown b
-  unfolding shown is_printable within pick
-  shown_high h k = rw (le-leb 32 b h, lt-leb b 126 k)
+pub shown_is : (b : ℕ) → (leb 32 b && leb b 126) ≡ true → b ≡ shown b
+unfolding shown is_printable
+shown_is b h = sym (pick_true _ _ _ (within_both b ∙ h))
 
-  pub shown_is : 32 ≤ b → b ≤ 126 → b ≡ shown b
-  unfolding shown is_printable within pick
-  shown_is h k = rw (le-leb 32 b h, le-leb b 126 k)
+pub shown_other : (b : ℕ) → (leb 32 b && leb b 126) ≡ false → 32 ≡ shown b
+unfolding shown is_printable
+shown_other b h = sym (pick_false _ _ _ (within_both b ∙ h))
 
 -- ---- a line
 

@@ -6,6 +6,7 @@ ghost use Rattle.printing.specs.Pieces.{Put};
 ghost use Rattle.diagnoses.specs.Diagnoses.{diagnosis, written, buffer_after};
 
 use arguments::Asked;
+use questions::Question;
 
 mod lines;
 mod pieces;
@@ -32,7 +33,7 @@ fn put_diagnosis(file: &[u8], text: &[u8], number: u8, place: usize, buffer: &mu
     let p = places::place_in(text, place);
     let what = lines::put_where(file, p.line, p.column, buffer);
     let end = lines::put_what(number, buffer, what);
-    if (number == questions::TEXT_LENGTH) | (number == questions::TABLE_LENGTH) {
+    if (number == Question::TextLength.number()) | (number == Question::TableLength.number()) {
         return end;
     }
     lines::put_source(text, p, buffer, end)

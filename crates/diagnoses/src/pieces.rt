@@ -1,5 +1,5 @@
 // The pieces of a diagnosis, each stored into the lent buffer from a place on; each hands back the place after it.
-ghost use Rattle.std.specs.Prelude.{◌≡◌, ◌+◌, ◌≤◌, min, length};
+ghost use Rattle.std.specs.Prelude.{◌≡◌, ◌+◌, ◌≤◌, length};
 ghost use Rattle.printing.specs.Pieces.{put, place_after, Put};
 ghost use Rattle.question_words.specs.Words.{words_of};
 ghost use Rattle.diagnoses.specs.Diagnoses.{shown, shown_line};
@@ -21,25 +21,8 @@ pub(crate) fn put_words(number: u8, buffer: &mut [u8], at: usize) -> usize
 fn show(b: u8) -> u8
     ensures { result ≡ shown b }
 {
-    if b < b' ' {
-        return b' ';
-    }
-    let past = b'~' < b;
-    if past {
-        return b' ';
-    }
-    b
-}
-
-// How many bytes are shown of a line with so many.
-fn shown_count(n: usize) -> usize
-    ensures { result ≡ min 200 n }
-{
-    if n < Diagnosis::SHOWN {
-        n
-    } else {
-        Diagnosis::SHOWN
-    }
+    let shown = (b' ' <= b) & (b <= b'~');
+    if shown { b } else { b' ' }
 }
 
 // A line as it is shown.
@@ -47,11 +30,9 @@ pub(crate) fn put_shown(line: &[u8], buffer: &mut [u8], at: usize) -> usize
     requires { at + 200 ≤ length buffer.old }
     ensures { Put buffer.old at (shown_line line.now) result buffer.new }
 {
-    let n = shown_count(line.len());
-    let mut i: usize = 0;
-    while i < n {
+    let n = Diagnosis::SHOWN.min(line.len());
+    for i in 0..n {
         buffer[at + i] = show(line[i]);
-        i += 1;
     }
-    at + i
+    at + n
 }

@@ -14,6 +14,9 @@ use Rattle.laws.specs.Lists.{keep}
 use Rattle.laws.proofs.Choice.{pick_true, pick_false, by_cases}
 use Rattle.tokens.specs.Classes.{run}
 use Rattle.tokens.proofs.Laws.{run_within}
+use Rattle.std.specs.Prelude.{Some, None, position, unwrap_or}
+use Rattle.std.specs.List.{prefix_len}
+use mathlib.Core.Bool.{cond}
 use Rattle.places.specs.Places.{is_line_feed, line_of, start_of, column_of, in_line, end_of, place_of}
 use Rattle.places.specs.declared.Place.{Place}
 
@@ -89,6 +92,16 @@ module _ (s : List ℕ) where
           few = omega (arith, r.few);
         }
 
+-- by equations
+pub reached_as : {s : List ℕ} {i line start x y : ℕ} → x ≡ line → y ≡ start → Reached s i line start → Reached s i x y
+reached_as e f r =
+    record {
+      line_is = e ∙ r.line_is;
+      start_is = f ∙ r.start_is;
+      within = omega (arith, f, r.within);
+      few = omega (arith, e, r.few);
+    }
+
 -- ---- past the end
 
 start_past : (s : List ℕ) (k : ℕ) → start_of s (length s + k) ≡ start_of s (length s)
@@ -158,10 +171,27 @@ pub line_in_text : (s : List ℕ) (p : ℕ) → (start_of s p ≤ end_of s p) ×
 unfolding end_of
 line_in_text s p = (omega arith, run_within in_line s (start_of s p) (start_in s p))
 
+-- the next LF is where the run of other bytes ends
+run_prefix : (l : List ℕ) → run in_line l ≡ prefix_len (λ b. not (is_line_feed b)) l
+unfolding run in_line pick
+run_prefix [] = refl
+run_prefix (x ∷ l) = go (not (is_line_feed x)) (run_prefix l)
+  where
+    go : (t : Bool) → run in_line l ≡ prefix_len (λ b. not (is_line_feed b)) l → pick t (suc (run in_line l)) 0 ≡ cond t (1 + prefix_len (λ b. not (is_line_feed b)) l) 0
+    go true e = omega (arith, e)
+    go false e = refl
+
+pub line_feed_ends : (l : List ℕ) (n : ℕ) → n ≡ unwrap_or (position is_line_feed l) (length l) → n ≡ run in_line l
+line_feed_ends l n e =
+    let k : ℕ = prefix_len (λ b. not (is_line_feed b)) l in
+    let m : run in_line l ≤ length l = omega (arith, run_within in_line l 0 (omega arith)) in
+    e ∙ go (ltb k (length l)) refl (run_prefix l) m
+  where
+    go : (t : Bool) → ltb (prefix_len (λ b. not (is_line_feed b)) l) (length l) ≡ t → run in_line l ≡ prefix_len (λ b. not (is_line_feed b)) l → run in_line l ≤ length l
+        → unwrap_or (cond t (Some (prefix_len (λ b. not (is_line_feed b)) l)) None) (length l) ≡ run in_line l
+    go true q r m = sym r
+    go false q r m = omega (arith, r, ltb-false (prefix_len (λ b. not (is_line_feed b)) l) (length l) q)
+
 pub in_line_lem : (b : ℕ) → (b ≡ 10 → ⊥) → in_line b ≡ true
 unfolding in_line
 in_line_lem b e = ap not (ne_eqb b 10 e)
-
-pub line_over : (b : ℕ) → b ≡ 10 → in_line b ≡ false
-unfolding in_line
-line_over b e = ap not (eq-eqb b 10 e)

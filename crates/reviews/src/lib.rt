@@ -18,13 +18,10 @@ fn clause_names(table: &[u64], i: usize, x: usize) -> bool
     ensures { result ≡ is_in x (clause_at table.now i).fields }
 {
     let c = contract::clause_at(table, i);
-    let n = c.fields;
-    let mut j: usize = 0;
-    while j < n {
+    for j in 0..c.fields {
         if x == contract::clause_field(table, i, j) {
             return true;
         }
-        j += 1;
     }
     false
 }
@@ -45,14 +42,11 @@ fn named(table: &[u64], verb: usize, x: usize) -> bool
     ensures { result ≡ names (verb_of verb) x (contract_of table.now).clauses }
 {
     let h = contract::head(table);
-    let n = h.clauses;
-    let mut i: usize = 0;
-    while i < n {
+    for i in 0..h.clauses {
         let c = contract::clause_at(table, i);
         if same_verb(verb, c.verb) & clause_names(table, i, x) {
             return true;
         }
-        i += 1;
     }
     false
 }

@@ -54,6 +54,7 @@ pub fn fill<R: Read>(from: &mut R, bytes: &mut [u8]) -> io::Result<usize>
     ensures end { IfOk result (λ n. n < length bytes.old → IsAtEnd (R.remaining from.new)) }
 {
     let mut size = 0;
+    // Kept: (d) the place moves by what each read gave, so there is no range or iterator to go over.
     while size < bytes.len() {
         let n = get(from, &mut bytes[size..])?;
         if n == 0 {
@@ -69,10 +70,7 @@ pub fn path_text(path: &[u8]) -> io::Result<&str>
     ensures ok { IfOk result (λ text. text.now ≡ path.now) }
     ensures utf8 { IsOk result ↔ IsUtf8 path.now }
 {
-    match str::from_utf8(path) {
-        Ok(text) => Ok(text),
-        Err(_) => Err(io::Error::from(ErrorKind::InvalidInput)),
-    }
+    str::from_utf8(path).map_err(|_| io::Error::from(ErrorKind::InvalidInput))
 }
 
 /// Opens a file for reading.

@@ -6,219 +6,131 @@
 // Cases whose names start with `own_` are not among the vectors: the desk's page says what comes of them.
 #![tactic(auto)]
 
-ghost use Rattle.std.specs.Prelude.{◌≤◌, length};
-
-use arguments::Asked;
+use arguments::{Asked, Fault};
 use contract::Contract;
 use diagnoses::Diagnosis;
 use question_words::Sentence;
-use reading::Answer;
-use results::{Report, Written};
-use std::io;
+use results::Report;
 use std::rt::Files;
+use std::{fs, io};
 
-// The bytes of the folders' names, of the path of a file `args`, of what it holds, and of a contract's path.
-const NAMES: usize = 8192;
-
-const PATH: usize = 128;
-
-const ARGUMENTS: usize = 16384;
-
-const CONTRACT_PATH: usize = 1280;
-
-fn print(rt: &impl Print, bytes: &[u8]) {
-    let _ = rt.write_all(bytes);
-}
-
-// The place of the first LF from `at` on, or the end.
-fn line_end(text: &[u8], at: usize) -> usize
-    requires { at ≤ length text.now }
-    ensures { (at ≤ result) × (result ≤ length text.now) }
-{
-    let mut i = at;
-    while i < text.len() {
-        if text[i] == b'\n' {
-            return i;
-        }
-        i += 1;
-    }
-    i
-}
-
-// Keeps bytes after those kept before, as many as there is room for; answers how many are kept.
-fn keep(line: &mut [u8], kept: usize, bytes: &[u8]) -> usize {
-    let mut k = kept;
-    let mut i = 0;
-    while i < bytes.len() {
-        if line.len() <= k {
-            return k;
-        }
-        line[k] = bytes[i];
-        k += 1;
-        i += 1;
-    }
-    k
-}
-
-// What arguments ask for, one a line. Their numbers are one more than the places where their lines start.
-fn ask(lines: &[u8]) -> Asked {
+// What arguments ask for, one a line.
+fn ask(lines: &str) -> Result<Asked, Fault> {
     let mut asked = Asked::nothing();
-    let mut start = 0;
-    while start < lines.len() {
-        let end = line_end(lines, start);
-        asked = arguments::hear(asked, start + 1, &lines[start..end]);
-        start = end + 1;
+    for (argument, n) in lines.lines().zip(1..usize::MAX) {
+        asked = arguments::hear(asked, n, argument.as_bytes())?;
     }
     arguments::finish(asked)
 }
 
-// The argument with a number.
-fn argument(lines: &[u8], n: usize) -> &[u8] {
-    if n < 1 {
-        return &lines[..0];
-    }
-    if lines.len() < n {
-        return &lines[..0];
-    }
-    tokens::between(lines, n - 1, line_end(lines, n - 1))
+// The argument with a number, the first with 1.
+fn argument(lines: &str, n: Option<usize>) -> Option<&str> {
+    lines.lines().nth(n?.checked_sub(1)?)
 }
 
 // A refused text, as the desk tells it.
-fn refuse(rt: &impl Print, name: &[u8], text: &[u8], number: u8, place: usize) {
+fn refuse(rt: &impl Print, name: &str, text: &[u8], number: u8, place: usize) -> io::Result<()> {
     let mut line = [0u8; Report::ROOM];
     let written = results::write_text_refusal(number, place, &mut line);
-    if let Written::Wrote(n) = written {
-        print(rt, tokens::between(&line, 0, n));
+    if let Ok(n) = written {
+        rt.write_all(tokens::between(&line, 0, n))?;
     }
     let mut out = [0u8; Diagnosis::ROOM];
-    let n = diagnoses::write(name, text, number, place, &mut out);
-    print(rt, tokens::between(&out, 0, n));
+    let n = diagnoses::write(name.as_bytes(), text, number, place, &mut out);
+    rt.write_all(tokens::between(&out, 0, n))
 }
 
-fn review_field(rt: &impl Print, table: &[u64], x: usize) {
-    if reviews::never_agreed(table, x) {
-        let mut name = [0u8; Contract::NAME];
-        let n = reviews::field_name(table, x, &mut name);
-        print(rt, b"// never agreed: ");
-        print(rt, tokens::between(&name, 0, n));
-        print(rt, b"\n");
+// What the terms say before any session.
+fn review(rt: &impl Print, table: &[u64]) -> io::Result<()> {
+    for x in 0..Contract::FIELDS {
+        if reviews::never_agreed(table, x) {
+            let mut name = [0u8; Contract::NAME];
+            let n = reviews::field_name(table, x, &mut name);
+            print!(rt; "// never agreed: ")?;
+            rt.write_all(tokens::between(&name, 0, n))?;
+            println!(rt)?;
+        }
     }
-}
-
-fn review(rt: &impl Print, table: &[u64]) {
-    let mut x: usize = 0;
-    while x < Contract::FIELDS {
-        review_field(rt, table, x);
-        x += 1;
-    }
+    Ok(())
 }
 
 // Where pages go, where they are asked for.
-fn accept(rt: &impl Print, out: &[u8]) {
-    print(rt, b"accepted\n");
-    if 0 < out.len() {
-        print(rt, b"pages in ");
-        print(rt, out);
-        print(rt, b"\n");
+fn accept(rt: &impl Print, out: Option<&str>) -> io::Result<()> {
+    println!(rt; "accepted")?;
+    match out {
+        Some(out) => println!(rt; "pages in {out}"),
+        None => Ok(()),
     }
 }
 
-fn begin(rt: &impl Print, asked: Asked, out: &[u8], name: &[u8], text: &[u8]) {
+fn begin(
+    rt: &impl Print,
+    asked: Asked,
+    out: Option<&str>,
+    name: &str,
+    text: &[u8],
+) -> io::Result<()> {
     let mut table = [0u64; Contract::TABLE];
     let answer = reader::read(text, &mut table);
     match answer {
-        Answer::Refused(number, place) => refuse(rt, name, text, number, place),
-        Answer::Accepted => {
+        Err(r) => refuse(rt, name, text, r.question.number(), r.place),
+        Ok(()) => {
             if asked.review {
-                review(rt, &table);
+                review(rt, &table)
             } else {
-                accept(rt, out);
+                accept(rt, out)
             }
         }
     }
 }
 
-// The contract in the file with this name in a folder.
-fn start(rt: &(impl Files + Print), asked: Asked, out: &[u8], folder: &[u8], name: &[u8]) {
-    let mut path = [0u8; CONTRACT_PATH];
-    let slash = keep(&mut path, 0, folder);
-    let file = keep(&mut path, slash, b"/");
-    let end = keep(&mut path, file, name);
-    let mut text = [0u8; Answer::TEXT + 1];
-    let Ok(n) = streams::load(rt, tokens::between(&path, 0, end), &mut text) else {
-        print(rt, b"desk: ");
-        print(rt, name);
-        print(rt, b" can't be read\n");
-        return;
-    };
-    begin(rt, asked, out, name, tokens::between(&text, 0, n));
-}
-
-// What is asked by these arguments of the contract in a folder.
-fn answer(rt: &(impl Files + Print), folder: &[u8], lines: &[u8]) {
-    let asked = ask(lines);
-    if asked.fault != 0 {
-        print(rt, b"usage\n");
-        return;
-    }
+// What is asked of the contract in a folder.
+fn start(
+    rt: &(impl Alloc + Files + Print),
+    asked: Asked,
+    folder: &str,
+    lines: &str,
+) -> io::Result<()> {
     if asked.help {
-        print(rt, b"help\n");
-        return;
+        return println!(rt; "help");
     }
-    let out = argument(lines, asked.pages);
-    if asked.files == 0 {
-        start(rt, asked, out, folder, b"terms.stipula");
-        return;
+    let name = argument(lines, asked.file).unwrap_or("terms.stipula");
+    let path = format!(in rt.alloc(); "{folder}/{name}")?;
+    match fs::read(rt, path.as_str()) {
+        Ok(text) => begin(rt, asked, argument(lines, asked.pages), name, &text),
+        Err(_) => println!(rt; "desk: {name} can't be read"),
     }
-    start(rt, asked, out, folder, argument(lines, asked.file));
 }
 
-fn show(rt: &(impl Files + Print), name: &[u8]) {
-    let mut path = [0u8; PATH];
-    let slash = keep(&mut path, 0, name);
-    let end = keep(&mut path, slash, b"/args");
-    let mut lines = [0u8; ARGUMENTS];
-    let n = streams::load(rt, tokens::between(&path, 0, end), &mut lines).unwrap_or(0);
-    print(rt, b"== ");
-    print(rt, name);
-    print(rt, b"\n");
-    answer(rt, name, tokens::between(&lines, 0, n));
-}
-
-fn show_all(rt: &(impl Files + Print), names: &[u8]) {
-    let mut start = 0;
-    while start < names.len() {
-        let end = line_end(names, start);
-        show(rt, &names[start..end]);
-        start = end + 1;
+fn show(rt: &(impl Alloc + Files + Print), folder: &str) -> io::Result<()> {
+    println!(rt; "== {folder}")?;
+    let path = format!(in rt.alloc(); "{folder}/args")?;
+    let lines = fs::read_to_string(rt, path.as_str())?;
+    match ask(lines.as_str()) {
+        Ok(asked) => start(rt, asked, folder, lines.as_str()),
+        Err(_) => println!(rt; "usage"),
     }
 }
 
 // A question that has words.
-fn word(rt: &impl Print, question: u8) {
+fn show_words(rt: &impl Print, question: u8) -> io::Result<()> {
     let mut words = [0u8; Sentence::BYTES];
     let n = question_words::words(question, &mut words);
     if n == 0 {
-        return;
+        return Ok(());
     }
-    let _ = rt.print(question);
-    print(rt, b" ");
-    print(rt, tokens::between(&words, 0, n));
-    print(rt, b"\n");
-}
-
-fn words(rt: &impl Print) {
-    let mut question: u8 = 0;
-    while question < 255 {
-        word(rt, question);
-        question += 1;
-    }
+    print!(rt; "{question} ")?;
+    rt.write_all(tokens::between(&words, 0, n))?;
+    println!(rt)
 }
 
 fn main(rt: HostRuntime) -> io::Result<()> {
-    let mut names = [0u8; NAMES];
-    let n = streams::fill(&mut rt.reader(), &mut names)?;
-    show_all(&rt, &names[..n]);
-    words(&rt);
+    let names = io::read_to_string(rt.alloc(), rt.reader())?;
+    for name in names.as_str().lines() {
+        show(&rt, name)?;
+    }
+    for question in 0..u8::MAX {
+        show_words(&rt, question)?;
+    }
     Ok(())
 }

@@ -5,172 +5,71 @@
 // document 02, F-3; the others are to be read against document 01 (50 and 51), and who worked them out, and how, is not recorded here.
 #![tactic(auto)]
 
-ghost use Rattle.std.specs.Prelude.{◌≤◌, length};
-
 use lines::{Agreement, Line, Request};
 use std::io;
+use std::io::Read;
 
-fn print(rt: &impl Print, bytes: &[u8]) {
-    let _ = rt.write_all(bytes);
+fn print_call(rt: &impl Print, line: &Line) -> io::Result<()> {
+    let Line {
+        party_start,
+        party_end,
+        function_start,
+        function_end,
+        ..
+    } = line;
+    print!(rt; "call {party_start} {party_end} {function_start} {function_end} (")?;
+    print_integers(rt, &line.numbers, 0, line.values)?;
+    print!(rt; " ) [")?;
+    print_integers(rt, &line.numbers, line.values, line.assets)?;
+    println!(rt; " ]")
 }
 
-fn print_number(rt: &impl Print, n: u64) {
-    let _ = rt.print(n);
-}
-
-fn print_place(rt: &impl Print, at: usize) {
-    print(rt, b" ");
-    print_number(rt, at as u64);
-}
-
-fn print_integer(rt: &impl Print, z: i64) {
-    if z < 0 {
-        print(rt, b" -");
-    } else {
-        print(rt, b" ");
+// So many integers from a place on.
+fn print_integers(rt: &impl Print, all: &[i64], from: usize, many: usize) -> io::Result<()> {
+    for z in all.iter().skip(from).take(many) {
+        print!(rt; " {z}")?;
     }
-    print_number(rt, numbers::magnitude(z));
+    Ok(())
 }
 
-// The integer at i, and 0 past the end.
-fn integer_at(s: &[i64], i: usize) -> i64 {
-    if i < s.len() { s[i] } else { 0 }
-}
-
-// The place at i, and 0 past the end.
-fn place_at(s: &[usize], i: usize) -> usize {
-    if i < s.len() { s[i] } else { 0 }
-}
-
-// The integers from `from` up to, not including, `to`.
-fn print_integers(rt: &impl Print, s: &[i64], from: usize, to: usize) {
-    let mut i = from;
-    while i < to {
-        print_integer(rt, integer_at(s, i));
-        i += 1;
+// So many fields from a place on.
+fn print_fields(rt: &impl Print, a: &Agreement, from: usize, many: usize) -> io::Result<()> {
+    let (spans, _) = a.spans.as_chunks::<2>();
+    for ([start, end], value) in spans.iter().zip(&a.values).skip(from).take(many) {
+        print!(rt; " , {start} {end} {value}")?;
     }
+    Ok(())
 }
 
-fn print_call(rt: &impl Print, line: Line) {
-    print(rt, b"call");
-    print_place(rt, line.party_start);
-    print_place(rt, line.party_end);
-    print_place(rt, line.function_start);
-    print_place(rt, line.function_end);
-    let values = line.values;
-    let assets = line.assets;
-    let all = line.numbers;
-    print(rt, b" (");
-    print_integers(rt, &all, 0, values);
-    print(rt, b" ) [");
-    if values <= Line::NUMBERS {
-        if assets <= Line::NUMBERS {
-            print_integers(rt, &all, values, values + assets);
-        }
+fn print_agreement(rt: &impl Print, a: &Agreement) -> io::Result<()> {
+    print!(rt; "agreement {} {}", a.parts, a.fields)?;
+    let (heads, _) = a.heads.as_chunks::<4>();
+    let mut from = 0usize;
+    for [start, end, verb, many] in heads.iter().take(a.parts) {
+        print!(rt; " || {start} {end} {verb}")?;
+        print_fields(rt, a, from, *many)?;
+        from = from.saturating_add(*many);
     }
-    print(rt, b" ]\n");
-}
-
-// The fields from `from` up to, not including, `to`, of which there are 86 at most.
-fn print_fields(rt: &impl Print, spans: &[usize], values: &[i64], from: usize, to: usize) {
-    let mut k = from;
-    while k < to {
-        if Agreement::FIELDS <= k {
-            return;
-        }
-        print(rt, b" ,");
-        print_place(rt, place_at(spans, 2 * k));
-        print_place(rt, place_at(spans, 2 * k + 1));
-        print_integer(rt, integer_at(values, k));
-        k += 1;
-    }
-}
-
-// The parts, of which there are 64 at most.
-fn print_parts(rt: &impl Print, heads: &[usize], spans: &[usize], values: &[i64], parts: usize) {
-    let mut p = 0;
-    let mut from = 0;
-    while p < parts {
-        if Agreement::PARTS <= p {
-            return;
-        }
-        let count = place_at(heads, 4 * p + 3);
-        if Agreement::FIELDS < count {
-            return;
-        }
-        if Agreement::FIELDS < from {
-            return;
-        }
-        print(rt, b" ||");
-        print_place(rt, place_at(heads, 4 * p));
-        print_place(rt, place_at(heads, 4 * p + 1));
-        print_place(rt, place_at(heads, 4 * p + 2));
-        print_fields(rt, spans, values, from, from + count);
-        from += count;
-        p += 1;
-    }
-}
-
-fn print_agreement(rt: &impl Print, text: &[u8]) {
-    let a = lines::agreement_of(text);
-    let heads = a.heads;
-    let spans = a.spans;
-    let values = a.values;
-    print(rt, b"agreement");
-    print_place(rt, a.parts);
-    print_place(rt, a.fields);
-    print_parts(rt, &heads, &spans, &values, a.parts);
-    print(rt, b"\n");
+    println!(rt)
 }
 
 // What one line asks for.
-fn show(rt: &impl Print, text: &[u8]) {
+fn show(rt: &impl Print, text: &[u8]) -> io::Result<()> {
     let line = lines::read(text);
-    let request = line.request;
-    match request {
-        Request::Refused(question) => {
-            print(rt, b"refused ");
-            print_number(rt, question as u64);
-            print(rt, b"\n");
-        }
-        Request::Tick => print(rt, b"tick\n"),
-        Request::Jump(clock) => {
-            print(rt, b"jump");
-            print_integer(rt, clock);
-            print(rt, b"\n");
-        }
-        Request::Call => print_call(rt, line),
-        Request::Agreement => print_agreement(rt, text),
-    }
-}
-
-// The place of the first LF from `at` on, or the end.
-fn line_end(text: &[u8], at: usize) -> usize
-    requires { at ≤ length text.now }
-    ensures { (at ≤ result) × (result ≤ length text.now) }
-{
-    let mut i = at;
-    while i < text.len() {
-        if text[i] == b'\n' {
-            return i;
-        }
-        i += 1;
-    }
-    i
-}
-
-fn show_all(rt: &impl Print, text: &[u8]) {
-    let mut start = 0;
-    while start < text.len() {
-        let end = line_end(text, start);
-        show(rt, &text[start..end]);
-        start = end + 1;
+    match line.request {
+        Request::Refused(question) => println!(rt; "refused {}", question.number()),
+        Request::Tick => println!(rt; "tick"),
+        Request::Jump(clock) => println!(rt; "jump {clock}"),
+        Request::Call => print_call(rt, &line),
+        Request::Agreement => print_agreement(rt, &lines::agreement_of(text)),
     }
 }
 
 fn main(rt: HostRuntime) -> io::Result<()> {
-    let mut buffer = [0u8; 65536];
-    let n = streams::fill(&mut rt.reader(), &mut buffer)?;
-    show_all(&rt, &buffer[..n]);
+    let mut text = Vec::new(rt.alloc());
+    rt.reader().read_to_end(&mut text)?;
+    for line in text.split_inclusive(|b| *b == b'\n') {
+        show(&rt, line.strip_suffix(b"\n").unwrap_or(line))?;
+    }
     Ok(())
 }

@@ -1,151 +1,152 @@
-// A listing as it is made: a list of words, the first of which counts the bytes so far, and the others hold them, one to a word, as the rows of
-// a table do. Here: bytes, fixed words and names, put after those that the list holds.
+// A listing as it is made: the table and the text so far. Here: bytes, fixed words and names, put after those that the text has.
 ghost use Rattle.std.specs.Prelude.{◌≤◌};
 
 use contract::{Contract, Function};
-use reading::Answer;
+use std::alloc::AllocError;
 use tokens::Digits;
 
-// Bytes of a listing: one more than a text may have, so that a longer one is told.
-pub const MOST: usize = Answer::TEXT + 1;
-
-pub const ROOM: usize = 1 + MOST;
-
-// A byte; past the last nothing changes.
-pub(crate) fn put(b: u64, out: &mut [u64; ROOM]) {
-    let n = out[0];
-    if n < MOST as u64 {
-        out[n as usize + 1] = b;
-        out[0] = n + 1;
-    }
+// The names that a table has in rows of one size.
+#[derive(Clone, Copy)]
+pub enum Section {
+    Parties,
+    Assets,
+    Fields,
+    States,
 }
 
-fn wide(b: u8) -> u64 {
-    b as u64
-}
-
-fn put_all(bytes: &[u8], out: &mut [u64; ROOM]) {
-    let mut i: usize = 0;
-    while i < bytes.len() {
-        put(wide(bytes[i]), out);
-        i += 1;
-    }
-}
-
-pub(crate) fn put_word(which: u8, out: &mut [u64; ROOM]) {
-    let word = words::spelling(which);
-    let bytes = word.bytes;
-    put_all(tokens::between(&bytes, 0, word.length), out);
-}
-
-pub(crate) fn put_space(out: &mut [u64; ROOM]) {
-    put(b' ' as u64, out);
-}
-
-// A fixed word after a space.
-pub(crate) fn put_apart(which: u8, out: &mut [u64; ROOM]) {
-    put_space(out);
-    put_word(which, out);
-}
-
-// A fixed word between spaces.
-pub(crate) fn put_between(which: u8, out: &mut [u64; ROOM]) {
-    put_apart(which, out);
-    put_space(out);
-}
-
-// A comma and a space before each part of a list but the first.
-pub(crate) fn put_comma(i: usize, out: &mut [u64; ROOM]) {
-    if i == 0 {
-        return;
-    }
-    put_word(words::COMMA, out);
-    put_space(out);
-}
-
-// A new line, and a space for each level.
-pub(crate) fn put_line(depth: usize, out: &mut [u64; ROOM]) {
-    put_word(words::LINE_END, out);
-    let mut i: usize = 0;
-    while i < depth {
-        put_space(out);
-        i += 1;
-    }
-}
-
-pub(crate) fn put_number(n: u64, out: &mut [u64; ROOM]) {
-    let mut digits = [0u8; Digits::MOST];
-    let many = printing::put_number(&mut digits, 0, n);
-    put_all(tokens::between(&digits, 0, many), out);
-}
-
-// ---- names
-
-// The name or the string whose length stands at word o; nothing where it is longer than a string may be.
-pub(crate) fn put_row(table: &[u64], o: usize, out: &mut [u64; ROOM])
-    requires { o ≤ 24659 }
+// Where a section stands.
+fn start_of(section: Section) -> usize
+    ensures { result ≤ 1891 }
 {
-    let n = contract::word(table, o) as usize;
-    if Contract::STRING < n {
-        return;
-    }
-    let mut i: usize = 0;
-    while i < n {
-        put(contract::word(table, o + 1 + i), out);
-        i += 1;
+    match section {
+        Section::Parties => contract::PARTIES,
+        Section::Assets => contract::ASSETS,
+        Section::Fields => contract::FIELDS,
+        Section::States => contract::STATES,
     }
 }
 
-// Name i of a section.
-pub(crate) fn put_name(table: &[u64], section: usize, i: usize, out: &mut [u64; ROOM])
-    requires { section ≤ 1891 }
-{
-    if Contract::STATES <= i {
-        return;
-    }
-    put_row(table, section + i * contract::NAME_WORDS, out);
+#[derive(Drop)]
+pub struct Listing<'a> {
+    pub table: &'a [u64],
+    pub text: Vec<u8>,
 }
 
-// String i in its quotes.
-pub(crate) fn put_string(table: &[u64], i: usize, out: &mut [u64; ROOM]) {
-    if Contract::STRINGS <= i {
-        return;
-    }
-    put_word(words::QUOTE, out);
-    put_row(table, contract::STRINGS + i * contract::STRING_WORDS, out);
-    put_word(words::QUOTE, out);
-}
+// Nothing, or no memory.
+pub type Put = Result<(), AllocError>;
 
-// The name of function f, which ends its row.
-pub(crate) fn put_function_name(table: &[u64], f: usize, out: &mut [u64; ROOM]) {
-    if Contract::FUNCTIONS <= f {
-        return;
+impl Listing<'_> {
+    fn put_all(&mut self, bytes: &[u8]) -> Put {
+        self.text.extend_from_slice(bytes)
     }
-    let end = contract::FUNCTIONS + (f + 1) * Function::WORDS;
-    put_row(table, end - contract::NAME_WORDS, out);
-}
 
-// Parameter i of function f: of the value parameters, which stand from 0 on, or of the asset parameters, from Function::VALUES on.
-pub(crate) fn put_parameter(table: &[u64], f: usize, from: usize, i: usize, out: &mut [u64; ROOM])
-    requires { from ≤ 8 }
-{
-    if Contract::FUNCTIONS <= f {
-        return;
+    pub(crate) fn put_word(&mut self, which: u8) -> Put {
+        self.put_all(words::spelling(which))
     }
-    if Function::VALUES <= i {
-        return;
-    }
-    let row = f * Function::NAMES + from + i;
-    let n = contract::packed_length(table, row) as usize;
-    let mut j: usize = 0;
-    while j < n {
-        put(contract::packed_byte(table, row, j), out);
-        j += 1;
-    }
-}
 
-// @Q
-pub(crate) fn put_state(table: &[u64], i: usize, out: &mut [u64; ROOM]) {
-    put_word(words::AT_SIGN, out);
-    put_name(table, contract::STATES, i, out);
+    pub(crate) fn put_space(&mut self) -> Put {
+        self.put_all(b" ")
+    }
+
+    // A fixed word after a space.
+    pub(crate) fn put_apart(&mut self, which: u8) -> Put {
+        self.put_space()?;
+        self.put_word(which)
+    }
+
+    // A fixed word between spaces.
+    pub(crate) fn put_between(&mut self, which: u8) -> Put {
+        self.put_apart(which)?;
+        self.put_space()
+    }
+
+    // A comma and a space before each part of a list but the first.
+    pub(crate) fn put_comma(&mut self, i: usize) -> Put {
+        if i == 0 {
+            return Ok(());
+        }
+        self.put_word(words::COMMA)?;
+        self.put_space()
+    }
+
+    // A new line, and a space for each level.
+    pub(crate) fn put_line(&mut self, depth: usize) -> Put {
+        self.put_word(words::LINE_END)?;
+        for _ in 0..depth {
+            self.put_space()?;
+        }
+        Ok(())
+    }
+
+    pub(crate) fn put_number(&mut self, n: u64) -> Put {
+        let mut digits = [0u8; Digits::MOST];
+        let many = printing::put_number(&mut digits, 0, n);
+        self.put_all(tokens::between(&digits, 0, many))
+    }
+
+    // ---- names
+
+    // The name or the string whose length stands at word o; nothing where it is longer than a string may be.
+    pub(crate) fn put_row(&mut self, o: usize) -> Put
+        requires { o ≤ 24659 }
+    {
+        let n = contract::word(self.table, o) as usize;
+        if Contract::STRING < n {
+            return Ok(());
+        }
+        for i in 0..n {
+            let b = contract::word(self.table, o + 1 + i) % 256;
+            self.text.push(b as u8)?;
+        }
+        Ok(())
+    }
+
+    // Name i of a section.
+    pub(crate) fn put_name(&mut self, section: Section, i: usize) -> Put {
+        if Contract::STATES <= i {
+            return Ok(());
+        }
+        self.put_row(start_of(section) + i * contract::NAME_WORDS)
+    }
+
+    // String i in its quotes.
+    pub(crate) fn put_string(&mut self, i: usize) -> Put {
+        if Contract::STRINGS <= i {
+            return Ok(());
+        }
+        self.put_word(words::QUOTE)?;
+        self.put_row(contract::STRINGS + i * contract::STRING_WORDS)?;
+        self.put_word(words::QUOTE)
+    }
+
+    // The name of function f, which ends its row.
+    pub(crate) fn put_function_name(&mut self, f: usize) -> Put {
+        if Contract::FUNCTIONS <= f {
+            return Ok(());
+        }
+        let end = contract::FUNCTIONS + (f + 1) * Function::WORDS;
+        self.put_row(end - contract::NAME_WORDS)
+    }
+
+    // Parameter i of function f: of the value parameters, which stand from 0 on, or of the asset parameters, from Function::VALUES on.
+    pub(crate) fn put_parameter(&mut self, f: usize, from: usize, i: usize) -> Put
+        requires { from ≤ 8 }
+    {
+        if (Contract::FUNCTIONS <= f) | (Function::VALUES <= i) {
+            return Ok(());
+        }
+        let row = f * Function::NAMES + from + i;
+        let n = contract::packed_length(self.table, row) as usize;
+        for j in 0..n {
+            let b = contract::packed_byte(self.table, row, j) % 256;
+            self.text.push(b as u8)?;
+        }
+        Ok(())
+    }
+
+    // @Q
+    pub(crate) fn put_state(&mut self, i: usize) -> Put {
+        self.put_word(words::AT_SIGN)?;
+        self.put_name(Section::States, i)
+    }
 }

@@ -15,383 +15,197 @@
 // Expected results: worked out from document 02 by scripts/expected-pages, which shares no code with it.
 #![tactic(auto)]
 
-ghost use Rattle.std.specs.Prelude.{◌≤◌, ◌<◌, length};
-
 use contract::Contract;
-use numbers::Value;
-use pages::{Gathered, Paged, Sheet};
-use reading::Answer;
+use pages::{Gathered, Sheet};
+use questions::Question;
 use std::io;
 use std::rt::Files;
+use std::str::Split;
+use trial_text::number;
 
+// The entries that there is room for, and the bytes that there are for a buffer.
 const ENTRIES: usize = 130;
 
-#[derive(Clone, Copy)]
-struct Number {
-    value: u64,
-    // The place after it and the space that ends it.
-    next: usize,
-}
+const ROOM: usize = 5200;
 
-impl Number {
-    const GREATEST: u64 = 18446744073709551615;
-}
-
-fn print(rt: &impl Print, bytes: &[u8]) {
-    let _ = rt.write_all(bytes);
-}
-
-fn print_decimal(rt: &impl Print, n: u64) {
-    let _ = rt.print(n);
-}
-
-fn digit(b: u8) -> bool {
-    (48 <= b) & (b <= 57)
-}
-
-// One more digit, and the greatest number where there is no room.
-fn push(v: u64, d: u64) -> u64 {
-    if (Number::GREATEST - d) / 10 < v {
-        return Number::GREATEST;
-    }
-    v * 10 + d
-}
-
-fn push_byte(v: u64, b: u8) -> u64 {
-    push(v, (b % 48) as u64)
-}
-
-fn number_at(line: &[u8], at: usize) -> Number
-    ensures { at < length line.now → at < result.next }
-{
-    let mut value: u64 = 0;
-    let mut i = at;
-    while i < line.len() {
-        let b = line[i];
-        if !digit(b) {
-            return Number { value, next: i + 1 };
-        }
-        value = push_byte(value, b);
-        i += 1;
-    }
-    Number { value, next: i }
-}
-
-fn put(list: &mut [u64], at: usize, v: u64) {
-    if at < list.len() {
-        list[at] = v;
-    }
-}
-
-fn put_value(list: &mut [i64], at: usize, v: i64) {
-    if at < list.len() {
-        list[at] = v;
-    }
-}
-
-// The numbers from a place of a line on, as many as there is room for.
-fn read_numbers(line: &[u8], start: usize, numbers: &mut [u64]) {
-    let mut at: usize = 0;
-    let mut i = start;
-    while i < line.len() {
-        if numbers.len() <= at {
-            return;
-        }
-        let n = number_at(line, i);
-        put(numbers, at, n.value);
-        at += 1;
-        i = n.next;
-    }
-}
-
-fn integer(v: u64) -> i64 {
-    if Value::LIMIT <= v {
-        return Value::TOP;
-    }
-    v as i64
-}
-
-// -1 - v.
-fn below_zero(v: u64) -> i64 {
-    if Value::LIMIT <= v {
-        return Value::LEAST;
-    }
-    -1 - (v as i64)
+// What the lines so far set up: the table, the buffer's bytes, the entries and their values, how many numbers and how many values are given,
+// and what is gathered.
+// Kept: (d) the counts are what a case gives, also more than there is, and not how many the arrays hold.
+#[derive(Drop)]
+struct Trial {
+    table: Vec<u64>,
+    size: usize,
+    entries: [[u64; Sheet::NUMBERS]; ENTRIES],
+    values: [i64; ENTRIES],
+    numbers_given: usize,
+    values_given: usize,
+    gathered: Gathered,
 }
 
 // ---- entries
 
-// A digit so many times.
-fn repeated(d: u64, times: u64) -> u64 {
-    let mut v: u64 = 0;
-    let mut left = times;
-    while 0 < left {
-        v = push(v, d);
-        left -= 1;
-    }
-    v
+// A digit so many times, and the greatest number where there is no room.
+fn repeated(digit: u64, times: u64) -> u64 {
+    (0..times).fold(0, |v: u64, _| v.saturating_mul(10).saturating_add(digit))
 }
 
 // Entry i: a payout to party i mod 3 by rule 1 + i mod 2; its clock is the digit i mod 7, i mod 17 + 1 times, its amount the digit i mod 10,
 // i mod 19 + 1 times; the fifth number is i.
-fn make_entry(i: u64, numbers: &mut [u64], values: &mut [i64]) {
-    if ENTRIES <= i as usize {
-        return;
-    }
-    let at = Sheet::NUMBERS * (i as usize);
-    put(numbers, at, 3);
-    put(numbers, at + 1, i % 3);
-    put(numbers, at + 2, 1 + i % 2);
-    put(numbers, at + 3, repeated(i % 7, i % 17 + 1));
-    put(numbers, at + 4, i);
-    put_value(values, i as usize, integer(repeated(i % 10, i % 19 + 1)));
+fn make_entry(i: u64) -> [u64; Sheet::NUMBERS] {
+    [3, i % 3, 1 + i % 2, repeated(i % 7, i % 17 + 1), i]
 }
 
-fn make_entries(many: u64, numbers: &mut [u64], values: &mut [i64]) {
-    let mut i: u64 = 0;
-    while i < many {
-        make_entry(i, numbers, values);
-        i += 1;
-    }
-}
-
-fn change_number(entry: u64, k: u64, v: u64, numbers: &mut [u64]) {
-    if (entry as usize) < ENTRIES {
-        if (k as usize) < Sheet::NUMBERS {
-            put(numbers, Sheet::NUMBERS * entry as usize + k as usize, v);
-        }
-    }
-}
-
-// ---- what is given
-
-#[derive(Clone, Copy)]
-struct Given {
-    size: usize,
-    numbers: usize,
-    values: usize,
-    gathered: Gathered,
-}
-
-fn give(given: Given, numbers: usize, values: usize) -> Given {
-    let mut next = given;
-    next.numbers = numbers;
-    next.values = values;
-    next
-}
-
-// The first so many, or all.
-fn first_numbers(list: &[u64], n: usize) -> &[u64] {
-    if n <= list.len() { &list[..n] } else { list }
-}
-
-fn first_values(list: &[i64], n: usize) -> &[i64] {
-    if n <= list.len() { &list[..n] } else { list }
-}
-
-fn gather(
-    rt: &impl Print,
-    line: &[u8],
-    given: Given,
-    numbers: &mut [u64],
-    values: &mut [i64],
-) -> Given {
-    let mut report = [0u64; 5];
-    read_numbers(line, 2, &mut report);
-    let integers = [integer(report[4])];
-    let before = given.gathered;
-    let g = pages::gather(before, &report, &integers, 0, numbers, values);
-    let count = g.count;
-    print_decimal(rt, count as u64);
-    print(rt, b"\n");
-    let mut next = given;
-    next.gathered = g;
-    if count < ENTRIES {
-        return give(next, Sheet::NUMBERS * count, count);
-    }
-    next
+fn make_value(i: u64) -> i64 {
+    i64::try_from(repeated(i % 10, i % 19 + 1)).unwrap_or(i64::MAX)
 }
 
 // ---- pages
 
-// Whether each byte from a place on is a dot.
-fn dots(buffer: &[u8], from: usize) -> bool {
-    let mut i = from;
-    while i < buffer.len() {
-        if buffer[i] != b'.' {
-            return false;
-        }
-        i += 1;
-    }
-    true
-}
-
-fn show_rest(rt: &impl Print, buffer: &[u8], from: usize) {
-    if dots(buffer, from) {
-        print(rt, b"kept\n");
+fn show_rest(rt: &impl Print, buffer: &[u8], from: usize) -> io::Result<()> {
+    if trial_text::is_dotted(buffer, from) {
+        println!(rt; "kept")
     } else {
-        print(rt, b"changed\n");
+        println!(rt; "changed")
     }
 }
 
-fn show(rt: &impl Print, answer: Paged, buffer: &[u8]) {
+fn show(rt: &impl Print, answer: Result<(), Question>, buffer: &[u8]) -> io::Result<()> {
     match answer {
-        Paged::Accepted => {
-            print(rt, b"accepted\n");
-            print(rt, tokens::between(buffer, 0, Sheet::BYTES));
-            show_rest(rt, buffer, Sheet::BYTES);
+        Ok(()) => {
+            println!(rt; "accepted")?;
+            rt.write_all(tokens::between(buffer, 0, Sheet::BYTES))?;
+            show_rest(rt, buffer, Sheet::BYTES)
         }
-        Paged::Refused(q) => {
-            print(rt, b"refused ");
-            print_decimal(rt, q as u64);
-            print(rt, b"\n");
-            show_rest(rt, buffer, 0);
+        Err(question) => {
+            println!(rt; "refused {}", question.number())?;
+            show_rest(rt, buffer, 0)
         }
     }
 }
 
-fn ask_within(
-    rt: &impl Print,
-    table: &[u64],
-    numbers: &[u64],
-    values: &[i64],
-    page: usize,
-    buffer: &mut [u8],
-    size: usize,
-) {
-    if size <= buffer.len() {
-        let answer = pages::page(table, numbers, values, page, &mut buffer[..size]);
-        show(rt, answer, buffer);
+// ---- what the lines say
+
+impl Trial {
+    fn read_terms(&mut self, rt: &impl Files) {
+        let mut text = [0u8; Contract::TEXT + 1];
+        let n = streams::load(rt, b"terms.stipula", &mut text).unwrap_or(0);
+        let _ = reader::read(&text[..n], &mut self.table);
     }
-}
 
-fn ask(rt: &impl Print, table: &[u64], numbers: &[u64], values: &[i64], given: Given, page: usize) {
-    let mut buffer = [b'.'; 5200];
-    ask_within(
-        rt,
-        table,
-        first_numbers(numbers, given.numbers),
-        first_values(values, given.values),
-        page,
-        &mut buffer,
-        given.size,
-    );
-}
-
-// ---- lines
-
-fn read_terms(rt: &impl Files, table: &mut [u64]) {
-    let mut text = [0u8; Answer::TEXT + 1];
-    let n = streams::load(rt, b"terms.stipula", &mut text).unwrap_or(0);
-    reader::read(&text[..n], table);
-}
-
-// A line with up to three numbers.
-fn run_numbers(
-    rt: &impl Print,
-    line: &[u8],
-    table: &[u64],
-    numbers: &mut [u64],
-    values: &mut [i64],
-    given: Given,
-) -> Given {
-    let mut words = [0u64; 3];
-    read_numbers(line, 2, &mut words);
-    let a = words[0];
-    let b = words[1];
-    let c = words[2];
-    if line.len() < 1 {
-        return given;
+    // The first entries are given.
+    fn give(&mut self, count: usize) {
+        if count <= ENTRIES {
+            self.numbers_given = Sheet::NUMBERS * count;
+            self.values_given = count;
+        }
     }
-    let mut next = given;
-    match line[0] {
-        b'b' => next.size = a as usize,
-        b'e' => {
-            make_entries(a, numbers, values);
-            if a as usize <= ENTRIES {
-                next = give(given, Sheet::NUMBERS * a as usize, a as usize);
+
+    fn make_entries(&mut self, many: usize) {
+        for i in 0..many.min(ENTRIES) {
+            self.entries[i] = make_entry(i as u64);
+            self.values[i] = make_value(i as u64);
+        }
+        self.give(many);
+    }
+
+    fn change_number(&mut self, entry: usize, k: usize, v: u64) {
+        if (entry < ENTRIES) & (k < Sheet::NUMBERS) {
+            self.entries[entry][k] = v;
+        }
+    }
+
+    fn change_value(&mut self, entry: usize, v: i64) {
+        if entry < ENTRIES {
+            self.values[entry] = v;
+        }
+    }
+
+    // A result line, by its four numbers and its integer.
+    fn gather(&mut self, rt: &impl Print, mut words: Split<'_, char>) -> io::Result<()> {
+        let mut report = [0u64; 4];
+        for n in &mut report {
+            *n = number(words.next());
+        }
+        let integers = [number(words.next())];
+        self.gathered = pages::gather(
+            self.gathered,
+            &report,
+            &integers,
+            0,
+            self.entries.as_flattened_mut(),
+            &mut self.values,
+        );
+        let count = self.gathered.count;
+        println!(rt; "{count}")?;
+        if count < ENTRIES {
+            self.give(count);
+        }
+        Ok(())
+    }
+
+    fn ask(&self, rt: &impl Print, page: usize) -> io::Result<()> {
+        let numbers = self.entries.as_flattened();
+        let numbers = numbers.get(..self.numbers_given).unwrap_or(numbers);
+        let values = self.values.get(..self.values_given).unwrap_or(&self.values);
+        let mut buffer = [b'.'; ROOM];
+        let Some(part) = buffer.get_mut(..self.size) else {
+            return Ok(());
+        };
+        let answer = pages::page(&self.table, numbers, values, page, part);
+        show(rt, answer, &buffer)
+    }
+
+    // A line with up to three numbers.
+    fn take_numbers(
+        &mut self,
+        rt: &impl Print,
+        kind: &str,
+        mut words: Split<'_, char>,
+    ) -> io::Result<()> {
+        let first = number(words.next());
+        match kind {
+            "b" => self.size = first,
+            "e" => self.make_entries(first),
+            "k" => self.change_number(first, number(words.next()), number(words.next())),
+            "v" => self.change_value(first, number(words.next())),
+            "m" => self.change_value(first, -1 - number::<i64>(words.next())),
+            "n" => {
+                self.numbers_given = first;
+                self.values_given = number(words.next());
             }
+            "p" => self.ask(rt, first)?,
+            _ => {}
         }
-        b'k' => change_number(a, b, c, numbers),
-        b'v' => put_value(values, a as usize, integer(b)),
-        b'm' => put_value(values, a as usize, below_zero(b)),
-        b'n' => next = give(given, a as usize, b as usize),
-        b'p' => ask(rt, table, numbers, values, given, a as usize),
-        _ => {}
+        Ok(())
     }
-    next
-}
 
-fn run_line(
-    rt: &(impl Files + Print),
-    line: &[u8],
-    table: &mut [u64],
-    numbers: &mut [u64],
-    values: &mut [i64],
-    given: Given,
-) -> Given {
-    print(rt, line);
-    print(rt, b"\n");
-    if line.len() < 1 {
-        return given;
-    }
-    match line[0] {
-        b't' => {
-            read_terms(rt, table);
-            given
+    fn take(&mut self, rt: &(impl Files + Print), line: &str) -> io::Result<()> {
+        println!(rt; "{line}")?;
+        let (kind, words) = line.split_once(' ').unwrap_or((line, ""));
+        let words = words.split(' ');
+        match kind {
+            "t" => self.read_terms(rt),
+            "s" => self.gathered = Gathered::nothing(),
+            "g" => self.gather(rt, words)?,
+            _ => self.take_numbers(rt, kind, words)?,
         }
-        b's' => {
-            let none = Gathered::nothing();
-            let mut next = given;
-            next.gathered = none;
-            next
-        }
-        b'g' => gather(rt, line, given, numbers, values),
-        _ => run_numbers(rt, line, table, numbers, values, given),
-    }
-}
-
-fn line_end(text: &[u8], start: usize) -> usize
-    requires { start ≤ length text.now }
-    ensures { (start ≤ result) × (result ≤ length text.now) }
-{
-    let mut i = start;
-    while i < text.len() {
-        if text[i] == b'\n' {
-            return i;
-        }
-        i += 1;
-    }
-    i
-}
-
-fn run(
-    rt: &(impl Files + Print),
-    text: &[u8],
-    table: &mut [u64],
-    numbers: &mut [u64],
-    values: &mut [i64],
-) {
-    let mut given = Given {
-        size: 5200,
-        numbers: 0,
-        values: 0,
-        gathered: Gathered::nothing(),
-    };
-    let mut start: usize = 0;
-    while start < text.len() {
-        let end = line_end(text, start);
-        given = run_line(rt, &text[start..end], table, numbers, values, given);
-        start = end + 1;
+        Ok(())
     }
 }
 
 fn main(rt: HostRuntime) -> io::Result<()> {
-    let mut text = [0u8; 65536];
-    let n = streams::fill(&mut rt.reader(), &mut text)?;
-    let mut table = [0u64; Contract::TABLE];
-    let mut numbers = [0u64; ENTRIES * Sheet::NUMBERS];
-    let mut values = [0i64; ENTRIES];
-    run(&rt, &text[..n], &mut table, &mut numbers, &mut values);
+    let text = io::read_to_string(rt.alloc(), rt.reader())?;
+    let mut trial = Trial {
+        table: vec![in rt.alloc(); 0; Contract::TABLE]?,
+        size: ROOM,
+        entries: [[0; Sheet::NUMBERS]; ENTRIES],
+        values: [0; ENTRIES],
+        numbers_given: 0,
+        values_given: 0,
+        gathered: Gathered::nothing(),
+    };
+    for line in text.as_str().lines() {
+        trial.take(&rt, line)?;
+    }
     Ok(())
 }

@@ -1,6 +1,6 @@
 // Result lines. Lines of standard input, numbers with one space between them:
 //   w AT V V ..          words of the table from AT on
-//   b SIZE               the buffer has so many bytes, at most 200, each a dot before a line is written
+//   b SIZE               the buffer has so many bytes, at most 640, each a dot before a line is written
 //   r RULE STATE CLOCK   a rule, and the state and the clock after it
 //   s KIND PARTY VALUE   a label
 //   m KIND PARTY N       a label of the value -1 - N
@@ -8,7 +8,7 @@
 //   q NUMBER             a refusal
 //   f NUMBER             a failed firing
 //   t NUMBER PLACE       the refusal of a text
-//   l MANY N N ..        so many reports as numbers, four each, at once; their integers are 3, -1250, 0 and 7, and the buffer has at most 640 bytes
+//   l MANY N N ..        so many reports as numbers, four each, at once; their integers are 3, -1250, 0 and 7
 //   # ..                 print the line
 // A report prints its line, then how many bytes were written, those bytes, and whether the others are still dots; or the number
 // that refused, and whether all are. Reports at once also print how many were written.
@@ -16,295 +16,153 @@
 // Those of the refusals 60 to 63 were worked out from document 02, F-3, before they were run.
 #![tactic(auto)]
 
-ghost use Rattle.std.specs.Prelude.{◌≤◌, ◌<◌, length};
-
 use contract::Contract;
-use numbers::Value;
-use results::{Batch, Report, Written};
+use questions::Question;
+use results::{Batch, Report};
 use std::io;
+use std::str::Split;
+use trial_text::{number, store};
 
-// The most bytes of the buffer for one report, and the reports at once that there are numbers and a buffer for.
-const ROOM: usize = 200;
+// The bytes that there are for a buffer, and the reports at once that there are numbers for.
+const ROOM: usize = 640;
 
 const MANY: usize = 5;
 
-#[derive(Clone, Copy)]
-struct Number {
-    value: u64,
-    // The place after it and the space that ends it.
-    next: usize,
-}
-
-impl Number {
-    const GREATEST: u64 = 18446744073709551615;
-}
-
-fn digit(b: u8) -> bool {
-    (48 <= b) & (b <= 57)
-}
-
-// One more digit, and the greatest number where there is no room.
-fn push(v: u64, b: u8) -> u64 {
-    let d = (b % 48) as u64;
-    if (Number::GREATEST - d) / 10 < v {
-        return Number::GREATEST;
-    }
-    v * 10 + d
-}
-
-fn number_at(line: &[u8], at: usize) -> Number
-    ensures { at < length line.now → at < result.next }
-{
-    let mut value: u64 = 0;
-    let mut i = at;
-    while i < line.len() {
-        let b = line[i];
-        if !digit(b) {
-            return Number { value, next: i + 1 };
-        }
-        value = push(value, b);
-        i += 1;
-    }
-    Number { value, next: i }
-}
-
-fn put(table: &mut [u64], at: usize, v: u64) {
-    if at < table.len() {
-        table[at] = v;
-    }
-}
-
-// The numbers from a place on, at the words from one on.
-fn write_words(line: &[u8], start: usize, table: &mut [u64], word: usize) {
-    let mut at = word;
-    let mut i = start;
-    while i < line.len() {
-        if table.len() <= at {
-            return;
-        }
-        let n = number_at(line, i);
-        put(table, at, n.value);
-        at += 1;
-        i = n.next;
-    }
-}
-
-fn byte(v: u64) -> u8 {
-    if 255 < v {
-        return 255;
-    }
-    (v % 256) as u8
-}
-
-fn integer(v: u64) -> i64 {
-    if Contract::TOP < v {
-        return Value::TOP;
-    }
-    v as i64
-}
-
-// -1 - v.
-fn below_zero(v: u64) -> i64 {
-    if Contract::TOP < v {
-        return Value::LEAST;
-    }
-    -1 - (v as i64)
-}
-
-// Whether each byte from a place on is a dot.
-fn dots(buffer: &[u8], from: usize) -> bool {
-    let mut i = from;
-    while i < buffer.len() {
-        if buffer[i] != b'.' {
-            return false;
-        }
-        i += 1;
-    }
-    true
-}
-
-fn print(rt: &impl Print, bytes: &[u8]) {
-    let _ = rt.write_all(bytes);
-}
-
-fn print_decimal(rt: &impl Print, n: u64) {
-    let _ = rt.print(n);
-}
-
-fn show_rest(rt: &impl Print, buffer: &[u8], from: usize) {
-    if dots(buffer, from) {
-        print(rt, b"kept\n");
-    } else {
-        print(rt, b"changed\n");
-    }
-}
-
-fn show(rt: &impl Print, answer: Written, buffer: &[u8]) {
-    match answer {
-        Written::Wrote(n) => {
-            print_decimal(rt, n as u64);
-            print(rt, b" bytes: ");
-            if n <= buffer.len() {
-                print(rt, &buffer[..n]);
-            }
-            show_rest(rt, buffer, n);
-        }
-        Written::Refused(n) => {
-            print(rt, b"no: ");
-            print_decimal(rt, n as u64);
-            print(rt, b"\n");
-            show_rest(rt, buffer, 0);
-        }
-    }
-}
-
-fn write_within(rt: &impl Print, table: &[u64], report: Report, buffer: &mut [u8], size: usize) {
-    if size <= buffer.len() {
-        let answer = results::write(table, report, &mut buffer[..size]);
-        show(rt, answer, buffer);
-    }
-}
-
-fn write_text_within(rt: &impl Print, number: u8, place: usize, buffer: &mut [u8], size: usize) {
-    if size <= buffer.len() {
-        let answer = results::write_text_refusal(number, place, &mut buffer[..size]);
-        show(rt, answer, buffer);
-    }
-}
-
-fn ask(rt: &impl Print, table: &[u64], report: Report, size: usize) {
-    let mut buffer = [b'.'; ROOM];
-    write_within(rt, table, report, &mut buffer, size);
-}
-
-fn ask_text(rt: &impl Print, number: u8, place: usize, size: usize) {
-    let mut buffer = [b'.'; ROOM];
-    write_text_within(rt, number, place, &mut buffer, size);
-}
-
-fn show_batch(rt: &impl Print, answer: Batch, buffer: &[u8]) {
-    if answer.question != 0 {
-        show(rt, Written::Refused(answer.question), buffer);
-        return;
-    }
-    print_decimal(rt, answer.many as u64);
-    print(rt, b" of them, ");
-    show(rt, Written::Wrote(answer.used), buffer);
-}
-
-fn write_batch_within(
-    rt: &impl Print,
-    table: &[u64],
-    numbers: &[u64],
-    many: usize,
-    buffer: &mut [u8],
+// What the lines so far set up.
+#[derive(Drop)]
+struct Trial {
+    table: Vec<u64>,
     size: usize,
-) {
-    if size <= buffer.len() {
-        let integers = [3i64, -1250, 0, 7];
-        let answer = results::write_batch(table, numbers, &integers, 0, many, &mut buffer[..size]);
-        show_batch(rt, answer, buffer);
+}
+
+// ---- what came of a report
+
+fn show_rest(rt: &impl Print, buffer: &[u8], from: usize) -> io::Result<()> {
+    if trial_text::is_dotted(buffer, from) {
+        println!(rt; "kept")
+    } else {
+        println!(rt; "changed")
     }
 }
 
-fn ask_batch(rt: &impl Print, line: &[u8], table: &[u64], size: usize) {
-    let first = number_at(line, 2);
-    let mut numbers = [0u64; MANY * Report::WORDS];
-    write_words(line, first.next, &mut numbers, 0);
-    let mut buffer = [b'.'; MANY * Report::ROOM];
-    write_batch_within(rt, table, &numbers, first.value as usize, &mut buffer, size);
-}
-
-fn print_line(rt: &impl Print, line: &[u8]) {
-    print(rt, line);
-    print(rt, b"\n");
-}
-
-// A report of three numbers.
-fn report_line(rt: &impl Print, line: &[u8], table: &[u64], size: usize) {
-    let first = number_at(line, 2);
-    let second = number_at(line, first.next);
-    let third = number_at(line, second.next);
-    let a = first.value;
-    let b = second.value;
-    let c = third.value;
-    if line.len() < 1 {
-        return;
+fn show(rt: &impl Print, answer: Result<usize, Question>, buffer: &[u8]) -> io::Result<()> {
+    match answer {
+        Ok(n) => {
+            print!(rt; "{n} bytes: ")?;
+            rt.write_all(buffer.get(..n).unwrap_or(buffer))?;
+            show_rest(rt, buffer, n)
+        }
+        Err(question) => {
+            println!(rt; "no: {}", question.number())?;
+            show_rest(rt, buffer, 0)
+        }
     }
-    match line[0] {
-        b'r' => ask(rt, table, Report::Ruled(byte(a), b as usize, c), size),
-        b's' => ask(
+}
+
+fn show_batch(rt: &impl Print, answer: Result<Batch, Question>, buffer: &[u8]) -> io::Result<()> {
+    if let Ok(batch) = answer {
+        print!(rt; "{} of them, ", batch.many)?;
+    }
+    show(rt, answer.map(|batch| batch.used), buffer)
+}
+
+// ---- what the lines say
+
+impl Trial {
+    // Lends the buffer, and shows what `write` left there.
+    fn ask<F: FnOnce(&mut [u8]) -> Result<usize, Question>>(
+        &self,
+        rt: &impl Print,
+        write: F,
+    ) -> io::Result<()>
+        requires { F.IsAlwaysCallable write }
+    {
+        let mut buffer = [b'.'; ROOM];
+        let Some(part) = buffer.get_mut(..self.size) else {
+            return Ok(());
+        };
+        let answer = write(part);
+        show(rt, answer, &buffer)
+    }
+
+    fn write(&self, rt: &impl Print, report: Report) -> io::Result<()> {
+        self.ask(rt, |part| results::write(&self.table, report, part))
+    }
+
+    fn write_refusal(&self, rt: &impl Print, question: u8, place: usize) -> io::Result<()> {
+        self.ask(
             rt,
-            table,
-            Report::Sent(byte(a), b as usize, integer(c)),
-            size,
-        ),
-        b'm' => ask(
-            rt,
-            table,
-            Report::Sent(byte(a), b as usize, below_zero(c)),
-            size,
-        ),
-        b'h' => ask(rt, table, Report::Held(a as usize, b), size),
-        b'q' => ask(rt, table, Report::Refused(byte(a)), size),
-        b'f' => ask(rt, table, Report::Failed(byte(a)), size),
-        b't' => ask_text(rt, byte(a), b as usize, size),
-        b'l' => ask_batch(rt, line, table, size),
-        _ => {}
+            |part| results::write_text_refusal(question, place, part),
+        )
     }
-}
 
-// Does what a line says, and hands back how many bytes the buffer has.
-fn run_line(rt: &impl Print, line: &[u8], table: &mut [u64], size: usize) -> usize {
-    if line.len() < 1 {
-        return size;
+    fn write_batch(&self, rt: &impl Print, mut words: Split<'_, char>) -> io::Result<()> {
+        let many = number(words.next());
+        let mut numbers = [0u64; MANY * Report::WORDS];
+        store(&mut numbers, 0, words);
+        let mut buffer = [b'.'; ROOM];
+        let Some(part) = buffer.get_mut(..self.size) else {
+            return Ok(());
+        };
+        let answer = results::write_batch(&self.table, &numbers, &[3, -1250, 0, 7], 0, many, part);
+        show_batch(rt, answer, &buffer)
     }
-    match line[0] {
-        b'w' => {
-            let first = number_at(line, 2);
-            write_words(line, first.next, table, first.value as usize);
-            size
-        }
-        b'b' => {
-            print_line(rt, line);
-            number_at(line, 2).value as usize
-        }
-        _ => {
-            print_line(rt, line);
-            report_line(rt, line, table, size);
-            size
-        }
-    }
-}
 
-fn line_end(text: &[u8], start: usize) -> usize
-    requires { start ≤ length text.now }
-    ensures { (start ≤ result) × (result ≤ length text.now) }
-{
-    let mut i = start;
-    while i < text.len() {
-        if text[i] == b'\n' {
-            return i;
+    // A report of up to three numbers, or many at once.
+    fn report(&self, rt: &impl Print, kind: &str, mut words: Split<'_, char>) -> io::Result<()> {
+        match kind {
+            "q" => self.write(rt, Report::Refused(number(words.next()))),
+            "f" => self.write(rt, Report::Failed(number(words.next()))),
+            "h" => self.write(rt, Report::Held(number(words.next()), number(words.next()))),
+            "t" => self.write_refusal(rt, number(words.next()), number(words.next())),
+            "l" => self.write_batch(rt, words),
+            _ => self.report_of_three(rt, kind, words),
         }
-        i += 1;
     }
-    i
-}
 
-fn run(rt: &impl Print, text: &[u8], table: &mut [u64]) {
-    let mut size: usize = Report::ROOM;
-    let mut start: usize = 0;
-    while start < text.len() {
-        let end = line_end(text, start);
-        size = run_line(rt, &text[start..end], table, size);
-        start = end + 1;
+    fn report_of_three(
+        &self,
+        rt: &impl Print,
+        kind: &str,
+        mut words: Split<'_, char>,
+    ) -> io::Result<()> {
+        let first = number(words.next());
+        let second = number(words.next());
+        match kind {
+            "r" => self.write(rt, Report::Ruled(first, second, number(words.next()))),
+            "s" => self.write(rt, Report::Sent(first, second, number(words.next()))),
+            "m" => self.write(
+                rt,
+                Report::Sent(first, second, -1 - number::<i64>(words.next())),
+            ),
+            _ => Ok(()),
+        }
+    }
+
+    fn take(&mut self, rt: &impl Print, line: &str) -> io::Result<()> {
+        let (kind, words) = line.split_once(' ').unwrap_or((line, ""));
+        let mut words = words.split(' ');
+        if kind == "w" {
+            let at = number(words.next());
+            store(&mut self.table, at, words);
+            return Ok(());
+        }
+        println!(rt; "{line}")?;
+        if kind == "b" {
+            self.size = number(words.next());
+        }
+        self.report(rt, kind, words)
     }
 }
 
 fn main(rt: HostRuntime) -> io::Result<()> {
-    let mut text = [0u8; 65536];
-    let n = streams::fill(&mut rt.reader(), &mut text)?;
-    let mut table = [0u64; Contract::TABLE];
-    run(&rt, &text[..n], &mut table);
+    let text = io::read_to_string(rt.alloc(), rt.reader())?;
+    let mut trial = Trial {
+        table: vec![in rt.alloc(); 0; Contract::TABLE]?,
+        size: Report::ROOM,
+    };
+    for line in text.as_str().lines() {
+        trial.take(&rt, line)?;
+    }
     Ok(())
 }

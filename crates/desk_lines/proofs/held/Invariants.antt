@@ -1,10 +1,6 @@
 -- `desk_lines::held` meets its contract. Assumes nothing.
-use Prim.Native.Nat.{◌-◌, ◌≤◌}
 use Rattle.desk_lines.proofs.Laws.{Holds}
 use Rattle.desk_lines.proofs.held.Given as goal
 
 abbrev pub invariant-loop-i : goal.invariant-loop-i
-invariant-loop-i l = Holds l.initial.numbers l.amounts l.count l.i l.numbers × ((l.i ≤ 16) × (l.i ≤ l.count))
-
-abbrev pub decreases-loop-i : goal.decreases-loop-i
-decreases-loop-i l = 16 - l.i
+invariant-loop-i l = Holds l.initial.numbers l.amounts l.count l.i l.numbers

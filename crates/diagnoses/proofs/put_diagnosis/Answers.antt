@@ -1,7 +1,8 @@
 -- `diagnoses::put_diagnosis` meets its contract. Assumes nothing.
+use mathlib.Core.Path.{◌∙◌}
 use native.Mathlib.Omega.{arith}
 use Rattle.printing.proofs.Puts.{kept}
-use Rattle.diagnoses.proofs.Diagnosed.{where_short, what_short, column_counts, diagnosed_short, diagnosed}
+use Rattle.diagnoses.proofs.Diagnosed.{told, where_short, what_short, column_counts, diagnosed_short, diagnosed}
 use Rattle.diagnoses.proofs.put_diagnosis.Goals as goal
 
 pub put_what-end-requires : goal.put_what-end-requires
@@ -13,7 +14,7 @@ put_what-end-requires c =
 pub returns-then-number : goal.returns-then-number
 returns-then-number c =
     let a = c.args in
-    diagnosed_short a.file.now a.text.now a.number a.place c.place_in-p.ensures c.if-number.true c.put_where-what.ensures c.put_what-end.ensures
+    diagnosed_short a.file.now a.text.now a.number a.place c.place_in-p.ensures (told a.number c.number.ensures c.number-2.ensures ∙ c.if-number.true) c.put_where-what.ensures c.put_what-end.ensures
 
 pub shape_of-buffer-then-number : goal.shape_of-buffer-then-number
 shape_of-buffer-then-number c = kept (returns-then-number c)
@@ -39,7 +40,7 @@ put_source-requires c =
 pub returns : goal.returns
 returns c =
     let s = c.args in
-    diagnosed s.file.now s.text.now s.number s.place c.place_in-p.ensures c.if-number.false c.put_where-what.ensures c.put_what-end.ensures
+    diagnosed s.file.now s.text.now s.number s.place c.place_in-p.ensures (told s.number c.number.ensures c.number-2.ensures ∙ c.if-number.false) c.put_where-what.ensures c.put_what-end.ensures
     c.put_source.ensures
 
 pub shape_of-buffer : goal.shape_of-buffer

@@ -1,25 +1,14 @@
--- `places::line_end` meets its contract. The invariant: the place and the line from there on make the same sum all along. The measure is the text's
--- length less i. Assumes nothing.
-use native.Mathlib.Omega.{arith}
-use Rattle.laws.proofs.Lists.{past}
+-- `places::line_end` meets its contract. Assumes nothing.
+use Rattle.std.proofs.Common.{ℕ, ◌+◌, ◌-◌, ◌∙◌, ap, Option, length, take, drop, length-drop, take_all, unwrap_or, arith}
 use Rattle.tokens.specs.Classes.{run}
-use Rattle.tokens.proofs.Laws.{run_go, run_stop}
 use Rattle.places.specs.Places.{in_line}
-use Rattle.places.proofs.PlaceLaws.{in_line_lem, line_over}
+use Rattle.places.proofs.PlaceLaws.{line_feed_ends}
 use Rattle.places.proofs.line_end.Goals as goal
 
-pub returns-then-text-i-eq10 : goal.returns-then-text-i-eq10
-returns-then-text-i-eq10 c =
-    let text = c.args.text.now in
-    let l = c.loop-i in
-    omega (arith, l.invariant, run_stop text l.i c.loop-i-test.true in_line (line_over _ c.if-text-i-eq10.true))
-
-pub loop-i-preserved : goal.loop-i-preserved
-loop-i-preserved c =
-    let text = c.args.text.now in
-    let l = c.loop-i in
-    omega (arith, l.invariant, run_go text l.i c.loop-i-test.true in_line (in_line_lem _ c.if-text-i-eq10.false))
-
 pub returns : goal.returns
-unfolding run
-returns c = omega (arith, c.loop-i.invariant, past (run in_line) c.args.text.now c.loop-i.i c.loop-i-test.false)
+returns c =
+    let rest = drop c.args.at c.args.text.now in
+    let n = length c.args.text.now - c.args.at in
+    ap (λ (k : ℕ). c.args.at + k)
+    (line_feed_ends (take n rest) _ (c.unwrap_or.ensures ∙ ap (λ (o : Option ℕ). unwrap_or o (length (take n rest))) c.line_feed.ensures)
+    ∙ ap (run in_line) (take_all n rest (omega (arith, length-drop c.args.at c.args.text.now))))

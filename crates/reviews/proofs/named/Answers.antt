@@ -15,11 +15,11 @@ use Rattle.reviews.proofs.named.Goals as goal
 pub loop-i-init : goal.loop-i-init
 loop-i-init c =
     let a = c.args in
-    (ap (λ (h : TableHead). h.clauses) c.head-h.ensures, ap (names (verb_of a.verb) a.x) (sym (clauses_first a.table.now)))
+    ap (names (verb_of a.verb) a.x) (sym (clauses_first a.table.now))
 
 pub clause_names-requires : goal.clause_names-requires
 clause_names-requires c =
-    (c.requires, omega (arith, c.loop-i.invariant.0, c.loop-i-test.true))
+    (c.requires, omega (arith, (ap (λ (h : TableHead). h.clauses) c.head-h.ensures), c.loop-i-test.true))
 
 pub returns-then-same_verb-clause_names : goal.returns-then-same_verb-clause_names
 returns-then-same_verb-clause_names c =
@@ -27,9 +27,9 @@ returns-then-same_verb-clause_names c =
     let w = a.table.now in
     let v = verb_of a.verb in
     let i = c.loop-i.i in
-    let more : i < word_at w 5 = omega (arith, c.loop-i.invariant.0, c.loop-i-test.true) in
+    let more : i < word_at w 5 = omega (arith, (ap (λ (h : TableHead). h.clauses) c.head-h.ensures), c.loop-i-test.true) in
     let same = c.same_verb.ensures ∙ ap (same_verb v) (row_verb w i _ c.clause_at-c.ensures) in
-    sym (sym c.loop-i.invariant.1 ∙ named_here v a.x (clause_at w) (word_at w 5) i same c.clause_names.ensures more c.if-same_verb-clause_names.true)
+    sym (sym c.loop-i.invariant ∙ named_here v a.x (clause_at w) (word_at w 5) i same c.clause_names.ensures more c.if-same_verb-clause_names.true)
 
 pub loop-i-preserved : goal.loop-i-preserved
 loop-i-preserved c =
@@ -37,13 +37,13 @@ loop-i-preserved c =
     let w = a.table.now in
     let v = verb_of a.verb in
     let i = c.loop-i.i in
-    let more : i < word_at w 5 = omega (arith, c.loop-i.invariant.0, c.loop-i-test.true) in
+    let more : i < word_at w 5 = omega (arith, (ap (λ (h : TableHead). h.clauses) c.head-h.ensures), c.loop-i-test.true) in
     let same = c.same_verb.ensures ∙ ap (same_verb v) (row_verb w i _ c.clause_at-c.ensures) in
-    (c.loop-i.invariant.0, sym (named_later v a.x (clause_at w) (word_at w 5) i same c.clause_names.ensures more c.if-same_verb-clause_names.false) ∙ c.loop-i.invariant.1)
+    (sym (named_later v a.x (clause_at w) (word_at w 5) i same c.clause_names.ensures more c.if-same_verb-clause_names.false) ∙ c.loop-i.invariant)
 
 pub returns : goal.returns
 returns c =
     let a = c.args in
     let w = a.table.now in
-    let none : word_at w 5 ≤ c.loop-i.i = omega (arith, c.loop-i.invariant.0, c.loop-i-test.false) in
-    sym (sym c.loop-i.invariant.1 ∙ named_end (verb_of a.verb) a.x (clause_at w) (word_at w 5) c.loop-i.i none)
+    let none : word_at w 5 ≤ c.loop-i.i = omega (arith, (ap (λ (h : TableHead). h.clauses) c.head-h.ensures), c.loop-i-test.false) in
+    sym (sym c.loop-i.invariant ∙ named_end (verb_of a.verb) a.x (clause_at w) (word_at w 5) c.loop-i.i none)

@@ -9,7 +9,4 @@ use Rattle.reviews.proofs.named.Given as goal
 
 abbrev pub invariant-loop-i : goal.invariant-loop-i
 invariant-loop-i l =
-    (l.n ≡ word_at l.table 5) × (names (verb_of l.verb) l.x (each_from l.i (word_at l.table 5 - l.i) (clause_at l.table)) ≡ names (verb_of l.verb) l.x (contract_of l.table).clauses)
-
-abbrev pub decreases-loop-i : goal.decreases-loop-i
-decreases-loop-i l = l.n - l.i
+    names (verb_of l.verb) l.x (each_from l.i (word_at l.table 5 - l.i) (clause_at l.table)) ≡ names (verb_of l.verb) l.x (contract_of l.table).clauses

@@ -1,9 +1,0 @@
--- `trial_listing::listing::put_fields` meets its contract. Assumes nothing.
-use Prim.Native.Nat.{◌-◌}
-use Rattle.trial_listing.proofs.listing.put_fields.Given as goal
-
-abbrev pub invariant-loop-j : goal.invariant-loop-j
-invariant-loop-j l = Unit
-
-abbrev pub decreases-loop-j : goal.decreases-loop-j
-decreases-loop-j l = l.n - l.j

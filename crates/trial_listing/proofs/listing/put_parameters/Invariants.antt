@@ -1,9 +1,0 @@
--- `trial_listing::listing::put_parameters` meets its contract. Assumes nothing.
-use Prim.Native.Nat.{◌-◌}
-use Rattle.trial_listing.proofs.listing.put_parameters.Given as goal
-
-abbrev pub invariant-loop-i : goal.invariant-loop-i
-invariant-loop-i l = Unit
-
-abbrev pub decreases-loop-i : goal.decreases-loop-i
-decreases-loop-i l = l.n - l.i
