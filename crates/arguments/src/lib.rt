@@ -150,46 +150,25 @@ pub fn hear(asked: Asked, n: usize, argument: &[u8]) -> Result<Asked, Fault>
     if let Some(place) = asked.option {
         return take_out(asked, place, n, argument);
     }
+    let mut next = asked;
     match classify(argument) {
-        Argument::Help => once(
-            n,
-            asked.help,
-            asked.review,
-            Asked {
-                help: true,
-                ..asked
-            },
-        ),
-        Argument::Explain => once(
-            n,
-            asked.explain,
-            asked.review,
-            Asked {
-                explain: true,
-                ..asked
-            },
-        ),
-        Argument::Review => {
-            let other = asked.help | asked.explain | asked.pages.is_some();
-            once(
-                n,
-                asked.review,
-                other,
-                Asked {
-                    review: true,
-                    ..asked
-                },
-            )
+        Argument::Help => {
+            next.help = true;
+            once(n, asked.help, asked.review, next)
         }
-        Argument::Pages => once(
-            n,
-            asked.pages.is_some(),
-            asked.review,
-            Asked {
-                option: Some(n),
-                ..asked
-            },
-        ),
+        Argument::Explain => {
+            next.explain = true;
+            once(n, asked.explain, asked.review, next)
+        }
+        Argument::Review => {
+            next.review = true;
+            let other = asked.help | asked.explain | asked.pages.is_some();
+            once(n, asked.review, other, next)
+        }
+        Argument::Pages => {
+            next.option = Some(n);
+            once(n, asked.pages.is_some(), asked.review, next)
+        }
         Argument::File => take_file(asked, n),
         Argument::Unknown => wrong(n, Mistake::Unknown),
         Argument::Long => wrong(n, Mistake::Long),

@@ -28,9 +28,6 @@ row_past w start width i p s h =
 pub row_within : (n width i : ℕ) → 0 < width → i < n / width → i * width ≤ n
 row_within n width i p h = (le-div_iff_mul-le p).0 (le_of_lt h)
 
-pub row_is : (w : List ℕ) (start width i : ℕ) → i * width ≤ length w → RowAt w start width i (start + i * width)
-row_is w start width i h = record { bound = omega arith; same = λ j. refl }
-
 -- the first word of a row
 pub row_first : (w : List ℕ) (start width i r : ℕ) → RowAt w start width i r → word_at w r ≡ word_at w (start + i * width + 0)
 row_first w start width i r a = ap (word_at w) (sym (add-zero r)) ∙ a.same 0

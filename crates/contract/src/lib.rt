@@ -5,7 +5,7 @@ ghost use Rattle.std.specs.Prelude.{◌≡◌, ◌+◌, ◌*◌, ◌≤◌, ◌<
 ghost use Rattle.contract.specs.Table.{word_at, clause_word, parameters_start};
 ghost use Rattle.contract.specs.Decode.{packed_byte};
 ghost use Rattle.contract.specs.Rows.{head_of, function_row_of, event_row_of, clause_row_of, node_of};
-ghost use Rattle.contract.specs.Private.{RowAt};
+ghost use Rattle.contract.specs.Private.{RowAt, three_of};
 
 use tokens::Token;
 
@@ -13,6 +13,7 @@ use tokens::Token;
 #[derive(Clone, Copy)]
 pub struct Contract {}
 
+// Kept: (d) no kinds but limits: each constant is a count, and no value of a type is one of them.
 impl Contract {
     // The longest text, in bytes.
     pub const TEXT: usize = 16384;
@@ -132,7 +133,7 @@ pub struct Node {
     pub size: usize,
 }
 
-// Kept: kinds are numbers, since they stand in a lent table, of which question 3 judges whether each is one of these.
+// Kept: (a) kinds are numbers, since they stand in a lent table of words, of which question 3 judges whether each is one of these.
 impl Node {
     // Expressions.
     pub const CONSTANT: u64 = 1;
@@ -286,25 +287,34 @@ pub fn function_at(table: &[u64], i: usize) -> Function
     }
 }
 
+// The first three words of row i of a section.
+fn three(table: &[u64], start: usize, width: usize, i: usize) -> (usize, usize, usize)
+    requires { (0 < width) × (width ≤ start) × (start ≤ 20819) }
+    ensures { result ≡ three_of table.now start width i }
+{
+    let at = row(table, start, width, i);
+    (
+        number(table, at),
+        number(table, at + 1),
+        number(table, at + 2),
+    )
+}
+
 pub fn event_at(table: &[u64], i: usize) -> Event
     ensures { result ≡ event_row_of table.now i }
 {
-    let at = row(table, EVENTS, Event::WORDS, i);
-    Event {
-        state: number(table, at),
-        last: number(table, at + 1),
-        node: number(table, at + 2),
-    }
+    let (state, last, node) = three(table, EVENTS, Event::WORDS, i);
+    Event { state, last, node }
 }
 
 pub fn clause_at(table: &[u64], i: usize) -> Clause
     ensures { result ≡ clause_row_of table.now i }
 {
-    let at = row(table, CLAUSES, Clause::WORDS, i);
+    let (party, verb, fields) = three(table, CLAUSES, Clause::WORDS, i);
     Clause {
-        party: number(table, at),
-        verb: number(table, at + 1),
-        fields: number(table, at + 2),
+        party,
+        verb,
+        fields,
     }
 }
 

@@ -9,6 +9,7 @@ ghost use Rattle.numbers.specs.Numbers.{in_range, divided, applied, integers, st
 use questions::Question;
 
 // A value of a field, a parameter or an expression: an integer, or a string by its number.
+// Kept: (d) no Option and no Result: each case is a value of its own kind, neither an absence nor a refusal.
 #[derive(Clone, Copy)]
 pub enum Value {
     Integer(i64),

@@ -1,14 +1,14 @@
 -- The words of the questions: how long they are, and which numbers have none. Assumes nothing.
 use mathlib.Core.Path.{◌≡◌, refl, sym, ap, ◌∙◌}
-use mathlib.Core.Bool.{Bool, true, ◌||◌}
+use mathlib.Core.Bool.{Bool, true, false, ◌||◌}
 use mathlib.Core.List.{List, [], ◌∷◌}
 use Prim.Native.Nat.{ℕ, zero, suc, ◌+◌, ◌<◌, ◌≤◌}
 use Prim.Native.String.{String}
 use native.Mathlib.Omega.{arith}
 use native.Mathlib.Nat.{add-zero}
-use lib.ListN.{length, get_or}
+use lib.ListN.{length, get_or, get_or-eq_default}
 use lib.Dec.{eqb, ltb, leb}
-use borrow.Author.Tests.{ne_eqb, ltb-true, leb-true}
+use borrow.Author.Tests.{ne_eqb, ltb-true, ltb-false, leb-true}
 use Rattle.laws.specs.Bytes.{bytes}
 use Rattle.laws.specs.Lists.{every}
 use Rattle.laws.proofs.Choice.{pick_false, by_cases}
@@ -81,3 +81,11 @@ words_at m n h = from_at 0 m n h ∙ ap words_of (omega arith)
 pub words_past : (n : ℕ) → 63 ≤ n → n < 256 → words_of n ≡ []
 unfolding every
 words_past n h k = no_words 63 256 n h k refl
+
+-- a table of the first 63 has the words of each number of a byte, past its end none
+pub words_all : (n : ℕ) → n < 256 → get_or (words_from 0 63) n [] ≡ words_of n
+words_all n h = go (ltb n 63) refl
+  where
+    go : (b : Bool) → ltb n 63 ≡ b → get_or (words_from 0 63) n [] ≡ words_of n
+    go true e = words_at 63 n (ltb-true n 63 e)
+    go false e = let k = ltb-false n 63 e in get_or-eq_default (words_from 0 63) [] {n = n} (omega (arith, from_long 0 63)) ∙ sym (words_past n k h)

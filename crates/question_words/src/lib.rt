@@ -86,12 +86,7 @@ static SENTENCES: [&[u8]; 63] = [
 fn spelled(number: u8) -> &'static [u8]
     ensures { result.now ≡ words_of number }
 {
-    let i = number as usize;
-    if i < SENTENCES.len() {
-        SENTENCES[i]
-    } else {
-        &[]
-    }
+    items::get_or(&SENTENCES, number as usize, &[])
 }
 
 // The words of a question come to the front of the buffer; answers how many bytes they have. A number without words has none.

@@ -2,7 +2,7 @@
 //! program's arguments, and writing on standard error. Nothing here requires anything of its caller.
 #![tactic(auto)]
 
-ghost use Rattle.std.specs.Prelude.{◌≡◌, ◌↔◌, ◌<◌, ◌≤◌, length, take, IfOk, IfSome, IsOk, OnErr, IsUtf8};
+ghost use Rattle.std.specs.Prelude.{◌≡◌, ◌↔◌, ◌<◌, ◌≤◌, ℕ, length, take, IfOk, IfSome, IsOk, OnOk, OnErr, IsUtf8};
 ghost use Rattle.std.specs.Io.{ReadsAtMost};
 ghost use Rattle.std.specs.Io.KnownBytes.{Consumes, IsAtEnd, Keeps};
 
@@ -47,11 +47,12 @@ pub fn get<R: Read>(from: &mut R, bytes: &mut [u8]) -> io::Result<usize>
 }
 
 /// Reads until the buffer is full or the stream ends, and answers how many bytes it put at the buffer's start.
-/// After an error some of the stream may be read.
+/// After an error what was read until then stands at the buffer's start, and the buffer is not full.
 pub fn fill<R: Read>(from: &mut R, bytes: &mut [u8]) -> io::Result<usize>
     ensures within { ReadsAtMost result bytes.new }
     ensures ok { IfOk result (λ n. Consumes (R.remaining from.old) (R.remaining from.new) (take n bytes.new)) }
     ensures end { IfOk result (λ n. n < length bytes.old → IsAtEnd (R.remaining from.new)) }
+    ensures err { OnErr result ((n : ℕ) × (n < length bytes.old) × Consumes (R.remaining from.old) (R.remaining from.new) (take n bytes.new)) }
 {
     let mut size = 0;
     // Kept: (d) the place moves by what each read gave, so there is no range or iterator to go over.
@@ -73,25 +74,31 @@ pub fn path_text(path: &[u8]) -> io::Result<&str>
     str::from_utf8(path).map_err(|_| io::Error::from(ErrorKind::InvalidInput))
 }
 
-/// Opens a file for reading.
-pub fn open<R: Files>(rt: &R, path: &[u8]) -> io::Result<R::File> {
+/// Opens a file for reading. A path that is no text opens none; of any other std's contract says nothing.
+pub fn open<R: Files>(rt: &R, path: &[u8]) -> io::Result<R::File>
+    ensures { OnOk result (IsUtf8 path.now) }
+{
     fs::open(rt, path_text(path)?)
 }
 
-/// Makes a file, or empties it, for writing.
-pub fn create<R: Files>(rt: &R, path: &[u8]) -> io::Result<R::File> {
+/// Makes a file, or empties it, for writing. A path that is no text makes none; of any other std's contract says nothing.
+pub fn create<R: Files>(rt: &R, path: &[u8]) -> io::Result<R::File>
+    ensures { OnOk result (IsUtf8 path.now) }
+{
     fs::create(rt, path_text(path)?)
 }
 
-/// Reads a file from its start until the buffer is full or the file ends.
+/// Reads a file from its start until the buffer is full or the file ends. Which bytes a file has std's contract of `open` does not say.
 pub fn load<R: Files>(rt: &R, path: &[u8], bytes: &mut [u8]) -> io::Result<usize>
-    ensures { ReadsAtMost result bytes.new }
+    ensures within { ReadsAtMost result bytes.new }
+    ensures text { OnOk result (IsUtf8 path.now) }
 {
     let mut file = open(rt, path)?;
     fill(&mut file, bytes)
 }
 
 /// Puts argument `i` at the buffer's start and answers its length: all of the buffer where it has no room for it, `None` past the last.
+/// Which arguments there are, and which bytes they have, std's contract of `Env::arg` does not say.
 pub fn argument<R: Env>(rt: &R, i: usize, bytes: &mut [u8]) -> Option<usize>
     ensures { IfSome result (λ n. n ≤ length bytes.new) }
 {

@@ -5,7 +5,6 @@ use mathlib.Core.List.{List, [], ◌∷◌}
 use Prim.Native.Nat.{ℕ, ◌+◌, ◌-◌, ◌<◌, ◌≤◌}
 use native.Mathlib.Omega.{arith}
 use lib.ListN.{length, get_or, take, drop, length-drop, drop_of_length-le, get_or-eq_default}
-use lib.Seq.{take_all}
 use lib.Dec.{eqb}
 use borrow.Author.Tests.{eq-eqb, ne_eqb}
 use Rattle.laws.specs.Choice.{pick}
@@ -37,14 +36,3 @@ same_none (x ∷ xs) = ne_eqb (length (x ∷ xs)) 0 (λ e. omega arith)
 module _ (name w : List ℕ) (o : ℕ) where
   pub past_word : length w ≤ o → eqb (length name) 0 ≡ same_bytes name (word_of w o)
   past_word h = same_none name ∙ ap (λ (n : ℕ). same_bytes name (take n (drop (o + 1) w))) (sym (get_or-eq_default w 0 h))
-
-  pub cut_word : (n : ℕ) → n ≡ word_at w o → length w - (o + 1) < n → same_bytes name (take (length w - (o + 1)) (drop (o + 1) w)) ≡ same_bytes name (word_of w o)
-  cut_word n e h =
-      let k : length (drop (o + 1) w) ≤ length w - (o + 1) = omega (arith, length-drop (o + 1) w) in
-      let l : length (drop (o + 1) w) ≤ word_at w o = omega (arith, length-drop (o + 1) w) in
-      ap (same_bytes name) (take_all (length w - (o + 1)) (drop (o + 1) w) k ∙ sym (take_all (word_at w o) (drop (o + 1) w) l))
-
-  pub whole_word : (n : ℕ) → n ≡ word_at w o → same_bytes name (take (o + 1 + n - (o + 1)) (drop (o + 1) w)) ≡ same_bytes name (word_of w o)
-  whole_word n e =
-      let q : o + 1 + n - (o + 1) ≡ word_at w o = omega arith in
-      ap (λ (k : ℕ). same_bytes name (take k (drop (o + 1) w))) q

@@ -6,6 +6,8 @@ ghost use Rattle.laws.specs.Bytes.{same_bytes};
 ghost use Rattle.contract.specs.Decode.{word_of};
 
 // Whether a word of the table has the bytes of a name.
+// Kept: (d) a name is of bytes and a word of the table of u64s, which `==` of slices does not compare; (c) by `zip` and `all` what the function
+// ensures stayed open.
 fn same_bytes(name: &[u8], word: &[u64]) -> bool
     ensures { result ≡ same_bytes name.now word.now }
 {

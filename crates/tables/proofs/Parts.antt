@@ -1,19 +1,16 @@
 -- Parts of nodes: where they start, and how a node counts them. Assumes nothing.
 use mathlib.Core.Path.{◌≡◌, refl, sym, ap, ◌∙◌}
-use mathlib.Core.Bool.{Bool, true, false, ◌&&◌, ◌||◌}
+use mathlib.Core.Bool.{Bool, true, false, ◌&&◌}
 use mathlib.Core.List.{List, [], ◌∷◌}
-use Prim.Native.Nat.{ℕ, ◌+◌, ◌-◌, ◌<◌, ◌≤◌}
+use Prim.Native.Nat.{ℕ, ◌-◌, ◌≤◌}
 use native.Mathlib.Omega.{arith}
 use native.Mathlib.Nat.{le_refl}
 use lib.Dec.{eqb, ltb, leb}
-use borrow.Author.Tests.{eq-eqb, ne_eqb, eqb-true, eqb-false}
 use Rattle.laws.proofs.Choice.{by_cases}
 use Rattle.contract.specs.Table.{kind_at, argument_at, size_at}
-use Rattle.contract.specs.Rows.{node_of}
-use Rattle.contract.specs.declared.Node.{Node}
-use Rattle.contract.specs.Check.{Sort, condition, statement, is_sort, Start, at, nowhere, on_start, part_start, parts_start, whole_from, statement_from, block_ok, conditional_start}
-use Rattle.tables.specs.Private.{StartsBy, statements_before}
-use Rattle.contract.proofs.Tests.{eqb_both}
+use Rattle.laws.specs.Choice.{pick}
+use Rattle.contract.specs.Check.{Sort, expression, condition, holder, asset_target, value_target, is_sort, Start, at, nowhere, on_start, part_start, parts_start, statement_from, block_ok, conditional_start}
+use Rattle.tables.specs.Private.{StartsBy, statement_start, statement_ok}
 
 -- ---- several parts
 module _ (w : List ℕ) (from : ℕ) where
@@ -57,46 +54,27 @@ module _ (w : List ℕ) (from : ℕ) where
       by_cases (λ (x : Start). StartsBy x k) (leb (argument_at w k) (k - from) && block_ok w k (argument_at w k)) _ _
       (λ _. later (part_start w from condition (k - argument_at w k)) (k - argument_at w k) k (omega arith) (part_by condition (k - argument_at w k))) (λ _. tt)
 
-neither : (a b : Bool) {x y : Bool} → x ≡ false → y ≡ false → false ≡ (x || (a && (b && y)))
-neither a b e f = sym ((λ i. e i || (a && (b && f i))) ∙ none a b)
-  where
-    none : (a b : Bool) → (a && (b && false)) ≡ false
-    none true true = refl
-    none true false = refl
-    none false b = refl
+-- ---- a statement of any kind
+pick_of : {A B : Type 0} (f : A → B) (b : Bool) (x : A) {y : A} {z : B} → f y ≡ z → f (pick b x y) ≡ pick b (f x) z
+unfolding pick
+pick_of f true x e = refl
+pick_of f false x e = e
 
--- ---- node k, which is n, counts its parts from p on
-module _ (w : List ℕ) (k : ℕ) (n : Node) (e : n ≡ node_of w k) (p : ℕ) (h : p ≤ k) where
-  pub whole_is : eqb n.size (k + 1 - p) ≡ whole_from w k (at p)
-  whole_is =
-      eqb_both n.size (k + 1 - p) (n.size + p) (k + 1) (λ q. omega arith) (λ q. omega arith)
-      ∙ λ i. eqb ((e i).size + p) (k + 1)
+module _ (w : List ℕ) (from k kind : ℕ) where
+  -- its own parts start before it
+  pub statement_by : StartsBy (statement_start w from k kind) k
+  statement_by =
+      let P : Start → Type 0 = λ x. StartsBy x k in
+      by_cases P (eqb kind 24) _ _ (λ _. parts_by w from (value_target ∷ expression ∷ []) k)
+      (λ _. by_cases P (eqb kind 25) _ _ (λ _. parts_by w from (asset_target ∷ holder ∷ expression ∷ []) k)
+      (λ _. by_cases P (eqb kind 26) _ _ (λ _. parts_by w from (asset_target ∷ holder ∷ []) k)
+      (λ _. by_cases P (eqb kind 27) _ _ (λ _. conditional_by w from k) (λ _. tt))))
 
-  module _ (from : ℕ) where
-    statement_as : (m : Node) → m ≡ node_of w (p - 1)
-        → (eqb (n.size + p) (k + 1) || (ltb from p && (is_sort statement m.kind && eqb (n.size + p) (k + 1 + m.size)))) ≡ statement_from w from k (at p)
-    statement_as m f = λ i. eqb ((e i).size + p) (k + 1) || (ltb from p && (is_sort statement (f i).kind && eqb ((e i).size + p) (k + 1 + (f i).size)))
-
-    -- no statements before it
-    pub statement_first : n.size ≤ k + 1 - p → eqb n.size (k + 1 - p) ≡ statement_from w from k (at p)
-    statement_first l = go (eqb n.size (k + 1 - p)) refl
-      where
-        go : (t : Bool) → eqb n.size (k + 1 - p) ≡ t → t ≡ statement_from w from k (at p)
-        go true q = simp (eq-eqb (n.size + p) (k + 1) (omega (arith, eqb-true n.size (k + 1 - p) q))) at (statement_as (node_of w (p - 1)) refl)
-        go false q =
-            let f : n.size ≡ k + 1 - p → ⊥ = eqb-false n.size (k + 1 - p) q in
-            neither (ltb from p) (is_sort statement (kind_at w (p - 1)))
-            (ne_eqb (n.size + p) (k + 1) (λ g. f (omega arith)))
-            (ne_eqb (n.size + p) (k + 1 + size_at w (p - 1)) (λ g. f (omega arith)))
-            ∙ statement_as (node_of w (p - 1)) refl
-
-    module _ (l : k + 1 - p < n.size) where
-      not_first : false ≡ eqb (n.size + p) (k + 1)
-      not_first = sym (ne_eqb (n.size + p) (k + 1) (λ q. omega arith))
-
-      -- those before it count the rest
-      pub statement_after : statements_before w from p (n.size - (k + 1 - p)) ≡ statement_from w from k (at p)
-      statement_after =
-          (λ i. not_first i || (ltb from p && (is_sort statement (kind_at w (p - 1))
-          && eqb_both (n.size - (k + 1 - p)) (size_at w (p - 1)) (n.size + p) (k + 1 + size_at w (p - 1)) (λ q. omega arith) (λ q. omega arith) i)))
-          ∙ statement_as (node_of w (p - 1)) refl
+  -- by its kind, and then by where its parts start
+  pub statement_is : statement_from w from k (statement_start w from k kind) ≡ statement_ok w from k kind
+  statement_is =
+      let f : Start → Bool = statement_from w from k in
+      pick_of f (eqb kind 24) (parts_start w from (value_target ∷ expression ∷ []) k)
+      (pick_of f (eqb kind 25) (parts_start w from (asset_target ∷ holder ∷ expression ∷ []) k)
+      (pick_of f (eqb kind 26) (parts_start w from (asset_target ∷ holder ∷ []) k)
+      (pick_of f (eqb kind 27) (conditional_start w from k) {y = nowhere} refl)))

@@ -34,6 +34,14 @@ statements_before w from p n = ltb from p && (check.is_sort check.statement (kin
 abbrev pub statement_by : List ℕ → ℕ → ℕ → List check.Sort → Bool
 statement_by w from k ss = check.statement_from w from k (check.parts_start w from ss k)
 
+-- where the own parts of a statement of this kind start
+abbrev pub statement_start : List ℕ → ℕ → ℕ → ℕ → check.Start
+statement_start w from k kind =
+    pick (eqb kind value_move_kind) (check.parts_start w from (check.value_target ∷ check.expression ∷ []) k)
+    (pick (eqb kind asset_move_kind) (check.parts_start w from (check.asset_target ∷ check.holder ∷ check.expression ∷ []) k)
+    (pick (eqb kind whole_move_kind) (check.parts_start w from (check.asset_target ∷ check.holder ∷ []) k)
+    (pick (eqb kind conditional_kind) (check.conditional_start w from k) check.nowhere)))
+
 -- a statement's part of whole_ok
 abbrev pub statement_ok : List ℕ → ℕ → ℕ → ℕ → Bool
 statement_ok w from k kind =

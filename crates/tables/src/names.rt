@@ -1,11 +1,12 @@
 // Names and strings of a table: their bytes, and rows of them.
-ghost use Rattle.std.specs.Prelude.{◌≡◌, ◌+◌, ◌*◌, ◌≤◌, length};
+ghost use Rattle.std.specs.Prelude.{◌≡◌, ◌+◌, ◌*◌, ◌≤◌};
 ghost use Rattle.tokens.specs.Classes.{is_letter, is_name_byte, is_string_byte};
 ghost use Rattle.contract.specs.Table.{word_at, parameters_start};
 ghost use Rattle.contract.specs.Decode.{packed_byte};
 ghost use Rattle.contract.specs.Check.{ranges, name_ok, string_ok, packed_ok};
 ghost use Rattle.laws.specs.Lists.{all_below};
 
+use crate::Table;
 use contract::{Contract, packed_byte, packed_length, word};
 
 // Whether n is from lo to hi.
@@ -39,9 +40,8 @@ fn is_string_byte(w: u64) -> bool
 
 // A name of 1 to 32 bytes, its length at o.
 #[tactic(auto, unfolding(contract::specs::Check::name_ok, contract::specs::Check::ranges))]
-pub(crate) fn name_ok(table: &[u64], o: usize) -> bool
-    requires table_len { length table.now ≡ 24659 }
-    requires o_bound { o + 33 ≤ 24659 }
+pub(crate) fn name_ok(table: &Table, o: usize) -> bool
+    requires { o + 33 ≤ 24659 }
     ensures { result ≡ name_ok table.now o }
 {
     let n = word(table, o);
@@ -52,7 +52,7 @@ pub(crate) fn name_ok(table: &[u64], o: usize) -> bool
 
 // A name of 1 to 32 bytes in row i of the parameters.
 #[tactic(auto, using(crate::proofs::Packed::packed_is), unfolding(contract::specs::Check::ranges))]
-pub(crate) fn packed_ok(table: &[u64], i: usize) -> bool
+pub(crate) fn packed_ok(table: &Table, i: usize) -> bool
     ensures { result ≡ packed_ok table.now (parameters_start + i * 5) }
 {
     let n = packed_length(table, i);
@@ -63,9 +63,8 @@ pub(crate) fn packed_ok(table: &[u64], i: usize) -> bool
 
 // A string of up to 64 bytes, its length at o.
 #[tactic(auto, unfolding(contract::specs::Check::string_ok))]
-fn string_ok(table: &[u64], o: usize) -> bool
-    requires table_len { length table.now ≡ 24659 }
-    requires o_bound { o + 65 ≤ 24659 }
+fn string_ok(table: &Table, o: usize) -> bool
+    requires { o + 65 ≤ 24659 }
     ensures { result ≡ string_ok table.now o }
 {
     let n = word(table, o);
@@ -73,18 +72,16 @@ fn string_ok(table: &[u64], o: usize) -> bool
 }
 
 // The names of a section of count rows.
-pub(crate) fn names_ok(table: &[u64], start: usize, count: usize) -> bool
-    requires table_len { length table.now ≡ 24659 }
-    requires start_bound { (start ≤ 2947) × (count ≤ 32) }
+pub(crate) fn names_ok(table: &Table, start: usize, count: usize) -> bool
+    requires { (start ≤ 2947) × (count ≤ 32) }
     ensures { result ≡ all_below count (λ i. name_ok table.now (start + i * 33)) }
 {
     (0..count).all(|i| name_ok(table, start + i * contract::NAME_WORDS))
 }
 
-// Kept: one chain as `names_ok`; a closure over both, for a row's test, would need a clause on what it answers.
-pub(crate) fn strings_ok(table: &[u64], count: usize) -> bool
-    requires table_len { length table.now ≡ 24659 }
-    requires count_bound { count ≤ 32 }
+// Kept: (d) one chain as `names_ok`: one function for both would take the row's test as a closure, and with it a clause on what that answers.
+pub(crate) fn strings_ok(table: &Table, count: usize) -> bool
+    requires { count ≤ 32 }
     ensures { result ≡ all_below count (λ i. string_ok table.now (2947 + i * 65)) }
 {
     (0..count).all(|i| string_ok(table, contract::STRINGS + i * contract::STRING_WORDS))

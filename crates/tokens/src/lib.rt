@@ -24,6 +24,8 @@ pub struct Token {
     pub kind: u8,
 }
 
+// Kept: (a) the kinds are numbers and no enum: a token's kind is a byte, the number of a fixed word or one of these three, which the cursor of the
+// parsers holds in its bits, and `part` answers for any. The other constants are limits.
 impl Token {
     pub const NAME: u8 = 200;
 
@@ -41,7 +43,8 @@ impl Token {
 }
 
 // What stands at a place of a text: a token, the question that refuses with its place, or the text's end.
-// Kept: three cases of one rank, as the definition has them; a reader of Result<Option<Token>, (u8, usize)> would match the same three.
+// Kept: (d) three cases of one rank; whoever reads a Result<Option<Token>, (u8, usize)> has to match the same three, each one level deeper. The
+// question stands as its number, as the cursor that it goes into holds it.
 #[derive(Clone, Copy)]
 pub enum Lexed {
     Found(Token),
@@ -144,7 +147,8 @@ fn comment_end(text: &[u8], at: usize) -> usize
 }
 
 // The end of the name bytes that start at `at`.
-// Kept: a loop of its own, since `run_end` costs 3 instructions more a name, almost 1 % of the reading of a text of short names.
+// Kept: (b) `for i in at..text.len()` takes 1,241,508 instructions to read nodes_4096_shape_0 where this loop takes 1,237,356 (callgrind, memset
+// left out), and 15,319 where it takes 15,273 to read name_32_everywhere; texts of many nodes are above their bar of speed already.
 pub fn name_end(text: &[u8], at: usize) -> usize
     ensures { result ≡ at + run is_name_byte (drop at text.now) }
 {
@@ -189,22 +193,21 @@ fn push(v: u64, digit: u8) -> u64
 }
 
 // The digits that start at `at`, gone over once.
-// Kept: one loop for both answers, since their end by `run_end` and then a fold go over the digits twice.
 pub fn read_digits(text: &[u8], at: usize) -> Digits
     ensures { result ≡ digits_at text.now at }
 {
-    let mut i = at;
-    let mut v: u64 = 0;
-    while i < text.len() {
-        let b = text[i];
-        if is_digit(b) {
-            v = push(v, b);
-            i += 1;
-        } else {
-            return Digits { end: i, value: v };
+    let mut value = 0;
+    for end in at..text.len() {
+        let b = text[end];
+        if !is_digit(b) {
+            return Digits { end, value };
         }
+        value = push(value, b);
     }
-    Digits { end: i, value: v }
+    Digits {
+        end: at.max(text.len()),
+        value,
+    }
 }
 
 // The value of the digits at a place; where that is greater than 2 ^ 63, the number after it.
@@ -298,6 +301,8 @@ fn number_at(text: &[u8], i: usize) -> Lexed
 }
 
 // The string that opens with the quote at i.
+// Kept: (d) a text and a place inside it stay two parameters, here and below: each of these functions hands the text and another place on to
+// functions over any place (`string_end`, `byte_at`, `words::continues`), so a struct of the two would be taken apart wherever it goes.
 #[tactic(auto, unfolding(crate::specs::Tokens::string_at, laws::specs::Choice::pick))]
 fn string_at(text: &[u8], i: usize) -> Lexed
     requires { i < length text.now }
@@ -366,6 +371,8 @@ fn bar_at(text: &[u8], i: usize) -> Lexed
 }
 
 // The mark that starts at i, by its first byte.
+// Kept: (d) a match on the byte is no older form: each of the three functions that it calls requires the byte that its arm has tested, which
+// a table of functions or a closure does not know.
 fn mark_at(text: &[u8], i: usize) -> Lexed
     requires { i < length text.now }
     ensures { result ≡ mark_at marks text.now i }
@@ -406,6 +413,8 @@ fn mark_at(text: &[u8], i: usize) -> Lexed
 }
 
 // What starts at i.
+// Kept: (d) a match on the byte's class is no older form: `name_at` requires the letter that its arm has tested, and a table of functions would
+// need an entry for each of the 256 bytes.
 #[tactic(auto, using(crate::proofs::Laws::letter_text, crate::proofs::Laws::digit_text, crate::proofs::Laws::quote_text), unfolding(crate::specs::Tokens::start_at, laws::specs::Choice::pick))]
 fn start_at(text: &[u8], i: usize) -> Lexed
     requires { i < length text.now }
@@ -430,7 +439,7 @@ fn opens(text: &[u8], i: usize) -> bool
 }
 
 // The first token at or after `at`.
-// Kept: the place jumps over a comment, so that no iterator and no `for` goes over it.
+// Kept: (d) the place jumps over a comment, so that no iterator and no `for` goes over it.
 pub fn next(text: &[u8], at: usize) -> Lexed
     ensures { result ≡ token_at text.now at }
 {
@@ -450,7 +459,6 @@ pub fn next(text: &[u8], at: usize) -> Lexed
 }
 
 // The bytes from a up to, not including, e; none where they are not all in the text.
-
 pub fn between(text: &[u8], a: usize, e: usize) -> &[u8]
     ensures { result.now ≡ between text.now a e }
 {

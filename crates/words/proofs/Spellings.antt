@@ -1,15 +1,7 @@
--- The fixed words by their numbers: none past the last. Assumes nothing.
-use mathlib.Core.Path.{◌≡◌, ap}
-use mathlib.Core.List.{[]}
+-- A number that is none of some. Assumes nothing.
+use mathlib.Core.Path.{◌≡◌}
 use Prim.Native.Nat.{ℕ, zero, suc, ◌+◌, ◌≤◌}
 use native.Mathlib.Omega.{arith}
-use lib.ListN.{get_or-eq_default}
-use Rattle.laws.specs.Bytes.{bytes}
-use Rattle.words.specs.Words.{spellings, spelled}
-
-pub no_word : (k : ℕ) → 48 ≤ k → spelled k ≡ []
-unfolding spelled
-no_word k h = ap bytes (get_or-eq_default spellings "" h)
 
 -- x is none of the n numbers from a on
 abbrev pub Misses : ℕ → ℕ → ℕ → Type 0

@@ -5,7 +5,6 @@ ghost use Rattle.std.specs.Prelude.{◌≡◌, length, drop};
 ghost use Rattle.laws.specs.Bytes.{same_bytes, starts_with};
 ghost use Rattle.words.specs.Words.{spelled};
 
-// Kept: numbers and no enum. A token's kind is such a number in the bits of a cursor, and the functions below answer for any u8.
 // A word's number is its place in SPELLINGS.
 
 // Reserved words.
@@ -114,6 +113,8 @@ pub const SPACE: u8 = 46;
 
 pub const LINE_END: u8 = 47;
 
+// Kept: (a) the constants above are numbers and no enum: the public functions below answer for any u8, and a token's kind, which is one of
+// these numbers or a name's, a number's or a string's, is a byte of the cursor that the parsers pass on in a u64.
 // The words by number.
 static SPELLINGS: [&[u8]; 48] = [
     b"legal_contract",
@@ -170,12 +171,7 @@ static SPELLINGS: [&[u8]; 48] = [
 pub fn spelling(which: u8) -> &'static [u8]
     ensures { result.now ≡ spelled which }
 {
-    let i = which as usize;
-    if i < SPELLINGS.len() {
-        SPELLINGS[i]
-    } else {
-        &[]
-    }
+    items::get_or(&SPELLINGS, which as usize, &[])
 }
 
 // How many bytes a fixed word has.
@@ -186,22 +182,16 @@ pub fn word_length(which: u8) -> usize
 }
 
 // Whether a text goes on with a word at a place, byte by byte.
-// Kept: the library's `starts_with` and `==` are calls out of the tokenizer's loop, which then saves registers at each token: 9 instructions more
-// a token, 4 % of the reading of a text of short tokens.
+#[tactic(auto, using(crate::proofs::Comparing::word_ends, crate::proofs::Comparing::text_ends, crate::proofs::Comparing::differs, crate::proofs::Comparing::goes_on))]
 fn goes_on(text: &[u8], from: usize, word: &[u8]) -> bool
     ensures { result ≡ starts_with (drop from text.now) word.now }
 {
     let mut place = from;
-    let mut i = 0;
-    while i < word.len() {
-        if text.len() <= place {
-            return false;
-        }
-        if text[place] != word[i] {
+    for b in word {
+        if text.len() <= place || text[place] != *b {
             return false;
         }
         place += 1;
-        i += 1;
     }
     true
 }
@@ -214,6 +204,7 @@ pub fn continues(text: &[u8], at: usize, which: u8) -> bool
 }
 
 // Whether a part of a text is the fixed word.
+#[tactic(auto, using(crate::proofs::Comparing::same_starts, laws::proofs::Bytes::same_length))]
 pub fn is_word(part: &[u8], which: u8) -> bool
     ensures { result ≡ same_bytes part.now (spelled which) }
 {

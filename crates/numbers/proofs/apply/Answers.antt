@@ -9,7 +9,7 @@ use Rattle.numbers.specs.Numbers.{Answer, arithmetic, applied}
 use Rattle.numbers.specs.declared.Value.{Value}
 use Rattle.numbers.specs.declared.Value.TheVariants.{Integer}
 use Rattle.numbers.specs.declared.Operator.{Operator}
-use Rattle.numbers.specs.declared.Operator.TheVariants.{Plus, Minus, Times, Over}
+use Rattle.numbers.specs.declared.Operator.TheVariants.{Plus, Minus, Times}
 use Rattle.numbers.proofs.Whole.{back}
 use Rattle.numbers.proofs.Range.{answered}
 use Rattle.numbers.proofs.apply.Goals as goal
@@ -36,9 +36,3 @@ returns-in-Times c =
     let k = c in
     known Times c.in-Times.is k.in-Integer.is k.in-Integer-b.is
     k.in-Integer.known_told-1-own.given.0.1 k.in-Integer-b.known_told-in-Integer-b-1-own.given.0.1 (c.answer-in-Times.ensures ∙ answered _ _ c.checked_mul.ensures)
-
-pub returns-in-Over : goal.returns-in-Over
-returns-in-Over c =
-    let k = c in
-    known Over c.in-Over.is k.in-Integer.is k.in-Integer-b.is
-    k.in-Integer.known_told-1-own.given.0.1 k.in-Integer-b.known_told-in-Integer-b-1-own.given.0.1 c.div.ensures

@@ -7,18 +7,12 @@ use Rattle.places.proofs.place_in.Goals.{then-text-i-eq10, else-text-i-eq10}
 pub loop-i-init : goal.loop-i-init
 loop-i-init c = at_first _
 
-pub overflow_add-line : goal.overflow_add-line
-overflow_add-line c = record { fits = omega (arith, c.loop-i.invariant.few, c.loop-i-test.true, c.min-stop.ensures) }
-
 pub loop-i-preserved : goal.loop-i-preserved
 loop-i-preserved c =
     elim c.if-text-i-eq10.branch [
       | then-text-i-eq10 w ↦ reached_as w.line-is w.start-is (at_line_feed _ c.loop-i.invariant (omega (arith, c.loop-i-test.true, c.min-stop.ensures)) w.if-text-i-eq10.true)
       | else-text-i-eq10 w ↦ reached_as w.line-is w.start-is (at_byte _ c.loop-i.invariant (omega (arith, c.loop-i-test.true, c.min-stop.ensures)) w.if-text-i-eq10.false)
     ]
-
-pub overflow_sub-result : goal.overflow_sub-result
-overflow_sub-result c = omega (arith, c.loop-i.invariant.within)
 
 pub returns : goal.returns
 returns c =

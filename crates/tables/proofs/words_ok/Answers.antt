@@ -7,28 +7,28 @@ use Rattle.tables.proofs.words_ok.Goals as goal
 
 pub names_ok-requires : goal.names_ok-requires
 names_ok-requires c =
-    let l = limits c.args.table.now c.head-h.result c.head-h.ensures c.requires.table_value in
-    record { table_len = c.requires.table_len; start_bound = omega arith }
+    let l = limits c.args.table.now c.head-h.result c.head-h.ensures c.requires in
+    omega arith
 
 pub names_ok-requires-then-names_ok : goal.names_ok-requires-then-names_ok
 names_ok-requires-then-names_ok c =
-    let l = limits c.args.table.now c.head-h.result c.head-h.ensures c.requires.table_value in
-    record { table_len = c.requires.table_len; start_bound = omega arith }
+    let l = limits c.args.table.now c.head-h.result c.head-h.ensures c.requires in
+    omega arith
 
 pub names_ok-requires-then-names_ok-2 : goal.names_ok-requires-then-names_ok-2
 names_ok-requires-then-names_ok-2 c =
-    let l = limits c.args.table.now c.head-h.result c.head-h.ensures c.requires.table_value in
-    record { table_len = c.requires.table_len; start_bound = omega arith }
+    let l = limits c.args.table.now c.head-h.result c.head-h.ensures c.requires in
+    omega arith
 
 pub names_ok-requires-then-names_ok-3 : goal.names_ok-requires-then-names_ok-3
 names_ok-requires-then-names_ok-3 c =
-    let l = limits c.args.table.now c.head-h.result c.head-h.ensures c.requires.table_value in
-    record { table_len = c.requires.table_len; start_bound = omega arith }
+    let l = limits c.args.table.now c.head-h.result c.head-h.ensures c.requires in
+    omega arith
 
 pub strings_ok-requires : goal.strings_ok-requires
 strings_ok-requires c =
-    let l = limits c.args.table.now c.head-h.result c.head-h.ensures c.requires.table_value in
-    record { table_len = c.requires.table_len; count_bound = omega arith }
+    let l = limits c.args.table.now c.head-h.result c.head-h.ensures c.requires in
+    omega arith
 
 pub returns-then-names_ok-4 : goal.returns-then-names_ok-4
 returns-then-names_ok-4 c =

@@ -1,14 +1,10 @@
 -- `tokens::name_end` meets its contract. The invariant: the place and the run from there on make the same sum all along. Assumes nothing.
-use mathlib.Core.Path.{refl, sym, ◌∙◌}
+use mathlib.Core.Path.{sym, ◌∙◌}
 use native.Mathlib.Omega.{arith}
 use Rattle.laws.proofs.Lists.{past}
 use Rattle.tokens.proofs.Laws.{run_go, run_stop}
 use Rattle.tokens.specs.Classes.{is_name_byte, run}
 use Rattle.tokens.proofs.name_end.Goals as goal
-
-pub loop-i-init : goal.loop-i-init
-loop-i-init c =
-    refl
 
 pub loop-i-preserved : goal.loop-i-preserved
 loop-i-preserved c =

@@ -1,7 +1,6 @@
 -- `tokens::next` meets its contract. The invariant: the place and the gap from there on make the same sum all along. Assumes nothing.
-use borrow.Author.Rules.{rules}
 use borrow.Author.Tests.{lt-ltb, le-ltb}
-use mathlib.Core.Path.{◌≡◌, refl, sym, ◌∙◌}
+use mathlib.Core.Path.{◌≡◌, sym, ◌∙◌}
 use mathlib.Core.Bool.{false}
 use Prim.Native.Nat.{◌+◌}
 use native.Mathlib.Omega.{arith}
@@ -13,35 +12,11 @@ use Rattle.tokens.specs.Tokens.{token_at, here}
 use Rattle.tokens.proofs.Laws.{blank_goes, comment_opens, no_comment}
 use Rattle.tokens.proofs.next.Goals as goal
 
-pub loop-i-init : goal.loop-i-init
-loop-i-init c =
-    refl
-
-pub bounds-text-i : goal.bounds-text-i
-bounds-text-i c =
-    search rules
-
-pub overflow_add-i : goal.overflow_add-i
-overflow_add-i c =
-    search rules
-
-pub loop-i-smaller-then-is_blank : goal.loop-i-smaller-then-is_blank
-loop-i-smaller-then-is_blank c =
-    search rules
-
 pub loop-i-preserved-then-is_blank : goal.loop-i-preserved-then-is_blank
 loop-i-preserved-then-is_blank c =
     let a = c.args in
     let l = c.loop-i in
     omega (arith, l.invariant, blank_goes a.text.now l.i c.loop-i-test.true (sym c.is_blank.ensures ∙ c.if-is_blank.true))
-
-pub overflow_add-i-then-opens : goal.overflow_add-i-then-opens
-overflow_add-i-then-opens c =
-    search rules
-
-pub loop-i-smaller : goal.loop-i-smaller
-loop-i-smaller c =
-    omega (arith, c.comment_end-i.ensures.0, c.loop-i-test.true)
 
 pub loop-i-preserved : goal.loop-i-preserved
 loop-i-preserved c =

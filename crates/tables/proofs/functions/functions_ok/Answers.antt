@@ -1,14 +1,13 @@
 -- `tables::functions::functions_ok` meets its contract. Assumes nothing.
-use mathlib.Core.Path.{◌≡◌, refl, sym, ap, ◌∙◌}
+use mathlib.Core.Path.{◌≡◌, refl, sym, ◌∙◌}
 use Prim.Native.Nat.{◌<◌}
 use native.Mathlib.Omega.{arith}
-use lib.Dec.{eqb}
-use borrow.Author.Tests.{eq-eqb, ne_eqb}
-use Rattle.contract.specs.Check.{function_ok, first_node, first_event}
+use Rattle.contract.specs.Rows.{function_row_of}
+use Rattle.contract.specs.Check.{function_ok, event_first, first_node, first_event}
 use Rattle.laws.specs.Lists.{all_below}
 use Rattle.contract.specs.Table.{word_at}
 use Rattle.laws.proofs.Members.{all_more}
-use Rattle.contract.proofs.Tests.{all_stop, all_end}
+use Rattle.contract.proofs.Tests.{all_stop}
 use Rattle.tables.proofs.Events.{ended, function_next, function_next_event}
 use Rattle.tables.proofs.functions.functions_ok.Goals as goal
 
@@ -16,48 +15,47 @@ pub loop-i-init : goal.loop-i-init
 unfolding all_below first_node first_event
 loop-i-init c = (refl, refl, omega arith, omega arith, refl)
 
-pub function_ok-requires : goal.function_ok-requires
-function_ok-requires c =
-    record { table_len = c.requires.table_len; f_value = c.function_at-f.ensures; i_bound = (omega (arith, c.word-count.ensures, c.requires.table_bound.0), c.requires.table_bound.1, c.loop-i.invariant.2, omega (arith, c.word-count.ensures, c.requires.table_bound.0, c.loop-i.invariant.3)); node_value = (c.loop-i.invariant.0, c.loop-i.invariant.1) }
-
-pub function_end-node-requires : goal.function_end-node-requires
-function_end-node-requires c =
-    let d = ended c.args.table.now c.loop-i.i c.function_at-f.result c.function_at-f.ensures (sym c.function_ok.ensures ∙ c.if-not-function_ok.false) in
-    record { f_value = c.function_at-f.ensures; body_bound = (omega (arith, d.room, c.requires.table_bound.1), omega (arith, d.event, c.loop-i.invariant.1, c.loop-i.invariant.3, c.word-count.ensures, c.requires.table_bound.0), d.few, omega (arith, d.end, c.requires.table_bound.1)) }
+pub end-node-requires : goal.end-node-requires
+end-node-requires c =
+    let e = c.of-function.ensures in
+    let w = c.args.table.now in
+    let f = c.of-function.result.row in
+    let read : f ≡ function_row_of w c.loop-i.i = c.of-function.result.read ∙ λ t. function_row_of (e.table_value t) (e.i_value t) in
+    let ok : c.is_ok.result ≡ function_ok w c.loop-i.i = c.is_ok.ensures ∙ λ t. function_ok (e.table_value t) (e.i_value t) in
+    let d = ended w c.loop-i.i f read (sym ok ∙ c.if-not-is_ok.false) in
+    let last : event_first c.of-function.result.table.now c.of-function.result.i f.events ≡ event_first w c.loop-i.i f.events = λ t. event_first (e.table_value t) (e.i_value t) f.events in
+    (omega (arith, d.room, c.requires.1), omega (arith, d.event, c.loop-i.invariant.1, c.loop-i.invariant.3, c.word-count.ensures, c.requires.0), d.few, omega (arith, last, d.end, c.requires.1))
 
 pub overflow_add-event : goal.overflow_add-event
 overflow_add-event c =
-    let d = ended c.args.table.now c.loop-i.i c.function_at-f.result c.function_at-f.ensures (sym c.function_ok.ensures ∙ c.if-not-function_ok.false) in
-    omega (arith, d.event, d.few, c.loop-i.invariant.1, c.loop-i.invariant.3, c.word-count.ensures, c.requires.table_bound.0)
+    let e = c.of-function.ensures in
+    let w = c.args.table.now in
+    let f = c.of-function.result.row in
+    let read : f ≡ function_row_of w c.loop-i.i = c.of-function.result.read ∙ λ t. function_row_of (e.table_value t) (e.i_value t) in
+    let ok : c.is_ok.result ≡ function_ok w c.loop-i.i = c.is_ok.ensures ∙ λ t. function_ok (e.table_value t) (e.i_value t) in
+    let d = ended w c.loop-i.i f read (sym ok ∙ c.if-not-is_ok.false) in
+    omega (arith, d.event, d.few, c.loop-i.invariant.1, c.loop-i.invariant.3, c.word-count.ensures, c.requires.0)
 
 pub loop-i-preserved : goal.loop-i-preserved
 loop-i-preserved c =
-    let d = ended c.args.table.now c.loop-i.i c.function_at-f.result c.function_at-f.ensures (sym c.function_ok.ensures ∙ c.if-not-function_ok.false) in (
-      c.function_end-node.ensures ∙ function_next c.args.table.now c.loop-i.i c.function_at-f.result c.function_at-f.ensures,
-      function_next_event c.args.table.now c.loop-i.i c.function_at-f.result c.function_at-f.ensures,
-      omega (arith, c.function_end-node.ensures, d.end, c.requires.table_bound.1),
+    let e = c.of-function.ensures in
+    let w = c.args.table.now in
+    let f = c.of-function.result.row in
+    let read : f ≡ function_row_of w c.loop-i.i = c.of-function.result.read ∙ λ t. function_row_of (e.table_value t) (e.i_value t) in
+    let ok : c.is_ok.result ≡ function_ok w c.loop-i.i = c.is_ok.ensures ∙ λ t. function_ok (e.table_value t) (e.i_value t) in
+    let d = ended w c.loop-i.i f read (sym ok ∙ c.if-not-is_ok.false) in
+    let last : event_first c.of-function.result.table.now c.of-function.result.i f.events ≡ event_first w c.loop-i.i f.events = λ t. event_first (e.table_value t) (e.i_value t) f.events in (
+      c.end-node.ensures ∙ last ∙ function_next w c.loop-i.i f read,
+      function_next_event w c.loop-i.i f read,
+      omega (arith, c.end-node.ensures, last, d.end, c.requires.1),
       omega (arith, d.event, d.few, c.loop-i.invariant.1, c.loop-i.invariant.3),
-      all_more _ _ c.loop-i.invariant.4 (sym c.function_ok.ensures ∙ c.if-not-function_ok.false),
+      all_more _ _ c.loop-i.invariant.4 (sym ok ∙ c.if-not-is_ok.false),
     )
 
-pub returns-then-not-function_ok : goal.returns-then-not-function_ok
-returns-then-not-function_ok c =
-    let h : c.loop-i.i < word_at c.args.table.now 6 = omega (arith, c.word-count.ensures) in
-    simp (sym (all_stop (function_ok c.args.table.now) c.loop-i.i (word_at c.args.table.now 6) h (sym c.function_ok.ensures ∙ c.if-not-function_ok.true)))
-
-pub returns-then-node-word : goal.returns-then-node-word
-returns-then-node-word c =
+pub returns-then-not-is_ok : goal.returns-then-not-is_ok
+returns-then-not-is_ok c =
+    let e = c.of-function.ensures in
     let w = c.args.table.now in
-    let n = word_at w 6 in
-    let e : c.loop-i.i ≡ n = omega (arith, c.word-count.ensures) in
-    simp (sym (all_end (function_ok w) c.loop-i.i n (omega arith) (omega arith) c.loop-i.invariant.4), eq-eqb (first_node w n) (word_at w 8) (sym (c.loop-i.invariant.0 ∙ ap (first_node w) e) ∙ c.if-node-word.true ∙ c.word.ensures))
-    (λ t. eqb ((c.loop-i.invariant.1 ∙ ap (first_event w) e) t) (c.word-then-node-word.ensures t))
-
-pub returns-else-node-word : goal.returns-else-node-word
-returns-else-node-word c =
-    let w = c.args.table.now in
-    let n = word_at w 6 in
-    let e : c.loop-i.i ≡ n = omega (arith, c.word-count.ensures) in
-    let d : first_node w n ≡ word_at w 8 → ⊥ = λ q. c.if-node-word.false (c.loop-i.invariant.0 ∙ ap (first_node w) e ∙ q ∙ sym c.word.ensures) in
-    ne_eqb _ _ c.if-node-word.false
-    ∙ simp (sym (all_end (function_ok w) c.loop-i.i n (omega arith) (omega arith) c.loop-i.invariant.4), ne_eqb (first_node w n) (word_at w 8) d)
+    let h : c.loop-i.i < word_at w 6 = omega (arith, c.word-count.ensures) in
+    let ok : c.is_ok.result ≡ function_ok w c.loop-i.i = c.is_ok.ensures ∙ λ t. function_ok (e.table_value t) (e.i_value t) in
+    simp (sym (all_stop (function_ok w) c.loop-i.i (word_at w 6) h (sym ok ∙ c.if-not-is_ok.true)))
