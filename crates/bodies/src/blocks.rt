@@ -1,140 +1,149 @@
 // Statements: parsers of blocks and conditionals that call each other, with the levels falling.
 ghost use Rattle.std.specs.Prelude.{◌≡◌, Bool, true, false, [], ◌-◌, ◌≤◌, length};
-ghost use Rattle.entries.specs.Draft.{note};
+ghost use Rattle.entries.specs.Lending.{draft_in, SameLists};
 ghost use Rattle.reading.specs.Grammar.{is_one_of, item_starts};
-ghost use Rattle.cursors.specs.Packed.{is_stop, cursor_in, step_in};
+ghost use Rattle.cursors.specs.Packed.{is_stop, cursor_in};
+ghost use Rattle.cursors.specs.Following.{Follows};
 ghost use Rattle.reading_laws.specs.Walk as walk;
-ghost use Rattle.reading_laws.specs.Walk.{AgreesWith, draft};
 
 use contract::Node;
+use entries::Lent;
 use questions::Question;
 use tokens::Token;
 
-// E -> t, at t. `first` is the statement's first token, `from` its block's first node.
-fn sends(text: &[u8], table: &mut [u64], notes: &mut [u64], first: u64, from: usize, c: u64) -> u64
-    requires { (length text.now ≤ 16384) × (is_stop first ≡ false) × (is_stop c ≡ false) }
-    ensures { AgreesWith (walk.sends text.now (cursor_in text.now first) from (cursor_in text.now c) (draft table.old notes.old)) (step_in text.now result) table.new notes.new }
-{
-    if cursors::kind_of(c) != Token::NAME {
-        return cursors::unfit(text, c);
-    }
-    entries::count(notes, entries::STATEMENT, cursors::start_of(first));
-    let target = entries::value_target(text, notes, cursors::start_of(c), cursors::end_of(c));
-    entries::put_name(table, notes, target, cursors::start_of(c));
-    entries::put(table, notes, Node::VALUE_MOVE, 0, from);
-    cursors::lex(text, cursors::end_of(c))
+// A statement: its first token, its block's first node, and whether it is in a handler.
+#[derive(Clone, Copy)]
+pub(crate) struct Statement<'a> {
+    pub(crate) text: &'a [u8],
+    pub(crate) handler: bool,
+    pub(crate) first: u64,
+    pub(crate) from: usize,
+    ghost short: { length text.now ≤ 16384 },
+    ghost goes: { is_stop first ≡ false },
 }
 
-// E -o h, t, at t.
-fn moves(
-    text: &[u8],
-    table: &mut [u64],
-    notes: &mut [u64],
-    first: u64,
-    from: usize,
-    source: u64,
-    c: u64,
-    handler: bool,
-) -> u64
-    requires { (length text.now ≤ 16384) × (is_stop first ≡ false) × (is_stop source ≡ false) × (is_stop c ≡ false) }
-    ensures { AgreesWith (walk.moves text.now handler (cursor_in text.now first) from (cursor_in text.now source) (cursor_in text.now c) (draft table.old notes.old)) (step_in text.now result) table.new notes.new }
-{
-    if cursors::kind_of(c) != Token::NAME {
-        return cursors::unfit(text, c);
-    }
-    entries::count(notes, entries::STATEMENT, cursors::start_of(first));
-    let holder = entries::holder(
-        text,
-        notes,
-        handler,
-        cursors::start_of(source),
-        cursors::end_of(source),
-    );
-    entries::put_name(table, notes, holder, cursors::start_of(source));
-    let target = entries::asset_target(
-        text,
-        notes,
-        handler,
-        cursors::start_of(c),
-        cursors::end_of(c),
-    );
-    entries::put_name(table, notes, target, cursors::start_of(c));
-    entries::put(table, notes, Node::ASSET_MOVE, 0, from);
-    cursors::lex(text, cursors::end_of(c))
-}
-
-// h -o t, at t.
-fn moves_all(
-    text: &[u8],
-    table: &mut [u64],
-    notes: &mut [u64],
-    first: u64,
-    from: usize,
-    c: u64,
-    handler: bool,
-)
-    requires { (length text.now ≤ 16384) × (is_stop first ≡ false) × (is_stop c ≡ false) }
-    ensures table_after { table.new ≡ (walk.moves_all text.now handler (cursor_in text.now first) from (cursor_in text.now c) (draft table.old notes.old)).table }
-    ensures notes_after { notes.new ≡ (walk.moves_all text.now handler (cursor_in text.now first) from (cursor_in text.now c) (draft table.old notes.old)).notes }
-{
-    let before = cursors::nodes(notes);
-    entries::count(notes, entries::STATEMENT, cursors::start_of(first));
-    entries::count(notes, entries::NODE, cursors::start_of(c));
-    let holder = entries::holder(
-        text,
-        notes,
-        handler,
-        cursors::start_of(first),
-        cursors::end_of(first),
-    );
-    let target = entries::asset_target(
-        text,
-        notes,
-        handler,
-        cursors::start_of(c),
-        cursors::end_of(c),
-    );
-    entries::want(notes, holder, cursors::start_of(first));
-    entries::want(notes, target, cursors::start_of(c));
-    entries::put(table, notes, target.kind, target.number, before);
-    entries::put(table, notes, Node::WHOLE_MOVE, 0, from);
-}
-
-// After `-o`.
-fn asset_move(
-    text: &[u8],
-    table: &mut [u64],
-    notes: &mut [u64],
-    first: u64,
-    from: usize,
-    alone: bool,
-    c: u64,
-    handler: bool,
-) -> u64
-    requires { (length text.now ≤ 16384) × (is_stop first ≡ false) × (is_stop c ≡ false) }
-    ensures { AgreesWith (walk.asset_move text.now handler (cursor_in text.now first) from alone (cursor_in text.now c) (draft table.old notes.old)) (step_in text.now result) table.new notes.new }
-{
-    if cursors::kind_of(c) != Token::NAME {
-        return cursors::unfit(text, c);
-    }
-    let d = cursors::lex(text, cursors::end_of(c));
-    if cursors::kind_of(d) == words::COMMA {
-        return moves(
-            text,
-            table,
+impl Statement<'_> {
+    // E -> t, at t. `first` is the statement's first token, `from` its block's first node.
+    // Kept: (d) that c is no stop, here and below: as a type that says so a cursor is `c.bits` at each use, and each answer, a cursor or a stop
+    // in one number, is wrapped again (49 lines more for lists of names and clauses).
+    fn sends(&self, lent: &mut Lent, c: u64) -> u64
+        requires { is_stop c ≡ false }
+        ensures value { Follows self.now.text.now (walk.sends self.now.text.now (cursor_in self.now.text.now self.now.first) self.now.from (cursor_in self.now.text.now c)) result lent.old lent.new }
+        ensures same_lists { SameLists lent.old lent.new }
+    {
+        if cursors::kind_of(c) != Token::NAME {
+            return cursors::unfit(self.text, c);
+        }
+        let notes = &mut *lent.notes;
+        entries::count(notes, entries::STATEMENT, cursors::start_of(self.first));
+        let target = entries::value_target(
+            self.text,
             notes,
-            first,
-            from,
-            c,
-            cursors::lex(text, cursors::end_of(d)),
-            handler,
+            cursors::start_of(c),
+            cursors::end_of(c),
         );
+        entries::put_name(lent.table, notes, target, cursors::start_of(c));
+        entries::put(lent.table, notes, Node::VALUE_MOVE, 0, self.from);
+        cursors::lex(self.text, cursors::end_of(c))
     }
-    if alone {
-        moves_all(text, table, notes, first, from, c, handler);
-        return d;
+
+    // E -o h, t, at t.
+    fn moves(&self, lent: &mut Lent, source: u64, c: u64) -> u64
+        requires { (is_stop source ≡ false) × (is_stop c ≡ false) }
+        ensures value { Follows self.now.text.now (walk.moves self.now.text.now self.now.handler (cursor_in self.now.text.now self.now.first) self.now.from (cursor_in self.now.text.now source) (cursor_in self.now.text.now c)) result lent.old lent.new }
+        ensures same_lists { SameLists lent.old lent.new }
+    {
+        if cursors::kind_of(c) != Token::NAME {
+            return cursors::unfit(self.text, c);
+        }
+        let notes = &mut *lent.notes;
+        entries::count(notes, entries::STATEMENT, cursors::start_of(self.first));
+        let holder = entries::holder(
+            self.text,
+            notes,
+            self.handler,
+            cursors::start_of(source),
+            cursors::end_of(source),
+        );
+        entries::put_name(lent.table, notes, holder, cursors::start_of(source));
+        let target = entries::asset_target(
+            self.text,
+            notes,
+            self.handler,
+            cursors::start_of(c),
+            cursors::end_of(c),
+        );
+        entries::put_name(lent.table, notes, target, cursors::start_of(c));
+        entries::put(lent.table, notes, Node::ASSET_MOVE, 0, self.from);
+        cursors::lex(self.text, cursors::end_of(c))
     }
-    cursors::unfit(text, d)
+
+    // h -o t, at t.
+    fn moves_all(&self, lent: &mut Lent, c: u64)
+        requires { is_stop c ≡ false }
+        ensures value { draft_in lent.new ≡ walk.moves_all self.now.text.now self.now.handler (cursor_in self.now.text.now self.now.first) self.now.from (cursor_in self.now.text.now c) (draft_in lent.old) }
+        ensures same_lists { SameLists lent.old lent.new }
+    {
+        let before = lent.nodes();
+        let notes = &mut *lent.notes;
+        entries::count(notes, entries::STATEMENT, cursors::start_of(self.first));
+        entries::count(notes, entries::NODE, cursors::start_of(c));
+        let holder = entries::holder(
+            self.text,
+            notes,
+            self.handler,
+            cursors::start_of(self.first),
+            cursors::end_of(self.first),
+        );
+        let target = entries::asset_target(
+            self.text,
+            notes,
+            self.handler,
+            cursors::start_of(c),
+            cursors::end_of(c),
+        );
+        entries::want(notes, holder, cursors::start_of(self.first));
+        entries::want(notes, target, cursors::start_of(c));
+        entries::put(lent.table, notes, target.kind, target.number, before);
+        entries::put(lent.table, notes, Node::WHOLE_MOVE, 0, self.from);
+    }
+
+    // After `-o`.
+    fn asset_move(&self, lent: &mut Lent, alone: bool, c: u64) -> u64
+        requires { is_stop c ≡ false }
+        ensures value { Follows self.now.text.now (walk.asset_move self.now.text.now self.now.handler (cursor_in self.now.text.now self.now.first) self.now.from alone (cursor_in self.now.text.now c)) result lent.old lent.new }
+        ensures same_lists { SameLists lent.old lent.new }
+    {
+        if cursors::kind_of(c) != Token::NAME {
+            return cursors::unfit(self.text, c);
+        }
+        let d = cursors::lex(self.text, cursors::end_of(c));
+        if cursors::kind_of(d) == words::COMMA {
+            return self.moves(lent, c, cursors::lex(self.text, cursors::end_of(d)));
+        }
+        if alone {
+            self.moves_all(lent, c);
+            return d;
+        }
+        cursors::unfit(self.text, d)
+    }
+
+    // The rest of a statement after its expression.
+    pub(crate) fn action(&self, lent: &mut Lent, c: u64) -> u64
+        requires { is_stop c ≡ false }
+        ensures value { Follows self.now.text.now (walk.action self.now.text.now self.now.handler (cursor_in self.now.text.now self.now.first) self.now.from (cursor_in self.now.text.now c)) result lent.old lent.new }
+        ensures same_lists { SameLists lent.old lent.new }
+    {
+        let kind = cursors::kind_of(c);
+        if kind == words::VALUE_ARROW {
+            return self.sends(lent, cursors::lex(self.text, cursors::end_of(c)));
+        }
+        if kind == words::ASSET_ARROW {
+            let alone = is_alone(self.first, c);
+            return self.asset_move(lent, alone, cursors::lex(self.text, cursors::end_of(c)));
+        }
+        cursors::unfit(self.text, c)
+    }
 }
 
 // Whether an expression from `first` up to c is one name alone.
@@ -148,46 +157,6 @@ fn is_alone(first: u64, c: u64) -> bool
     }
 }
 
-// The rest of a statement after its expression.
-pub(crate) fn action(
-    text: &[u8],
-    table: &mut [u64],
-    notes: &mut [u64],
-    first: u64,
-    from: usize,
-    c: u64,
-    handler: bool,
-) -> u64
-    requires { (length text.now ≤ 16384) × (is_stop first ≡ false) × (is_stop c ≡ false) }
-    ensures { AgreesWith (walk.action text.now handler (cursor_in text.now first) from (cursor_in text.now c) (draft table.old notes.old)) (step_in text.now result) table.new notes.new }
-{
-    let kind = cursors::kind_of(c);
-    if kind == words::VALUE_ARROW {
-        return sends(
-            text,
-            table,
-            notes,
-            first,
-            from,
-            cursors::lex(text, cursors::end_of(c)),
-        );
-    }
-    if kind == words::ASSET_ARROW {
-        let alone = is_alone(first, c);
-        return asset_move(
-            text,
-            table,
-            notes,
-            first,
-            from,
-            alone,
-            cursors::lex(text, cursors::end_of(c)),
-            handler,
-        );
-    }
-    cursors::unfit(text, c)
-}
-
 // Whether a token may start a statement or an event.
 pub(crate) fn is_start(kind: u8) -> bool
     ensures { result ≡ is_one_of item_starts kind }
@@ -198,125 +167,140 @@ pub(crate) fn is_start(kind: u8) -> bool
     )
 }
 
-#[cycle(blocks)]
-fn statement(
-    text: &[u8],
-    table: &mut [u64],
-    notes: &mut [u64],
-    c: u64,
-    levels: usize,
-    from: usize,
-    handler: bool,
-) -> u64
-    requires { (length text.now ≤ 16384) × (is_stop c ≡ false) }
-    ensures { AgreesWith (walk.statement text.now handler levels (walk.conditional text.now handler levels) from (cursor_in text.now c) (draft table.old notes.old)) (step_in text.now result) table.new notes.new }
-{
-    if cursors::kind_of(c) == words::OPEN_PAREN {
-        return conditional(text, table, notes, c, levels, from, handler);
-    }
-    entries::count(notes, entries::NODE, cursors::start_of(c));
-    let r = expressions::expression(text, table, notes, c, levels, handler);
-    if cursors::stops(r) {
-        return r;
-    }
-    let d = r;
-    action(text, table, notes, c, from, d, handler)
+// Where statements stand: how many levels are left, whether in a handler, and the first node of their block.
+#[derive(Clone, Copy)]
+pub(crate) struct Block<'a> {
+    pub(crate) text: &'a [u8],
+    pub(crate) levels: usize,
+    pub(crate) handler: bool,
+    pub(crate) from: usize,
+    ghost short: { length text.now ≤ 16384 },
 }
 
-// The statements of a block.
-#[cycle(blocks)]
-fn statements(
-    text: &[u8],
-    table: &mut [u64],
-    notes: &mut [u64],
-    c: u64,
-    levels: usize,
-    from: usize,
-    handler: bool,
-) -> u64
-    requires { (length text.now ≤ 16384) × (is_stop c ≡ false) }
-    ensures { AgreesWith (walk.statements text.now handler levels (walk.conditional text.now handler levels) from (length text.now) (cursor_in text.now c) (draft table.old notes.old)) (step_in text.now result) table.new notes.new }
-{
-    let mut here = c;
-    for _ in 0..text.len() {
-        if !is_start(cursors::kind_of(here)) {
-            return here;
+impl Block<'_> {
+    #[cycle(blocks)]
+    fn statement(&self, lent: &mut Lent, c: u64) -> u64
+        requires { is_stop c ≡ false }
+        ensures value { Follows self.now.text.now (walk.statement self.now.text.now self.now.handler self.now.levels (walk.conditional self.now.text.now self.now.handler self.now.levels) self.now.from (cursor_in self.now.text.now c)) result lent.old lent.new }
+        ensures same_lists { SameLists lent.old lent.new }
+    {
+        if cursors::kind_of(c) == words::OPEN_PAREN {
+            return self.conditional(lent, c);
         }
-        let r = statement(text, table, notes, here, levels, from, handler);
+        entries::count(lent.notes, entries::NODE, cursors::start_of(c));
+        let r = expressions::expression(
+            self.text,
+            lent.table,
+            lent.notes,
+            c,
+            self.levels,
+            self.handler,
+        );
         if cursors::stops(r) {
             return r;
         }
         let d = r;
-        here = d;
+        let statement = Statement {
+            text: self.text,
+            handler: self.handler,
+            first: c,
+            from: self.from,
+        };
+        statement.action(lent, d)
     }
-    here
-}
 
-// { S }
-#[cycle(blocks)]
-pub(crate) fn braces(
-    text: &[u8],
-    table: &mut [u64],
-    notes: &mut [u64],
-    c: u64,
-    levels: usize,
-    handler: bool,
-) -> u64
-    requires { (length text.now ≤ 16384) × (is_stop c ≡ false) }
-    ensures { AgreesWith (walk.braces text.now handler levels (walk.conditional text.now handler levels) (cursor_in text.now c) (draft table.old notes.old)) (step_in text.now result) table.new notes.new }
-{
-    let from = cursors::nodes(notes);
-    let a = cursors::token(text, c, words::OPEN_BRACE);
-    if cursors::stops(a) {
-        return a;
+    // The statements of a block.
+    // Kept: (d) a loop of a few lines over a parser of its own: over two closures, what begins one and what reads it, it would be no shorter.
+    #[cycle(blocks)]
+    fn statements(&self, lent: &mut Lent, c: u64) -> u64
+        requires { is_stop c ≡ false }
+        ensures value { Follows self.now.text.now (walk.statements self.now.text.now self.now.handler self.now.levels (walk.conditional self.now.text.now self.now.handler self.now.levels) self.now.from (length self.now.text.now) (cursor_in self.now.text.now c)) result lent.old lent.new }
+        ensures same_lists { SameLists lent.old lent.new }
+    {
+        let mut here = c;
+        for _ in 0..self.text.len() {
+            if !is_start(cursors::kind_of(here)) {
+                return here;
+            }
+            let r = self.statement(lent, here);
+            if cursors::stops(r) {
+                return r;
+            }
+            let d = r;
+            here = d;
+        }
+        here
     }
-    let d = a;
-    let r = statements(text, table, notes, d, levels, from, handler);
-    if cursors::stops(r) {
-        return r;
-    }
-    let e = r;
-    cursors::token(text, e, words::CLOSE_BRACE)
-}
 
-// (B) { S }, with so many levels left for it.
-#[cycle(blocks)]
-pub(crate) fn conditional(
-    text: &[u8],
-    table: &mut [u64],
-    notes: &mut [u64],
-    c: u64,
-    levels: usize,
-    from: usize,
-    handler: bool,
-) -> u64
-    requires { (length text.now ≤ 16384) × (is_stop c ≡ false) }
-    ensures { AgreesWith (walk.conditional text.now handler levels from (cursor_in text.now c) (draft table.old notes.old)) (step_in text.now result) table.new notes.new }
-{
-    let place = cursors::start_of(c);
-    if levels == 0 {
-        return cursors::stop(Question::Levels as u8, place);
+    // { S }
+    #[cycle(blocks)]
+    pub(crate) fn braces(&self, lent: &mut Lent, c: u64) -> u64
+        requires { is_stop c ≡ false }
+        ensures value { Follows self.now.text.now (walk.braces self.now.text.now self.now.handler self.now.levels (walk.conditional self.now.text.now self.now.handler self.now.levels) (cursor_in self.now.text.now c)) result lent.old lent.new }
+        ensures same_lists { SameLists lent.old lent.new }
+    {
+        let from = lent.nodes();
+        let a = cursors::token(self.text, c, words::OPEN_BRACE);
+        if cursors::stops(a) {
+            return a;
+        }
+        let d = a;
+        let inside = Block {
+            text: self.text,
+            levels: self.levels,
+            handler: self.handler,
+            from,
+        };
+        let r = inside.statements(lent, d);
+        if cursors::stops(r) {
+            return r;
+        }
+        let e = r;
+        cursors::token(self.text, e, words::CLOSE_BRACE)
     }
-    let a = cursors::token(text, c, words::OPEN_PAREN);
-    if cursors::stops(a) {
-        return a;
+
+    // (B) { S }, with so many levels left for it.
+    #[cycle(blocks)]
+    pub(crate) fn conditional(&self, lent: &mut Lent, c: u64) -> u64
+        requires { is_stop c ≡ false }
+        ensures value { Follows self.now.text.now (walk.conditional self.now.text.now self.now.handler self.now.levels self.now.from (cursor_in self.now.text.now c)) result lent.old lent.new }
+        ensures same_lists { SameLists lent.old lent.new }
+    {
+        let place = cursors::start_of(c);
+        if self.levels == 0 {
+            return cursors::stop(Question::Levels as u8, place);
+        }
+        let a = cursors::token(self.text, c, words::OPEN_PAREN);
+        if cursors::stops(a) {
+            return a;
+        }
+        entries::count(lent.notes, entries::NODE, place);
+        entries::count(lent.notes, entries::STATEMENT, place);
+        let inner = expressions::condition(
+            self.text,
+            lent.table,
+            lent.notes,
+            a,
+            self.levels - 1,
+            self.handler,
+        );
+        let b = cursors::close(self.text, inner);
+        if cursors::stops(b) {
+            return b;
+        }
+        let before = lent.nodes();
+        let deeper = Block {
+            text: self.text,
+            levels: self.levels - 1,
+            handler: self.handler,
+            from: before,
+        };
+        let r = deeper.braces(lent, b);
+        if cursors::stops(r) {
+            return r;
+        }
+        let block = lent.nodes_since(before) as u64;
+        entries::put(lent.table, lent.notes, Node::CONDITIONAL, block, self.from);
+        r
     }
-    let d = a;
-    entries::count(notes, entries::NODE, place);
-    entries::count(notes, entries::STATEMENT, place);
-    let inner = expressions::condition(text, table, notes, d, levels - 1, handler);
-    let b = cursors::close(text, inner);
-    if cursors::stops(b) {
-        return b;
-    }
-    let f = b;
-    let before = cursors::nodes(notes);
-    let r = braces(text, table, notes, f, levels - 1, handler);
-    if cursors::stops(r) {
-        return r;
-    }
-    let g = r;
-    let block = cursors::nodes_since(notes, before);
-    entries::put(table, notes, Node::CONDITIONAL, block as u64, from);
-    g
 }

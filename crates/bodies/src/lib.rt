@@ -7,12 +7,15 @@ ghost use Rattle.reading_laws.specs.Walk as walk;
 ghost use Rattle.reading_laws.specs.Walk.{draft};
 
 use contract::Contract;
+use entries::Lent;
+use parts::Bodies;
 use questions::Question;
 
 mod blocks;
-mod items;
+mod parts;
 
 // { S W }
+// Kept: (a) as `cursors::leave` says: one function over the public parsers would be public, and require that its closure may be called.
 pub fn body(text: &[u8], table: &mut [u64], notes: &mut [u64], c: u64) -> u64
     ensures result_value { step_in text.now result ≡ step_after (entered text.now (walk.body text.now (cursor_in text.now c) (draft table.old notes.old))) }
     ensures table_after { table.new ≡ table_after table.old (entered text.now (walk.body text.now (cursor_in text.now c) (draft table.old notes.old))) }
@@ -21,6 +24,7 @@ pub fn body(text: &[u8], table: &mut [u64], notes: &mut [u64], c: u64) -> u64
     if Contract::TEXT < text.len() {
         return cursors::leave(table, notes, cursors::stop(Question::TextLength as u8, 0));
     }
-    let r = items::body(text, table, notes, cursors::going(c));
+    let mut lent = Lent { table, notes };
+    let r = Bodies { text }.body(&mut lent, cursors::going(c));
     cursors::leave(table, notes, r)
 }

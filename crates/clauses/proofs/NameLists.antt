@@ -12,7 +12,7 @@ use Rattle.laws.proofs.Choice.{pick_true, pick_false}
 use Rattle.words.specs.Words.{comma}
 use Rattle.tokens.specs.Tokens.{name as nameKind}
 use Rattle.entries.specs.Draft.{Draft, declare, clause_field, clause_party}
-use Rattle.reading_laws.specs.Walk.{Cursor, Walk, on, stop, draft, follow, cursor_at, next_of, misfit, one_name, names, more_names, one_field, clause_fields, more_fields, clause_from, clause}
+use Rattle.reading_laws.specs.Walk.{Cursor, Walk, on, stop, draft, follow, cursor_at, next_of, one_name, names, more_names, one_field, clause_fields, more_fields, clause_from, clause}
 use Rattle.reading_laws.proofs.AgreesWith.{follow_on, follow_stop}
 use Rattle.cursors.specs.Packed.{kind_in, start_in, end_in, cursor_in}
 use Rattle.cursors.proofs.Tested as packed

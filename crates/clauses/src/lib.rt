@@ -7,11 +7,14 @@ ghost use Rattle.reading_laws.specs.Walk as walk;
 ghost use Rattle.reading_laws.specs.Walk.{draft};
 
 use contract::Contract;
+use entries::Lent;
+use lists::Lists;
 use questions::Question;
 
 mod lists;
 
 // Declared names of a kind.
+// Kept: (a) a public parser takes any text and lists; what they have in common, `Lists` and `Lent`, holds facts of them.
 pub fn names(text: &[u8], table: &mut [u64], notes: &mut [u64], c: u64, kind: usize) -> u64
     ensures result_value { step_in text.now result ≡ step_after (entered text.now (walk.names text.now kind (cursor_in text.now c) (draft table.old notes.old))) }
     ensures table_after { table.new ≡ table_after table.old (entered text.now (walk.names text.now kind (cursor_in text.now c) (draft table.old notes.old))) }
@@ -20,7 +23,8 @@ pub fn names(text: &[u8], table: &mut [u64], notes: &mut [u64], c: u64, kind: us
     if Contract::TEXT < text.len() {
         return cursors::leave(table, notes, cursors::stop(Question::TextLength as u8, 0));
     }
-    let r = lists::names(text, table, notes, cursors::going(c), kind);
+    let mut lent = Lent { table, notes };
+    let r = Lists { text }.names(&mut lent, cursors::going(c), kind);
     cursors::leave(table, notes, r)
 }
 
@@ -33,11 +37,13 @@ pub fn line(text: &[u8], table: &mut [u64], notes: &mut [u64], c: u64, word: u8,
     if Contract::TEXT < text.len() {
         return cursors::leave(table, notes, cursors::stop(Question::TextLength as u8, 0));
     }
-    let r = lists::line(text, table, notes, cursors::going(c), word, kind);
+    let mut lent = Lent { table, notes };
+    let r = Lists { text }.line(&mut lent, cursors::going(c), word, kind);
     cursors::leave(table, notes, r)
 }
 
 // The clauses of the agreement.
+// Kept: (a) as `cursors::leave` says: one function over the public parsers would be public, and require that its closure may be called.
 pub fn clauses(text: &[u8], table: &mut [u64], notes: &mut [u64], c: u64) -> u64
     ensures result_value { step_in text.now result ≡ step_after (entered text.now (walk.clauses text.now (length text.now) (cursor_in text.now c) (draft table.old notes.old))) }
     ensures table_after { table.new ≡ table_after table.old (entered text.now (walk.clauses text.now (length text.now) (cursor_in text.now c) (draft table.old notes.old))) }
@@ -46,6 +52,7 @@ pub fn clauses(text: &[u8], table: &mut [u64], notes: &mut [u64], c: u64) -> u64
     if Contract::TEXT < text.len() {
         return cursors::leave(table, notes, cursors::stop(Question::TextLength as u8, 0));
     }
-    let r = lists::clauses(text, table, notes, cursors::going(c));
+    let mut lent = Lent { table, notes };
+    let r = Lists { text }.clauses(&mut lent, cursors::going(c));
     cursors::leave(table, notes, r)
 }

@@ -1,186 +1,188 @@
 // Lists of declared names, and the agreement's clauses.
 ghost use Rattle.std.specs.Prelude.{◌≡◌, ◌≤◌, false, length};
-ghost use Rattle.cursors.specs.Packed.{is_stop, cursor_in, step_in};
+ghost use Rattle.entries.specs.Lending.{draft_in, SameLists};
+ghost use Rattle.cursors.specs.Packed.{is_stop, cursor_in};
+ghost use Rattle.cursors.specs.Following.{Follows};
 ghost use Rattle.clauses.specs.Private.{entered, one_listed, list_of};
 ghost use Rattle.reading_laws.specs.Walk as walk;
-ghost use Rattle.reading_laws.specs.Walk.{AgreesWith, draft};
 
+use entries::Lent;
 use tokens::Token;
 
 // What the names of a list are: declared, of a kind, or the fields of the clause at hand.
+// Kept: (d) an `Option<usize>` would hold as much, and its None would not say that the names are fields.
 #[derive(Clone, Copy)]
 pub(crate) enum Listed {
     Declared(usize),
     Fields,
 }
 
-fn enter(
-    text: &[u8],
-    table: &mut [u64],
-    notes: &mut [u64],
-    listed: Listed,
-    start: usize,
-    end: usize,
-)
-    ensures table_after { table.new ≡ (entered text.now listed start end (draft table.old notes.old)).table }
-    ensures notes_after { notes.new ≡ (entered text.now listed start end (draft table.old notes.old)).notes }
-{
-    match listed {
-        Listed::Declared(kind) => entries::declare(text, table, notes, kind, start, end),
-        Listed::Fields => entries::clause_field(text, table, notes, start, end),
-    }
+// A text with lists of names, short enough for cursors.
+#[derive(Clone, Copy)]
+pub(crate) struct Lists<'a> {
+    pub(crate) text: &'a [u8],
+    ghost short: { length text.now ≤ 16384 },
 }
 
-// One name of a list.
-fn one(text: &[u8], table: &mut [u64], notes: &mut [u64], c: u64, listed: Listed) -> u64
-    requires { (length text.now ≤ 16384) × (is_stop c ≡ false) }
-    ensures { AgreesWith (one_listed text.now listed (cursor_in text.now c) (draft table.old notes.old)) (step_in text.now result) table.new notes.new }
-{
-    if cursors::kind_of(c) != Token::NAME {
-        return cursors::unfit(text, c);
-    }
-    enter(
-        text,
-        table,
-        notes,
-        listed,
-        cursors::start_of(c),
-        cursors::end_of(c),
-    );
-    cursors::lex(text, cursors::end_of(c))
-}
-
-// Names with commas between them.
-fn list(text: &[u8], table: &mut [u64], notes: &mut [u64], c: u64, listed: Listed) -> u64
-    requires { (length text.now ≤ 16384) × (is_stop c ≡ false) }
-    ensures { AgreesWith (list_of text.now listed (cursor_in text.now c) (draft table.old notes.old)) (step_in text.now result) table.new notes.new }
-{
-    let first = one(text, table, notes, c, listed);
-    if cursors::stops(first) {
-        return first;
-    }
-    let mut here = first;
-    for _ in 0..text.len() {
-        if cursors::kind_of(here) != words::COMMA {
-            return here;
+impl Lists<'_> {
+    // Kept: (d) no conversion: each case calls the function of `entries` that enters such a name.
+    fn enter(&self, lent: &mut Lent, listed: Listed, start: usize, end: usize)
+        ensures value { draft_in lent.new ≡ entered self.now.text.now listed start end (draft_in lent.old) }
+        ensures same_lists { SameLists lent.old lent.new }
+    {
+        match listed {
+            Listed::Declared(kind) => entries::declare(
+                self.text, lent.table, lent.notes, kind, start, end,
+            ),
+            Listed::Fields => entries::clause_field(self.text, lent.table, lent.notes, start, end),
         }
-        let r = one(
-            text,
-            table,
-            notes,
-            cursors::lex(text, cursors::end_of(here)),
-            listed,
-        );
-        if cursors::stops(r) {
-            return r;
+    }
+
+    // One name of a list.
+    // Kept: (d) that c is no stop, here and below: as a type that says so a cursor is `c.bits` at each use, and each answer, a cursor or a stop
+    // in one number, is wrapped again (49 lines more for lists of names and clauses).
+    fn one(&self, lent: &mut Lent, c: u64, listed: Listed) -> u64
+        requires { is_stop c ≡ false }
+        ensures value { Follows self.now.text.now (one_listed self.now.text.now listed (cursor_in self.now.text.now c)) result lent.old lent.new }
+        ensures same_lists { SameLists lent.old lent.new }
+    {
+        if cursors::kind_of(c) != Token::NAME {
+            return cursors::unfit(self.text, c);
         }
-        here = r;
+        self.enter(lent, listed, cursors::start_of(c), cursors::end_of(c));
+        cursors::lex(self.text, cursors::end_of(c))
     }
-    here
-}
 
-// Declared names of a kind.
-pub(crate) fn names(text: &[u8], table: &mut [u64], notes: &mut [u64], c: u64, kind: usize) -> u64
-    requires { (length text.now ≤ 16384) × (is_stop c ≡ false) }
-    ensures { AgreesWith (walk.names text.now kind (cursor_in text.now c) (draft table.old notes.old)) (step_in text.now result) table.new notes.new }
-{
-    list(text, table, notes, c, Listed::Declared(kind))
-}
-
-// A line of names that a word begins; omitted if empty.
-pub(crate) fn line(
-    text: &[u8],
-    table: &mut [u64],
-    notes: &mut [u64],
-    c: u64,
-    word: u8,
-    kind: usize,
-) -> u64
-    requires { (length text.now ≤ 16384) × (is_stop c ≡ false) }
-    ensures { AgreesWith (walk.line text.now word kind (cursor_in text.now c) (draft table.old notes.old)) (step_in text.now result) table.new notes.new }
-{
-    if cursors::kind_of(c) == word {
-        return names(
-            text,
-            table,
-            notes,
-            cursors::lex(text, cursors::end_of(c)),
-            kind,
-        );
-    }
-    c
-}
-
-// The fields of a clause.
-fn fields(text: &[u8], table: &mut [u64], notes: &mut [u64], c: u64) -> u64
-    requires { (length text.now ≤ 16384) × (is_stop c ≡ false) }
-    ensures { AgreesWith (walk.clause_fields text.now (cursor_in text.now c) (draft table.old notes.old)) (step_in text.now result) table.new notes.new }
-{
-    list(text, table, notes, c, Listed::Fields)
-}
-
-// A clause after its verb.
-fn clause_rest(text: &[u8], table: &mut [u64], notes: &mut [u64], c: u64) -> u64
-    requires { (length text.now ≤ 16384) × (is_stop c ≡ false) }
-    ensures { AgreesWith (walk.clause_rest text.now (cursor_in text.now c) (draft table.old notes.old)) (step_in text.now result) table.new notes.new }
-{
-    if cursors::kind_of(c) == words::UNDERSCORE {
-        entries::clause_end(notes);
-        return cursors::lex(text, cursors::end_of(c));
-    }
-    let r = fields(text, table, notes, c);
-    if cursors::stops(r) {
-        return r;
-    }
-    let d = r;
-    entries::clause_end(notes);
-    d
-}
-
-// A clause from its verb on.
-fn clause_from(text: &[u8], table: &mut [u64], notes: &mut [u64], c: u64) -> u64
-    requires { (length text.now ≤ 16384) × (is_stop c ≡ false) }
-    ensures { AgreesWith (walk.clause_from text.now (cursor_in text.now c) (draft table.old notes.old)) (step_in text.now result) table.new notes.new }
-{
-    let kind = cursors::kind_of(c);
-    if kind == words::SET_ARROW {
-        entries::clause_verb(table, notes, 0);
-        return clause_rest(text, table, notes, cursors::lex(text, cursors::end_of(c)));
-    }
-    if kind == words::OK_ARROW {
-        entries::clause_verb(table, notes, 1);
-        return clause_rest(text, table, notes, cursors::lex(text, cursors::end_of(c)));
-    }
-    cursors::unfit(text, c)
-}
-
-fn clause(text: &[u8], table: &mut [u64], notes: &mut [u64], c: u64) -> u64
-    requires { (length text.now ≤ 16384) × (is_stop c ≡ false) }
-    ensures { AgreesWith (walk.clause text.now (cursor_in text.now c) (draft table.old notes.old)) (step_in text.now result) table.new notes.new }
-{
-    if cursors::kind_of(c) != Token::NAME {
-        return cursors::unfit(text, c);
-    }
-    entries::clause_party(text, table, notes, cursors::start_of(c), cursors::end_of(c));
-    clause_from(text, table, notes, cursors::lex(text, cursors::end_of(c)))
-}
-
-// The clauses of the agreement.
-pub(crate) fn clauses(text: &[u8], table: &mut [u64], notes: &mut [u64], c: u64) -> u64
-    requires { (length text.now ≤ 16384) × (is_stop c ≡ false) }
-    ensures { AgreesWith (walk.clauses text.now (length text.now) (cursor_in text.now c) (draft table.old notes.old)) (step_in text.now result) table.new notes.new }
-{
-    let mut here = c;
-    for _ in 0..text.len() {
-        if cursors::kind_of(here) != Token::NAME {
-            return here;
+    // Names with commas between them.
+    fn list(&self, lent: &mut Lent, c: u64, listed: Listed) -> u64
+        requires { is_stop c ≡ false }
+        ensures value { Follows self.now.text.now (list_of self.now.text.now listed (cursor_in self.now.text.now c)) result lent.old lent.new }
+        ensures same_lists { SameLists lent.old lent.new }
+    {
+        let first = self.one(lent, c, listed);
+        if cursors::stops(first) {
+            return first;
         }
-        let r = clause(text, table, notes, here);
+        let mut here = first;
+        for _ in 0..self.text.len() {
+            if cursors::kind_of(here) != words::COMMA {
+                return here;
+            }
+            let r = self.one(lent, cursors::lex(self.text, cursors::end_of(here)), listed);
+            if cursors::stops(r) {
+                return r;
+            }
+            here = r;
+        }
+        here
+    }
+
+    // Declared names of a kind.
+    pub(crate) fn names(&self, lent: &mut Lent, c: u64, kind: usize) -> u64
+        requires { is_stop c ≡ false }
+        ensures value { Follows self.now.text.now (walk.names self.now.text.now kind (cursor_in self.now.text.now c)) result lent.old lent.new }
+        ensures same_lists { SameLists lent.old lent.new }
+    {
+        self.list(lent, c, Listed::Declared(kind))
+    }
+
+    // A line of names that a word begins; omitted if empty.
+    pub(crate) fn line(&self, lent: &mut Lent, c: u64, word: u8, kind: usize) -> u64
+        requires { is_stop c ≡ false }
+        ensures value { Follows self.now.text.now (walk.line self.now.text.now word kind (cursor_in self.now.text.now c)) result lent.old lent.new }
+        ensures same_lists { SameLists lent.old lent.new }
+    {
+        if cursors::kind_of(c) == word {
+            return self.names(lent, cursors::lex(self.text, cursors::end_of(c)), kind);
+        }
+        c
+    }
+
+    // The fields of a clause.
+    fn fields(&self, lent: &mut Lent, c: u64) -> u64
+        requires { is_stop c ≡ false }
+        ensures value { Follows self.now.text.now (walk.clause_fields self.now.text.now (cursor_in self.now.text.now c)) result lent.old lent.new }
+        ensures same_lists { SameLists lent.old lent.new }
+    {
+        self.list(lent, c, Listed::Fields)
+    }
+
+    // A clause after its verb.
+    fn clause_rest(&self, lent: &mut Lent, c: u64) -> u64
+        requires { is_stop c ≡ false }
+        ensures value { Follows self.now.text.now (walk.clause_rest self.now.text.now (cursor_in self.now.text.now c)) result lent.old lent.new }
+        ensures same_lists { SameLists lent.old lent.new }
+    {
+        if cursors::kind_of(c) == words::UNDERSCORE {
+            entries::clause_end(lent.notes);
+            return cursors::lex(self.text, cursors::end_of(c));
+        }
+        let r = self.fields(lent, c);
         if cursors::stops(r) {
             return r;
         }
         let d = r;
-        here = d;
+        entries::clause_end(lent.notes);
+        d
     }
-    here
+
+    // A clause from its verb on.
+    fn clause_from(&self, lent: &mut Lent, c: u64) -> u64
+        requires { is_stop c ≡ false }
+        ensures value { Follows self.now.text.now (walk.clause_from self.now.text.now (cursor_in self.now.text.now c)) result lent.old lent.new }
+        ensures same_lists { SameLists lent.old lent.new }
+    {
+        let kind = cursors::kind_of(c);
+        if kind == words::SET_ARROW {
+            let notes = &mut *lent.notes;
+            entries::clause_verb(lent.table, notes, 0);
+            return self.clause_rest(lent, cursors::lex(self.text, cursors::end_of(c)));
+        }
+        if kind == words::OK_ARROW {
+            let notes = &mut *lent.notes;
+            entries::clause_verb(lent.table, notes, 1);
+            return self.clause_rest(lent, cursors::lex(self.text, cursors::end_of(c)));
+        }
+        cursors::unfit(self.text, c)
+    }
+
+    fn clause(&self, lent: &mut Lent, c: u64) -> u64
+        requires { is_stop c ≡ false }
+        ensures value { Follows self.now.text.now (walk.clause self.now.text.now (cursor_in self.now.text.now c)) result lent.old lent.new }
+        ensures same_lists { SameLists lent.old lent.new }
+    {
+        if cursors::kind_of(c) != Token::NAME {
+            return cursors::unfit(self.text, c);
+        }
+        entries::clause_party(
+            self.text,
+            lent.table,
+            lent.notes,
+            cursors::start_of(c),
+            cursors::end_of(c),
+        );
+        self.clause_from(lent, cursors::lex(self.text, cursors::end_of(c)))
+    }
+
+    // The clauses of the agreement.
+    // Kept: (d) a loop of a few lines over a parser of its own: over two closures, what begins one and what reads it, it would be no shorter.
+    pub(crate) fn clauses(&self, lent: &mut Lent, c: u64) -> u64
+        requires { is_stop c ≡ false }
+        ensures value { Follows self.now.text.now (walk.clauses self.now.text.now (length self.now.text.now) (cursor_in self.now.text.now c)) result lent.old lent.new }
+        ensures same_lists { SameLists lent.old lent.new }
+    {
+        let mut here = c;
+        for _ in 0..self.text.len() {
+            if cursors::kind_of(here) != Token::NAME {
+                return here;
+            }
+            let r = self.clause(lent, here);
+            if cursors::stops(r) {
+                return r;
+            }
+            let d = r;
+            here = d;
+        }
+        here
+    }
 }

@@ -3,3 +3,4 @@ pub mod Packs
 pub mod Tested
 pub mod Clipped
 pub mod Turns
+pub mod Following

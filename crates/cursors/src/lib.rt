@@ -31,6 +31,7 @@ const STOP: u64 = 2305843009213693952;
 
 const BYTES: u64 = 256;
 
+// Kept: (d) these are weights in a number and counts of values, no kinds; the two kinds above are such beside those of tokens.
 const PLACES: u64 = 32768;
 
 // ---- Parts.
@@ -65,6 +66,7 @@ fn question_of(c: u64) -> u8
     (c / QUESTION % BYTES) as u8
 }
 
+// Kept: (d) the bit of a refusal, tested by its weight; no `Ord` is written by hand.
 pub fn stops(r: u64) -> bool
     ensures { result ≡ is_stop r }
 {
@@ -196,7 +198,8 @@ pub fn close(text: &[u8], r: u64) -> u64
 }
 
 // What a parser leaves behind: after a refusal, zeros.
-// Kept: (a) each public parser asks the text's length and ends here; one function over them would require that a closure may be called.
+// Kept: (a) each public parser of four crates asks the text's length and ends here; a function over them all would be public too, and
+// require that its closure may be called.
 pub fn leave(table: &mut [u64], notes: &mut [u64], r: u64) -> u64
     ensures value { result ≡ r }
     ensures table_after { table.new ≡ left_after r table.old }

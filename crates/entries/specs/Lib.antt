@@ -1,2 +1,3 @@
 pub mod Draft
 pub mod Private
+pub mod Lending

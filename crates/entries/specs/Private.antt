@@ -2,8 +2,7 @@
 use Rattle.std.specs.Prelude.{ℕ, ◌≡◌, ◌<◌, ◌≤◌, List, Option, Some, None}
 use Rattle.laws.specs.Choice.{pick}
 use Rattle.entries.specs.declared.Known.{Known}
-use Rattle.entries.specs.declared.Lent.{Lent}
-use Rattle.entries.specs.Draft.{Draft, among_in, number_in}
+use Rattle.entries.specs.Draft.{among_in, number_in}
 
 -- what a word stands for among those of kind k
 abbrev pub sought : List ℕ → List ℕ → ℕ → ℕ → List ℕ → Option Known
@@ -12,11 +11,3 @@ sought s n k kind w = pick (among_in s n k w) (Some (record { kind = kind; numbe
 -- a section of the table for names starts at x
 abbrev pub IsSection : ℕ → ℕ → Type 0
 IsSection o x = (x ≡ o) × (0 < x) × (x ≤ 2947)
-
--- what the two lent lists hold
-abbrev pub draft_in : Lent → Draft
-draft_in l = record { table = l.table.now; notes = l.notes.now }
-
--- they are the same two lists
-abbrev pub SameLists : Lent → Lent → Type 0
-SameLists a b = (b.table.ghost_name ≡ a.table.ghost_name) × (b.notes.ghost_name ≡ a.notes.ghost_name)

@@ -10,7 +10,8 @@ ghost use Rattle.tokens.specs.Tokens.{between};
 ghost use Rattle.contract.specs.Encode.{zeros, packed, packed_row};
 ghost use Rattle.questions.specs.Numbers.{number_of};
 ghost use Rattle.entries.specs.Draft as draft;
-ghost use Rattle.entries.specs.Private.{sought, IsSection, draft_in, SameLists};
+ghost use Rattle.entries.specs.Private.{sought, IsSection};
+ghost use Rattle.entries.specs.Lending.{draft_in, SameLists};
 
 use contract::{Clause, Contract, Event, Function, Node};
 use questions::Question;
@@ -51,6 +52,7 @@ pub const PLACE: usize = 13;
 
 pub const WRITTEN: usize = 14;
 
+// Kept: (a) places of words in the lent notes, of which a public function takes any, as of kinds.
 pub const EXCESS: usize = 15;
 
 // The notes: the words above, then a slot for each name, then two words more.
@@ -96,24 +98,45 @@ pub struct Known {
     pub number: u64,
 }
 
-// Word i of a table or of notes becomes v; nothing past their end.
-// Kept: (c) `get_mut`, whose contract says nothing of what a slice ends as.
-pub fn store(words: &mut [u64], i: usize, v: u64)
-    ensures { words.new ≡ set words.old i v }
-{
-    if i < words.len() {
-        words[i] = v;
+// The two lent lists that a pass writes.
+#[derive(Drop)]
+pub struct Lent<'a> {
+    pub table: &'a mut [u64],
+    pub notes: &'a mut [u64],
+}
+
+impl Lent<'_> {
+    // Word i of the notes.
+    pub fn note(&self, i: usize) -> u64
+        ensures { result ≡ draft.note self.now.notes.now i }
+    {
+        contract::word(self.notes, i)
+    }
+
+    // How many nodes are written.
+    pub fn nodes(&self) -> usize
+        ensures { result ≡ draft.note self.now.notes.now 14 }
+    {
+        self.note(WRITTEN) as usize
+    }
+
+    // How many nodes are written from `before` on.
+    pub fn nodes_since(&self, before: usize) -> usize
+        ensures { result ≡ draft.note self.now.notes.now 14 - before }
+    {
+        self.nodes().saturating_sub(before)
     }
 }
 
 // Words from word i on.
+// Kept: (d) the words and where they go: past the end of a short list nothing is written, and there may be no slice from there on.
 #[inline(always)]
 fn store_all(words: &mut [u64], i: usize, values: &[u64])
     requires { i ≤ 300000 }
     ensures { words.new ≡ sets words.old i values.now }
 {
     for (k, value) in values.iter().enumerate() {
-        store(words, i + k, *value);
+        items::set(words, i + k, *value);
     }
 }
 
@@ -129,8 +152,8 @@ pub fn find(notes: &mut [u64], question: u8, place: usize)
     let sooner = place < o;
     let lower = (place == o) & ((question as u64) < q);
     if first | (sooner | lower) {
-        store(notes, QUESTION, question as u64);
-        store(notes, PLACE, place as u64);
+        items::set(notes, QUESTION, question as u64);
+        items::set(notes, PLACE, place as u64);
     }
 }
 
@@ -164,18 +187,20 @@ fn limit(kind: usize) -> usize
 }
 
 // One more of a kind, within its limit; else question 11.
+// Kept: (a) the kind is the place of its count in the lent notes, a number, since a public function takes any.
 pub fn count(notes: &mut [u64], kind: usize, place: usize)
     ensures { notes.new ≡ draft.counted kind place notes.old }
 {
     let n = contract::word(notes, kind);
     if n < limit(kind) as u64 {
-        store(notes, kind, n + 1);
+        items::set(notes, kind, n + 1);
     } else {
         find(notes, Question::Limits.number(), place);
     }
 }
 
 // Question 11 where there are as many of a kind as can be.
+// Kept: (a) as `count`.
 fn ask_limit(notes: &mut [u64], kind: usize, most: usize, place: usize)
     ensures { notes.new ≡ pick (ltb (draft.note notes.old kind) most) notes.old (draft.found 11 place notes.old) }
 {
@@ -285,6 +310,8 @@ fn find_mark(notes: &[u64], mark: u64, slot: usize, many: usize) -> usize
 }
 
 // The first of so many slots that has this mark and these bytes.
+// Inlined, as what looks a name up by it: else an answer goes through memory, and a reading of 4,096 nodes takes a tenth more.
+#[inline(always)]
 fn find_from(text: &[u8], notes: &[u64], mark: u64, word: &[u8], slot: usize, many: usize) -> usize
     requires { (slot ≤ 132) × (many ≤ 4096) }
     ensures value { result ≡ draft.find_from text.now notes.now mark word.now slot 0 many }
@@ -326,6 +353,7 @@ fn slot_of(kind: usize) -> usize
 
 impl NameAt<'_> {
     // Its number among those of a kind; how many they are where it is not among them.
+    #[inline(always)]
     fn number(&self, notes: &[u64], kind: usize) -> usize
         ensures { result ≡ draft.number_in self.now.text.now notes.now kind self.now.word.now }
     {
@@ -355,6 +383,7 @@ impl NameAt<'_> {
     }
 
     // What it stands for among those of a kind.
+    #[inline(always)]
     fn seek(&self, notes: &[u64], kind: usize, node: u64) -> Option<Known>
         ensures { result ≡ sought self.now.text.now notes.now kind node self.now.word.now }
     {
@@ -370,17 +399,19 @@ impl NameAt<'_> {
 }
 
 // A word's length and bytes at a row.
+// Kept: (d) where a row goes: of a short table what is there of it is written, and there may be no slice from there on.
 fn write_row(table: &mut [u64], at: usize, word: &[u8])
     requires { at ≤ 300000 }
     ensures { table.new ≡ draft.rowed table.old at word.now }
 {
-    store(table, at, word.len() as u64);
+    items::set(table, at, word.len() as u64);
     for i in 0..word.len() {
-        store(table, at + 1 + i, word[i] as u64);
+        items::set(table, at + 1 + i, word[i] as u64);
     }
 }
 
 // A mark and a name's place at a slot.
+// Kept: (d) the notes and a slot's number.
 fn write_slot(notes: &mut [u64], slot: usize, mark: u64, name: &NameAt)
     requires { slot ≤ 5000 }
     ensures { notes.new ≡ draft.slotted notes.old slot mark name.now.start name.now.end }
@@ -428,6 +459,7 @@ fn eight_bytes(word: &[u8], i: usize) -> u64
 }
 
 // A word's length and its first 32 bytes, eight in a word of the table.
+// Kept: (d) where a row goes, as in `write_row`.
 fn write_packed(table: &mut [u64], at: usize, word: &[u8])
     requires { at ≤ 100000 }
     ensures { table.new ≡ sets table.old at (packed_row word.now) }
@@ -449,6 +481,7 @@ fn first_row(kind: usize) -> usize
 }
 
 // Parameter i of a kind, of the last of so many functions.
+// Kept: (d) the table and how many functions there are, no place; the bound of i is that of a count, which the three that enter a name hand on.
 fn enter_parameter(table: &mut [u64], functions: usize, kind: usize, i: usize, word: &[u8])
     requires { i < 4096 }
     ensures { table.new ≡ draft.parameter_put functions kind i word.now table.old }
@@ -466,6 +499,7 @@ fn enter_parameter(table: &mut [u64], functions: usize, kind: usize, i: usize, w
 }
 
 // Row i of a kind, of a parameter for the last of so many functions.
+// Kept: (d) the table and how many functions there are, no place.
 fn enter_row(table: &mut [u64], functions: usize, kind: usize, i: usize, word: &[u8])
     requires { i < 4096 }
     ensures { table.new ≡ pick (eqb (draft.section_of kind) 0) (draft.parameter_put functions kind i word.now table.old) (draft.rowed table.old (draft.section_of kind + draft.width_of kind * i) word.now) }
@@ -474,13 +508,6 @@ fn enter_row(table: &mut [u64], functions: usize, kind: usize, i: usize, word: &
         Some(section) => write_row(table, section + width_of(kind) * i, word),
         None => enter_parameter(table, functions, kind, i, word),
     }
-}
-
-// The two lent lists that a pass writes.
-#[derive(Drop)]
-struct Lent<'a> {
-    table: &'a mut [u64],
-    notes: &'a mut [u64],
 }
 
 impl Lent<'_> {
@@ -495,7 +522,7 @@ impl Lent<'_> {
         let functions = contract::word(notes, FUNCTIONS) as usize;
         enter_row(self.table, functions, kind, i, name.word);
         write_slot(notes, slot_of(kind) + i, name.mark, name);
-        store(notes, kind, i as u64 + 1);
+        items::set(notes, kind, i as u64 + 1);
     }
 
     // One more name of a kind, within its limit; else question 11.
@@ -514,6 +541,7 @@ impl Lent<'_> {
 }
 
 // Questions 11 and 12 of a declared name.
+// Kept: (a) as `count`.
 fn declare_notes(name: &NameAt, notes: &mut [u64], kind: usize)
     ensures { notes.new ≡ draft.declared_in name.now.text.now kind name.now.start name.now.end notes.old }
 {
@@ -523,6 +551,7 @@ fn declare_notes(name: &NameAt, notes: &mut [u64], kind: usize)
 }
 
 // A declared name.
+// Kept: (a) these are a public function's own parameters, any text, lists and places; inside, `NameAt` and `Lent` have them.
 pub fn declare(
     text: &[u8],
     table: &mut [u64],
@@ -544,6 +573,7 @@ pub fn declare(
 }
 
 // A state or a string, and its number.
+// Kept: (a) as `count` and `declare`.
 pub fn mention(
     text: &[u8],
     table: &mut [u64],
@@ -590,6 +620,7 @@ impl NameAt<'_> {
     }
 
     // An asset or a field.
+    #[inline(always)]
     fn stored(&self, notes: &[u64]) -> Known
         ensures { result ≡ draft.stored_in self.now.text.now notes.now self.now.word.now }
     {
@@ -600,6 +631,7 @@ impl NameAt<'_> {
     }
 }
 
+// Kept: (a) as `declare`.
 pub fn holder(text: &[u8], notes: &[u64], handler: bool, start: usize, end: usize) -> Known
     ensures { result ≡ draft.holder_in text.now notes.now handler (between text.now start end) }
 {
@@ -664,7 +696,7 @@ pub fn put(table: &mut [u64], notes: &mut [u64], kind: u64, argument: u64, befor
         let at = contract::NODES + Node::WORDS * n;
         let size = n.saturating_sub(before) + 1;
         store_all(table, at, &[kind, argument, size as u64]);
-        store(notes, WRITTEN, n as u64 + 1);
+        items::set(notes, WRITTEN, n as u64 + 1);
     }
 }
 
@@ -692,6 +724,7 @@ pub fn put_leaf(table: &mut [u64], notes: &mut [u64], kind: u64, argument: u64, 
 // ---- Rows.
 
 // The number of a name among those of a kind; question 13 where it is not among them.
+// Kept: (a) as `count`.
 fn use_name(name: &NameAt, notes: &mut [u64], kind: usize) -> usize
     ensures value { result ≡ draft.number_in name.now.text.now notes.old kind name.now.word.now }
     ensures notes_after { notes.new ≡ draft.name_used name.now.text.now kind name.now.start name.now.end notes.old }
@@ -703,6 +736,7 @@ fn use_name(name: &NameAt, notes: &mut [u64], kind: usize) -> usize
 }
 
 // The party of the clause at hand.
+// Kept: (a) as `declare`; the places are those of a name in the text.
 pub fn clause_party(text: &[u8], table: &mut [u64], notes: &mut [u64], start: usize, end: usize)
     ensures table_value { table.exit.now ≡ (draft.clause_party text.now start end (record { table = table.entry.now; notes = notes.old })).table }
     ensures notes_after { notes.new ≡ (draft.clause_party text.now start end (record { table = table.entry.now; notes = notes.old })).notes }
@@ -710,11 +744,12 @@ pub fn clause_party(text: &[u8], table: &mut [u64], notes: &mut [u64], start: us
     let row = contract::word(notes, CLAUSES) as usize;
     let party = use_name(&NameAt::of(text, start, end), notes, PARTY);
     if row < Contract::CLAUSES {
-        store(table, contract::CLAUSES + Clause::WORDS * row, party as u64);
+        items::set(table, contract::CLAUSES + Clause::WORDS * row, party as u64);
     }
 }
 
 // A party that a function names, and its number.
+// Kept: (a) as `declare`; the places are those of a name in the text.
 pub fn use_party(text: &[u8], notes: &mut [u64], start: usize, end: usize) -> usize
     ensures value { result ≡ draft.number_in text.now notes.old 0 (between text.now start end) }
     ensures notes_after { notes.new ≡ draft.party_used text.now start end notes.old }
@@ -728,7 +763,7 @@ pub fn clause_verb(table: &mut [u64], notes: &[u64], verb: u64)
 {
     let row = contract::word(notes, CLAUSES) as usize;
     if row < Contract::CLAUSES {
-        store(table, contract::CLAUSES + Clause::WORDS * row + 1, verb);
+        items::set(table, contract::CLAUSES + Clause::WORDS * row + 1, verb);
     }
 }
 
@@ -740,15 +775,16 @@ impl Lent<'_> {
         ensures same_lists { SameLists self.old self.new }
     {
         if j < Contract::FIELDS as u64 {
-            store(self.table, at + Clause::FIELDS + j as usize, field as u64);
-            store(self.table, at + 2, j + 1);
+            items::set(self.table, at + Clause::FIELDS + j as usize, field as u64);
+            items::set(self.table, at + 2, j + 1);
         } else {
-            store(self.notes, EXCESS, 1);
+            items::set(self.notes, EXCESS, 1);
         }
     }
 }
 
 // One more field of it.
+// Kept: (a) as `declare`; the places are those of a name in the text.
 pub fn clause_field(text: &[u8], table: &mut [u64], notes: &mut [u64], start: usize, end: usize)
     ensures table_value { table.exit.now ≡ (draft.clause_field text.now start end (record { table = table.entry.now; notes = notes.old })).table }
     ensures notes_after { notes.new ≡ (draft.clause_field text.now start end (record { table = table.entry.now; notes = notes.old })).notes }
@@ -769,9 +805,9 @@ pub fn clause_end(notes: &mut [u64])
 {
     let row = contract::word(notes, CLAUSES);
     if row < Contract::CLAUSES as u64 {
-        store(notes, CLAUSES, row + 1);
+        items::set(notes, CLAUSES, row + 1);
     } else {
-        store(notes, EXCESS, 1);
+        items::set(notes, EXCESS, 1);
     }
 }
 
@@ -791,6 +827,7 @@ fn is_headed(name: &NameAt, notes: &[u64], state: usize, party: usize) -> bool
 }
 
 // Questions 11 and 15 of a function's head.
+// Kept: (d) a place in the text beside the notes, and none to write at.
 fn head_notes(name: &NameAt, notes: &mut [u64], place: usize, state: usize, party: usize)
     ensures { notes.new ≡ draft.head_notes name.now.text.now place state party name.now.start name.now.end notes.old }
 {
@@ -811,7 +848,7 @@ impl Lent<'_> {
         write_row(self.table, at + Function::NAME, name.word);
         let mark = head_mark(state, party, name);
         write_slot(self.notes, Notes::FUNCTIONS + i, mark, name);
-        store(self.notes, FUNCTIONS, i as u64 + 1);
+        items::set(self.notes, FUNCTIONS, i as u64 + 1);
     }
 }
 
@@ -838,6 +875,7 @@ fn enter_head(
 }
 
 // A function's head: its place, its state's and its party's number, its name.
+// Kept: (a) as `declare`; the place is one in the text.
 pub fn head(
     text: &[u8],
     table: &mut [u64],
@@ -853,8 +891,8 @@ pub fn head(
 {
     let name = NameAt::of(text, start, end);
     enter_head(&name, table, notes, place, state, party);
-    store(notes, VALUE, 0);
-    store(notes, PARAMETER, 0);
+    items::set(notes, VALUE, 0);
+    items::set(notes, PARAMETER, 0);
 }
 
 // The rest of a function's row.
@@ -890,6 +928,7 @@ pub fn function_rest(table: &mut [u64], notes: &[u64], i: usize, rest: Rest)
 }
 
 // An event's row.
+// Kept: (d) the table and an event's number, no place.
 pub fn event_row(table: &mut [u64], i: usize, state: usize, last: usize, node: usize)
     ensures { table.new ≡ draft.event_row i state last node table.old }
 {
@@ -900,6 +939,7 @@ pub fn event_row(table: &mut [u64], i: usize, state: usize, last: usize, node: u
 }
 
 // The contract's name.
+// Kept: (a) as `declare`; the places are those of a name in the text.
 pub fn title(text: &[u8], table: &mut [u64], start: usize, end: usize)
     ensures { table.new ≡ draft.title text.now start end table.old }
 {
@@ -926,11 +966,11 @@ pub fn write_counts(table: &mut [u64], notes: &[u64], initial: usize)
 }
 
 // How many words are cleared at once.
-// Kept: (b) a whole table by one `fill` takes six times the instructions, since its bytes are then stored one by one; (c) `chunks_mut`,
-// whose contract says nothing of what the slice ends as.
 const CLEARED: usize = 128;
 
 // A table of zeros.
+// Kept: (b) a whole table by one `fill` takes six times the instructions, since its bytes are then stored one by one; (c) `chunks_mut`,
+// whose contract says nothing of what the slice ends as.
 pub fn clear(table: &mut [u64])
     ensures { table.new ≡ zeros (length table.old) }
 {

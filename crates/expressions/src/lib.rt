@@ -7,12 +7,15 @@ ghost use Rattle.reading_laws.specs.Walk as walk;
 ghost use Rattle.reading_laws.specs.Walk.{draft};
 
 use contract::Contract;
+use entries::Lent;
 use questions::Question;
+use terms::Scope;
 
 mod operands;
 mod terms;
 
 // An expression, with so many levels left inside it.
+// Kept: (a) as `cursors::leave` says: one function over the public parsers would be public, and require that its closure may be called.
 pub fn expression(
     text: &[u8],
     table: &mut [u64],
@@ -28,11 +31,18 @@ pub fn expression(
     if Contract::TEXT < text.len() {
         return cursors::leave(table, notes, cursors::stop(Question::TextLength as u8, 0));
     }
-    let r = operands::expression(text, table, notes, cursors::going(c), levels, handler);
+    let scope = Scope {
+        text,
+        levels,
+        handler,
+    };
+    let mut lent = Lent { table, notes };
+    let r = scope.expression(&mut lent, cursors::going(c));
     cursors::leave(table, notes, r)
 }
 
 // A condition, with so many levels left inside it.
+// Kept: (a) as `cursors::leave` says: one function over the public parsers would be public, and require that its closure may be called.
 pub fn condition(
     text: &[u8],
     table: &mut [u64],
@@ -48,6 +58,12 @@ pub fn condition(
     if Contract::TEXT < text.len() {
         return cursors::leave(table, notes, cursors::stop(Question::TextLength as u8, 0));
     }
-    let r = operands::condition(text, table, notes, cursors::going(c), levels, handler);
+    let scope = Scope {
+        text,
+        levels,
+        handler,
+    };
+    let mut lent = Lent { table, notes };
+    let r = scope.condition(&mut lent, cursors::going(c));
     cursors::leave(table, notes, r)
 }

@@ -1,15 +1,18 @@
 // Leaves of expressions and conditions, and their operators.
 ghost use Rattle.std.specs.Prelude.{◌≡◌, ◌≤◌, false, length};
 ghost use Rattle.reading.specs.Grammar.{is_one_of, operators, comparisons};
-ghost use Rattle.cursors.specs.Packed.{is_stop, cursor_in, step_in};
+ghost use Rattle.entries.specs.Lending.{draft_in, SameLists};
+ghost use Rattle.cursors.specs.Packed.{is_stop, cursor_in};
+ghost use Rattle.cursors.specs.Following.{Follows};
 ghost use Rattle.expressions.specs.Private.{NotsAre};
 ghost use Rattle.reading_laws.specs.Walk as walk;
-ghost use Rattle.reading_laws.specs.Walk.{AgreesWith, draft};
 
 use contract::Node;
+use entries::Lent;
 use tokens::Token;
 
 // The node of an operator or a comparison.
+// Kept: (d) both sides are numbers of the documents, in another order each, so that a table of nodes by the token's number would say less.
 pub(crate) fn operator_node(kind: u8) -> u64
     ensures { result ≡ walk.operator_node kind }
 {
@@ -56,70 +59,13 @@ pub(crate) fn is_comparison(kind: u8) -> bool
     )
 }
 
-// A string's node.
-fn string_leaf(text: &[u8], table: &mut [u64], notes: &mut [u64], c: u64)
-    requires { (length text.now ≤ 16384) × (is_stop c ≡ false) }
-    ensures table_after { table.new ≡ (walk.string_leaf text.now (cursor_in text.now c) (draft table.old notes.old)).table }
-    ensures notes_after { notes.new ≡ (walk.string_leaf text.now (cursor_in text.now c) (draft table.old notes.old)).notes }
-{
-    let mut start = cursors::start_of(c);
-    let mut end = cursors::end_of(c);
-    if start < end {
-        start += 1;
-        end -= 1;
-    }
-    let place = cursors::start_of(c);
-    entries::count(notes, entries::NODE, place);
-    let number = entries::mention(text, table, notes, entries::STRING, start, end, place);
-    let before = cursors::nodes(notes);
-    entries::put(table, notes, Node::STRING, number as u64, before);
-}
-
-// A name, a number, a string or now.
-pub(crate) fn leaf(text: &[u8], table: &mut [u64], notes: &mut [u64], c: u64, handler: bool) -> u64
-    requires { (length text.now ≤ 16384) × (is_stop c ≡ false) }
-    ensures { AgreesWith (walk.leaf text.now handler (cursor_in text.now c) (draft table.old notes.old)) (step_in text.now result) table.new notes.new }
-{
-    let kind = cursors::kind_of(c);
-    if kind == Token::NAME {
-        let name = entries::name(
-            text,
-            notes,
-            handler,
-            cursors::start_of(c),
-            cursors::end_of(c),
-        );
-        entries::put_name(table, notes, name, cursors::start_of(c));
-        return cursors::lex(text, cursors::end_of(c));
-    }
-    if kind == Token::NUMBER {
-        entries::put_leaf(
-            table,
-            notes,
-            Node::CONSTANT,
-            tokens::value_of(text, cursors::start_of(c)),
-            cursors::start_of(c),
-        );
-        return cursors::lex(text, cursors::end_of(c));
-    }
-    if kind == Token::STRING {
-        string_leaf(text, table, notes, c);
-        return cursors::lex(text, cursors::end_of(c));
-    }
-    if kind == words::NOW {
-        entries::put_leaf(table, notes, Node::NOW, 0, cursors::start_of(c));
-        return cursors::lex(text, cursors::end_of(c));
-    }
-    cursors::unfit(text, c)
-}
-
 // The nodes of `~`, so many.
-pub(crate) fn negate(table: &mut [u64], notes: &mut [u64], many: usize, before: usize)
-    ensures table_after { table.new ≡ (walk.negations many before (draft table.old notes.old)).table }
-    ensures notes_after { notes.new ≡ (walk.negations many before (draft table.old notes.old)).notes }
+pub(crate) fn negate(lent: &mut Lent, many: usize, before: usize)
+    ensures value { draft_in lent.new ≡ walk.negations many before (draft_in lent.old) }
+    ensures same_lists { SameLists lent.old lent.new }
 {
     for _ in 0..many {
-        entries::put(table, notes, Node::NOT, 0, before);
+        entries::put(lent.table, lent.notes, Node::NOT, 0, before);
     }
 }
 
@@ -130,20 +76,98 @@ pub(crate) struct Nots {
     pub(crate) next: u64,
 }
 
-pub(crate) fn count_nots(text: &[u8], notes: &mut [u64], c: u64) -> Nots
-    requires { (length text.now ≤ 16384) × (is_stop c ≡ false) }
-    ensures { NotsAre text.now (cursor_in text.now c) notes.old result notes.new }
-{
-    let mut here = c;
-    for many in 0..text.len() {
-        if cursors::kind_of(here) != words::NOT {
-            return Nots { many, next: here };
+// What an expression stands in: a text short enough for cursors, how many levels of parentheses are left, and whether it is in a handler.
+#[derive(Clone, Copy)]
+pub(crate) struct Scope<'a> {
+    pub(crate) text: &'a [u8],
+    pub(crate) levels: usize,
+    pub(crate) handler: bool,
+    ghost short: { length text.now ≤ 16384 },
+}
+
+impl Scope<'_> {
+    // A string's node.
+    fn string_leaf(&self, lent: &mut Lent, c: u64)
+        requires { is_stop c ≡ false }
+        ensures value { draft_in lent.new ≡ walk.string_leaf self.now.text.now (cursor_in self.now.text.now c) (draft_in lent.old) }
+        ensures same_lists { SameLists lent.old lent.new }
+    {
+        let mut start = cursors::start_of(c);
+        let mut end = cursors::end_of(c);
+        if start < end {
+            start += 1;
+            end -= 1;
         }
-        entries::count(notes, entries::NODE, cursors::start_of(here));
-        here = cursors::lex(text, cursors::end_of(here));
+        let place = cursors::start_of(c);
+        entries::count(lent.notes, entries::NODE, place);
+        let number = entries::mention(
+            self.text,
+            lent.table,
+            lent.notes,
+            entries::STRING,
+            start,
+            end,
+            place,
+        );
+        let before = lent.nodes();
+        entries::put(lent.table, lent.notes, Node::STRING, number as u64, before);
     }
-    Nots {
-        many: text.len(),
-        next: here,
+
+    // A name, a number, a string or now.
+    pub(crate) fn leaf(&self, lent: &mut Lent, c: u64) -> u64
+        requires { is_stop c ≡ false }
+        ensures value { Follows self.now.text.now (walk.leaf self.now.text.now self.now.handler (cursor_in self.now.text.now c)) result lent.old lent.new }
+        ensures same_lists { SameLists lent.old lent.new }
+    {
+        let kind = cursors::kind_of(c);
+        if kind == Token::NAME {
+            let notes = &mut *lent.notes;
+            let name = entries::name(
+                self.text,
+                notes,
+                self.handler,
+                cursors::start_of(c),
+                cursors::end_of(c),
+            );
+            entries::put_name(lent.table, notes, name, cursors::start_of(c));
+            return cursors::lex(self.text, cursors::end_of(c));
+        }
+        if kind == Token::NUMBER {
+            entries::put_leaf(
+                lent.table,
+                lent.notes,
+                Node::CONSTANT,
+                tokens::value_of(self.text, cursors::start_of(c)),
+                cursors::start_of(c),
+            );
+            return cursors::lex(self.text, cursors::end_of(c));
+        }
+        if kind == Token::STRING {
+            self.string_leaf(lent, c);
+            return cursors::lex(self.text, cursors::end_of(c));
+        }
+        if kind == words::NOW {
+            entries::put_leaf(lent.table, lent.notes, Node::NOW, 0, cursors::start_of(c));
+            return cursors::lex(self.text, cursors::end_of(c));
+        }
+        cursors::unfit(self.text, c)
+    }
+
+    pub(crate) fn count_nots(&self, notes: &mut [u64], c: u64) -> Nots
+        requires { is_stop c ≡ false }
+        ensures { NotsAre self.now.text.now (cursor_in self.now.text.now c) notes.old result notes.new }
+    {
+        let mut here = c;
+        for many in 0..self.text.len() {
+            if cursors::kind_of(here) != words::NOT {
+                return Nots { many, next: here };
+            }
+            entries::count(notes, entries::NODE, cursors::start_of(here));
+            here = cursors::lex(self.text, cursors::end_of(here));
+        }
+        Nots {
+            many: self.text.len(),
+            next: here,
+        }
     }
 }

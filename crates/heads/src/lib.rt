@@ -7,6 +7,8 @@ ghost use Rattle.reading_laws.specs.Walk as walk;
 ghost use Rattle.reading_laws.specs.Walk.{draft};
 
 use contract::Contract;
+use entries::Lent;
+use parts::Functions;
 use questions::Question;
 
 mod parts;
@@ -21,6 +23,7 @@ pub fn functions(text: &[u8], table: &mut [u64], notes: &mut [u64], c: u64) -> u
     if long {
         return cursors::leave(table, notes, cursors::stop(Question::TextLength as u8, 0));
     }
-    let r = parts::functions(text, table, notes, cursors::going(c));
+    let mut lent = Lent { table, notes };
+    let r = Functions { text }.functions(&mut lent, cursors::going(c));
     cursors::leave(table, notes, r)
 }

@@ -8,11 +8,16 @@ use Rattle.words.specs.Words.{legal_contract, open_brace, close_brace}
 use Rattle.entries.specs.Draft.{title}
 use Rattle.std.specs.Prelude.{Err}
 use Rattle.reading.specs.declared.Refusal.{Refusal}
-use Rattle.reading.specs.Reading.{refusal}
-use Rattle.reading_laws.specs.Walk.{Walk, AgreesWith, Ends, On, Stop, draft, cursor_at, unfit_at, token, name_here, opening, closed, text_end, at_end, ending_at}
+use Rattle.reading.specs.Reading.{Answered, refusal}
+use Rattle.reading_laws.specs.Walk.{Walk, Step, Cursor, AgreesWith, Ends, On, Stop, draft, settled_answer, settled_table, cursor_at, unfit_at, token, name_here, opening, closed, text_end, at_end, ending_at}
 use Rattle.cursors.specs.Packed.{kind_in, start_in, end_in, cursor_in, step_in}
 use Rattle.reading_laws.proofs.Enclosing as enclosing
-use Rattle.reading_laws.proofs.Settled.{ends_stop}
+use Rattle.reading_laws.proofs.Settled.{ends_stop, ends_on}
+
+-- the pass that went on, and settled what the two lists hold
+pub ends_lent : (w : Walk) (r : Step) (d : Cursor) (t n u : List ℕ) (a : Answered) (t₀ n₀ : List ℕ) → AgreesWith w r t n → r ≡ On d
+    → a ≡ settled_answer n₀ → u ≡ settled_table n₀ t₀ → n₀ ≡ n → t₀ ≡ t → Ends w a u
+ends_lent w r d t n u a t₀ n₀ h e j k g f = ends_on w r d t n u a h e (j ∙ ap settled_answer g) (k ∙ (λ i. settled_table (g i) (f i)))
 
 module _ (s : List ℕ) where
   -- legal_contract N {

@@ -4,57 +4,24 @@
 ghost use Rattle.std.specs.Prelude.{◌≡◌, false, ◌-◌, ◌≤◌, [], length, IfErr};
 ghost use Rattle.contract.specs.Encode.{zeros};
 ghost use Rattle.entries.specs.Draft.{note};
+ghost use Rattle.entries.specs.Lending.{SameLists};
 ghost use Rattle.cursors.specs.Packed.{is_stop, cursor_in, step_in};
+ghost use Rattle.cursors.specs.Following.{Follows};
 ghost use Rattle.reading_laws.specs.Walk as walk;
-ghost use Rattle.reading_laws.specs.Walk.{AgreesWith, draft};
+ghost use Rattle.reading_laws.specs.Walk.{draft};
 ghost use Rattle.questions.specs.Numbers.{number_of};
 ghost use Rattle.reading.specs.Reading.{refused, read_text, answer_of, table_of};
 
 use contract::Contract;
-use entries::Notes;
+use entries::{Lent, Notes};
 use questions::Question;
 use reading::Refusal;
 use tokens::Token;
 
 mod agreement;
 
-// legal_contract N {
-fn opening(text: &[u8], table: &mut [u64], notes: &[u64], c: u64) -> u64
-    requires { (length text.now ≤ 16384) × (is_stop c ≡ false) }
-    ensures { AgreesWith (walk.opening text.now (cursor_in text.now c) (draft table.old notes.now)) (step_in text.now result) table.new notes.now }
-{
-    let a = cursors::token(text, c, words::LEGAL_CONTRACT);
-    if cursors::stops(a) {
-        return a;
-    }
-    let d = a;
-    let b = cursors::name_here(text, d);
-    if cursors::stops(b) {
-        return b;
-    }
-    let n = b;
-    entries::title(text, table, cursors::start_of(n), cursors::end_of(n));
-    cursors::token(
-        text,
-        cursors::lex(text, cursors::end_of(n)),
-        words::OPEN_BRACE,
-    )
-}
-
-// The lines of assets and fields.
-fn declarations(text: &[u8], table: &mut [u64], notes: &mut [u64], c: u64) -> u64
-    requires { (length text.now ≤ 16384) × (is_stop c ≡ false) }
-    ensures { AgreesWith (walk.declarations text.now (cursor_in text.now c) (draft table.old notes.old)) (step_in text.now result) table.new notes.new }
-{
-    let a = clauses::line(text, table, notes, c, words::ASSETS, entries::ASSET);
-    if cursors::stops(a) {
-        return a;
-    }
-    let d = a;
-    clauses::line(text, table, notes, d, words::FIELDS, entries::FIELD)
-}
-
 // The agreement's end: question 14.
+// Kept: (d) the notes and a place in the text.
 fn close(table: &[u64], notes: &mut [u64], place: usize)
     ensures { notes.new ≡ (walk.closed place (draft table.now notes.old)).notes }
 {
@@ -69,119 +36,191 @@ fn close(table: &[u64], notes: &mut [u64], place: usize)
     entries::find(notes, Question::AgreementRules as u8, place);
 }
 
-// => @Q after the agreement's closing brace.
-fn initial_state(text: &[u8], table: &mut [u64], notes: &mut [u64], c: u64) -> u64
-    requires { (length text.now ≤ 16384) × (is_stop c ≡ false) }
-    ensures { AgreesWith (walk.initial_state text.now (cursor_in text.now c) (draft table.old notes.old)) (step_in text.now result) table.new notes.new }
-{
-    let a = cursors::token(text, c, words::STATE_ARROW);
-    if cursors::stops(a) {
-        return a;
-    }
-    let f = a;
-    let b = cursors::state_at(text, f);
-    if cursors::stops(b) {
-        return b;
-    }
-    let l = b;
-    let state = cursors::mention_state(text, table, notes, l);
-    entries::store(table, 9, state as u64);
-    cursors::lex(text, cursors::end_of(l))
+// A pass over a text that is short enough for cursors.
+#[derive(Clone, Copy)]
+struct Pass<'a> {
+    text: &'a [u8],
+    ghost short: { length text.now ≤ 16384 },
 }
 
-// The clauses, and what is after them.
-fn agreement_rest(text: &[u8], table: &mut [u64], notes: &mut [u64], c: u64) -> u64
-    requires { (length text.now ≤ 16384) × (is_stop c ≡ false) }
-    ensures { AgreesWith (walk.agreement_rest text.now (cursor_in text.now c) (draft table.old notes.old)) (step_in text.now result) table.new notes.new }
-{
-    let a = clauses::clauses(text, table, notes, c);
-    if cursors::stops(a) {
-        return a;
+impl Pass<'_> {
+    // legal_contract N {
+    // Kept: (d) that c is no stop, here and below: as a type that says so a cursor is `c.bits` at each use, and each answer, a cursor or a stop
+    // in one number, is wrapped again (49 lines more for lists of names and clauses).
+    fn opening(&self, lent: &mut Lent, c: u64) -> u64
+        requires { is_stop c ≡ false }
+        ensures value { Follows self.now.text.now (walk.opening self.now.text.now (cursor_in self.now.text.now c)) result lent.old lent.new }
+        ensures same_lists { SameLists lent.old lent.new }
+    {
+        let a = cursors::token(self.text, c, words::LEGAL_CONTRACT);
+        if cursors::stops(a) {
+            return a;
+        }
+        let d = a;
+        let b = cursors::name_here(self.text, d);
+        if cursors::stops(b) {
+            return b;
+        }
+        let n = b;
+        entries::title(
+            self.text,
+            lent.table,
+            cursors::start_of(n),
+            cursors::end_of(n),
+        );
+        cursors::token(
+            self.text,
+            cursors::lex(self.text, cursors::end_of(n)),
+            words::OPEN_BRACE,
+        )
     }
-    let d = a;
-    let b = cursors::token(text, d, words::CLOSE_BRACE);
-    if cursors::stops(b) {
-        return b;
-    }
-    let e = b;
-    close(table, notes, cursors::start_of(d));
-    initial_state(text, table, notes, e)
-}
 
-fn agreement_of(text: &[u8], table: &mut [u64], notes: &mut [u64], c: u64) -> u64
-    requires { (length text.now ≤ 16384) × (is_stop c ≡ false) }
-    ensures { AgreesWith (walk.agreement text.now (cursor_in text.now c) (draft table.old notes.old)) (step_in text.now result) table.new notes.new }
-{
-    let a = cursors::token(text, c, words::AGREEMENT);
-    if cursors::stops(a) {
-        return a;
+    // The lines of assets and fields.
+    fn declarations(&self, lent: &mut Lent, c: u64) -> u64
+        requires { is_stop c ≡ false }
+        ensures value { Follows self.now.text.now (walk.declarations self.now.text.now (cursor_in self.now.text.now c)) result lent.old lent.new }
+        ensures same_lists { SameLists lent.old lent.new }
+    {
+        let a = clauses::line(
+            self.text,
+            lent.table,
+            lent.notes,
+            c,
+            words::ASSETS,
+            entries::ASSET,
+        );
+        if cursors::stops(a) {
+            return a;
+        }
+        let d = a;
+        clauses::line(
+            self.text,
+            lent.table,
+            lent.notes,
+            d,
+            words::FIELDS,
+            entries::FIELD,
+        )
     }
-    let d = a;
-    let b = cursors::token(text, d, words::OPEN_PAREN);
-    if cursors::stops(b) {
-        return b;
-    }
-    let e = b;
-    let names = clauses::names(text, table, notes, e, entries::PARTY);
-    if cursors::stops(names) {
-        return names;
-    }
-    let f = names;
-    let g = cursors::token(text, f, words::CLOSE_PAREN);
-    if cursors::stops(g) {
-        return g;
-    }
-    let h = g;
-    let i = cursors::token(text, h, words::OPEN_BRACE);
-    if cursors::stops(i) {
-        return i;
-    }
-    let j = i;
-    agreement_rest(text, table, notes, j)
-}
 
-// The closing brace, and nothing but the text's end after it.
-fn ending(text: &[u8], c: u64) -> u64
-    requires { (length text.now ≤ 16384) × (is_stop c ≡ false) }
-    ensures { step_in text.now result ≡ walk.ending_at text.now (cursor_in text.now c) }
-{
-    let a = cursors::token(text, c, words::CLOSE_BRACE);
-    if cursors::stops(a) {
-        return a;
+    // => @Q after the agreement's closing brace.
+    fn initial_state(&self, lent: &mut Lent, c: u64) -> u64
+        requires { is_stop c ≡ false }
+        ensures value { Follows self.now.text.now (walk.initial_state self.now.text.now (cursor_in self.now.text.now c)) result lent.old lent.new }
+        ensures same_lists { SameLists lent.old lent.new }
+    {
+        let a = cursors::token(self.text, c, words::STATE_ARROW);
+        if cursors::stops(a) {
+            return a;
+        }
+        let f = a;
+        let b = cursors::state_at(self.text, f);
+        if cursors::stops(b) {
+            return b;
+        }
+        let l = b;
+        let state = cursors::mention_state(self.text, lent.table, lent.notes, l);
+        items::set(lent.table, 9, state as u64);
+        cursors::lex(self.text, cursors::end_of(l))
     }
-    let d = a;
-    if cursors::kind_of(d) == cursors::TEXT_END {
-        return a;
-    }
-    cursors::unfit(text, d)
-}
 
-// The whole text.
-fn contract_text(text: &[u8], table: &mut [u64], notes: &mut [u64]) -> u64
-    requires { length text.now ≤ 16384 }
-    ensures { AgreesWith (walk.walk text.now (draft table.old notes.old)) (step_in text.now result) table.new notes.new }
-{
-    let a = opening(text, table, notes, cursors::lex(text, 0));
-    if cursors::stops(a) {
-        return a;
+    // The clauses, and what is after them.
+    fn agreement_rest(&self, lent: &mut Lent, c: u64) -> u64
+        requires { is_stop c ≡ false }
+        ensures value { Follows self.now.text.now (walk.agreement_rest self.now.text.now (cursor_in self.now.text.now c)) result lent.old lent.new }
+        ensures same_lists { SameLists lent.old lent.new }
+    {
+        let a = clauses::clauses(self.text, lent.table, lent.notes, c);
+        if cursors::stops(a) {
+            return a;
+        }
+        let d = a;
+        let b = cursors::token(self.text, d, words::CLOSE_BRACE);
+        if cursors::stops(b) {
+            return b;
+        }
+        let e = b;
+        let table = &mut *lent.table;
+        close(table, lent.notes, cursors::start_of(d));
+        self.initial_state(lent, e)
     }
-    let c = a;
-    let b = declarations(text, table, notes, c);
-    if cursors::stops(b) {
-        return b;
+
+    fn agreement_of(&self, lent: &mut Lent, c: u64) -> u64
+        requires { is_stop c ≡ false }
+        ensures value { Follows self.now.text.now (walk.agreement self.now.text.now (cursor_in self.now.text.now c)) result lent.old lent.new }
+        ensures same_lists { SameLists lent.old lent.new }
+    {
+        let a = cursors::token(self.text, c, words::AGREEMENT);
+        if cursors::stops(a) {
+            return a;
+        }
+        let d = a;
+        let b = cursors::token(self.text, d, words::OPEN_PAREN);
+        if cursors::stops(b) {
+            return b;
+        }
+        let e = b;
+        let names = clauses::names(self.text, lent.table, lent.notes, e, entries::PARTY);
+        if cursors::stops(names) {
+            return names;
+        }
+        let f = names;
+        let g = cursors::token(self.text, f, words::CLOSE_PAREN);
+        if cursors::stops(g) {
+            return g;
+        }
+        let h = g;
+        let i = cursors::token(self.text, h, words::OPEN_BRACE);
+        if cursors::stops(i) {
+            return i;
+        }
+        let j = i;
+        self.agreement_rest(lent, j)
     }
-    let d = b;
-    let e = agreement_of(text, table, notes, d);
-    if cursors::stops(e) {
-        return e;
+
+    // The closing brace, and nothing but the text's end after it.
+    fn ending(&self, c: u64) -> u64
+        requires { is_stop c ≡ false }
+        ensures { step_in self.now.text.now result ≡ walk.ending_at self.now.text.now (cursor_in self.now.text.now c) }
+    {
+        let a = cursors::token(self.text, c, words::CLOSE_BRACE);
+        if cursors::stops(a) {
+            return a;
+        }
+        let d = a;
+        if cursors::kind_of(d) == cursors::TEXT_END {
+            return a;
+        }
+        cursors::unfit(self.text, d)
     }
-    let f = e;
-    let g = heads::functions(text, table, notes, f);
-    if cursors::stops(g) {
-        return g;
+
+    // The whole text.
+    fn contract_text(&self, lent: &mut Lent) -> u64
+        ensures value { Follows self.now.text.now (walk.walk self.now.text.now) result lent.old lent.new }
+        ensures same_lists { SameLists lent.old lent.new }
+    {
+        let a = self.opening(lent, cursors::lex(self.text, 0));
+        if cursors::stops(a) {
+            return a;
+        }
+        let c = a;
+        let b = self.declarations(lent, c);
+        if cursors::stops(b) {
+            return b;
+        }
+        let d = b;
+        let e = self.agreement_of(lent, d);
+        if cursors::stops(e) {
+            return e;
+        }
+        let f = e;
+        let g = heads::functions(self.text, lent.table, lent.notes, f);
+        if cursors::stops(g) {
+            return g;
+        }
+        let h = g;
+        self.ending(h)
     }
-    let h = g;
-    ending(text, h)
 }
 
 // The least finding, or accepted, and then the table's head.
@@ -205,7 +244,11 @@ fn pass_over(text: &[u8], table: &mut [u64]) -> Result<(), Refusal>
     ensures { walk.Ends (walk.walk text.now (draft table.old (zeros 606))) result table.new }
 {
     let mut notes: [u64; Notes::LENGTH] = [0; Notes::LENGTH];
-    let r = contract_text(text, table, &mut notes);
+    let mut lent = Lent {
+        table,
+        notes: &mut notes,
+    };
+    let r = Pass { text }.contract_text(&mut lent);
     if cursors::stops(r) {
         return Err(Refusal::by_number(cursors::kind_of(r), cursors::start_of(r)));
     }

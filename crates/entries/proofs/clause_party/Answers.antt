@@ -12,7 +12,7 @@ returns-then-row-lt-CLAUSES c =
     record {
       table_value =
           party_row a.text.now a.start a.end a.table.now a.notes.now _ _ _ c.word-row.ensures
-          (u.value ∙ (λ i. number_in (o.text_value i) a.notes.now 0 (o.word_value i))) c.if-row-lt-CLAUSES.true c.store.ensures;
+          (u.value ∙ (λ i. number_in (o.text_value i) a.notes.now 0 (o.word_value i))) c.if-row-lt-CLAUSES.true c.set.ensures;
       notes_after =
           party_used_lem a.text.now a.start a.end a.table.now a.notes.now _
           (u.notes_after ∙ (λ i. name_used (o.text_value i) 0 (o.start_value i) (o.end_value i) a.notes.now));

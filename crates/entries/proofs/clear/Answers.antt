@@ -21,8 +21,3 @@ loop-start-preserved c =
       same_len_mid l.start (k - l.start) l.table c.fill.new.self (ap length y ∙ length_zeros _) ∙ l.invariant.1,
       clear_part l.start k l.table c.fill.new.self (omega arith) h l.invariant.2 y,
     )
-
-pub returns : goal.returns
-returns c =
-    let l = c.loop-start in
-    clear_all l.start (length c.args.table.now) l.table l.invariant.1 (omega (arith, l.invariant.1, c.loop-start-test.false)) l.invariant.0 l.invariant.2

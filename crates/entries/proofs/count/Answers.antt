@@ -8,7 +8,7 @@ use Rattle.entries.proofs.count.Goals as goal
 pub returns-then-n-limit : goal.returns-then-n-limit
 returns-then-n-limit c =
     let a = c.args in
-    count_more a.notes.now _ a.kind a.place _ _ c.word-n.ensures c.limit.ensures c.if-n-limit.true c.store.ensures
+    count_more a.notes.now _ a.kind a.place _ _ c.word-n.ensures c.limit.ensures c.if-n-limit.true c.set.ensures
 
 pub returns-else-n-limit : goal.returns-else-n-limit
 returns-else-n-limit c =

@@ -14,10 +14,6 @@ loop-i-init c =
     let a = c.args in
     skip_none a.notes.now a.mark a.slot a.many
 
-pub returns-then-notes-at : goal.returns-then-notes-at
-returns-then-notes-at c =
-    c.loop-i.invariant
-
 pub returns-then-notes-at-2 : goal.returns-then-notes-at-2
 returns-then-notes-at-2 c =
     let a = c.args in
@@ -31,10 +27,6 @@ loop-i-preserved c =
     let l = c.loop-i in
     let h : l.i + 1 < a.many = omega (arith, c.saturating_sub-last.ensures, c.loop-i-test.true) in
     skip_two a.notes.now a.mark a.slot a.many l.i l.invariant h c.if-notes-at.false c.if-notes-at-2.false
-
-pub returns-then-notes-slot-2 : goal.returns-then-notes-slot-2
-returns-then-notes-slot-2 c =
-    c.loop-i.invariant
 
 pub returns-else-notes-slot-2 : goal.returns-else-notes-slot-2
 returns-else-notes-slot-2 c =

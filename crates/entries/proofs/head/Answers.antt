@@ -11,5 +11,5 @@ returns c =
     let p = head_done a.text.now a.place a.state a.party a.start a.end a.table.now a.notes.now _ _ _ _
     (c.enter_head.ensures.table_value ∙ (λ i. (head_entered (o.text_value i) a.place a.state a.party (o.start_value i) (o.end_value i) (record { table = a.table.now; notes = a.notes.now })).table))
     (c.enter_head.ensures.notes_after ∙ (λ i. (head_entered (o.text_value i) a.place a.state a.party (o.start_value i) (o.end_value i) (record { table = a.table.now; notes = a.notes.now })).notes))
-    c.store.ensures c.store-2.ensures in
+    c.set.ensures c.set-2.ensures in
     record { table_value = p.0; notes_after = p.1 }

@@ -6,7 +6,7 @@ use Rattle.entries.proofs.put.Goals as goal
 pub returns-then-n-lt-NODES : goal.returns-then-n-lt-NODES
 returns-then-n-lt-NODES c =
     let a = c.args in
-    let p = put_more a.kind a.argument a.before a.table.now a.notes.now _ c.word-n.ensures _ _ _ c.if-n-lt-NODES.true (omega arith) c.store_all.ensures c.store.ensures in
+    let p = put_more a.kind a.argument a.before a.table.now a.notes.now _ c.word-n.ensures _ _ _ c.if-n-lt-NODES.true (omega arith) c.store_all.ensures c.set.ensures in
     record { table_value = p.0; notes_after = p.1 }
 
 pub returns-else-n-lt-NODES : goal.returns-else-n-lt-NODES

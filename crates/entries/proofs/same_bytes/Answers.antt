@@ -9,9 +9,6 @@ pub returns-then-a-b : goal.returns-then-a-b
 returns-then-a-b c =
     sym (same_length c.args.a.now c.args.b.now c.if-a-b.true)
 
-pub loop-i-init : goal.loop-i-init
-loop-i-init c = refl
-
 pub loop-i-preserved : goal.loop-i-preserved
 loop-i-preserved c =
     let l = c.loop-i in

@@ -9,4 +9,4 @@ returns c =
     let a = c.args in
     let l = c.loop-i in
     let w = a.word.now in
-    row_all l.table w a.at a.table.now c.store.new.words c.store.ensures (stores_end l.table w (a.at + 1) l.i c.loop-i-test.false ∙ l.invariant)
+    row_all l.table w a.at a.table.now c.set.new.items c.set.ensures (stores_end l.table w (a.at + 1) l.i c.loop-i-test.false ∙ l.invariant)

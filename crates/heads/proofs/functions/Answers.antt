@@ -1,8 +1,11 @@
 -- `heads::functions` meets its contract. Assumes nothing.
+use Rattle.std.proofs.Common.{rules}
 use native.Mathlib.Omega.{arith}
+use mathlib.Core.Path.{ap, ◌∙◌}
 use lib.ListN.{length}
 use Rattle.reading_laws.specs.Walk as walk
 use Rattle.reading_laws.specs.Walk.{Cursor, draft}
+use Rattle.cursors.specs.Packed.{left_after}
 use Rattle.cursors.proofs.Clipped.{leaves, refuses}
 use Rattle.heads.proofs.functions.Goals as goal
 
@@ -19,5 +22,5 @@ returns c =
     let s = z.text.now in
     let d = draft z.table.now z.notes.now in
     let e = c.leave-2.ensures in
-    let p = leaves s (λ (x : Cursor). walk.functions s (length s) x d) z.c _ _ _ z.table.now z.notes.now _ _ _ _ (omega (arith, c.if-long.false)) c.going.ensures c.functions-r.ensures c.functions-r.auto.table c.functions-r.auto.notes e.value e.table_after e.notes_after in
+    let p = leaves s (λ (x : Cursor). walk.functions s (length s) x d) z.c _ _ _ z.table.now z.notes.now _ _ _ _ (omega (arith, c.if-long.false)) c.going.ensures c.functions-r.ensures.value c.functions-r.ensures.same_lists.1.0 c.functions-r.ensures.same_lists.1.1 e.value (e.table_after ∙ ap (left_after c.functions-r.result) (search rules)) (e.notes_after ∙ ap (left_after c.functions-r.result) (search rules)) in
     record { result_value = p.0; table_after = p.1.0; notes_after = p.1.1 }

@@ -8,4 +8,4 @@ returns-clause-value c =
     let x = a.name.now in
     let d = a.self.now in
     head_written x.text.now a.i a.state a.party x.start x.end d.table.now d.notes.now _ _ _ _ x.word.now _ x.cut
-    c.store_all.ensures c.write_row.ensures c.head_mark-mark.ensures c.write_slot.ensures c.store.ensures
+    c.store_all.ensures c.write_row.ensures c.head_mark-mark.ensures c.write_slot.ensures c.set.ensures

@@ -19,9 +19,3 @@ loop-kind-preserved c =
     let x = c.args.self.now in
     let l = c.loop-kind in
     l.invariant ∙ declared_more x.text.now c.args.notes.now x.word.now l.kind c.loop-kind-test.true (sym c.is_among.ensures ∙ c.if-is_among.false)
-
-pub returns : goal.returns
-returns c =
-    let x = c.args.self.now in
-    let l = c.loop-kind in
-    sym (l.invariant ∙ declared_end x.text.now c.args.notes.now x.word.now l.kind c.loop-kind-test.false)

@@ -4,17 +4,22 @@ use native.Mathlib.Omega.{arith}
 use mathlib.Core.Path.{sym, ap, ◌∙◌}
 use Rattle.cursors.proofs.Turns.{fewer}
 use Rattle.reading_laws.specs.Walk as walk
-use Rattle.entries.specs.Draft.{Draft}
+use Rattle.entries.specs.Lending.{draft_in}
 use Rattle.reading_laws.proofs.Operators.{negated, negated_all}
 use Rattle.expressions.proofs.terms.negate.Goals as goal
 
 pub loop-preserved : goal.loop-preserved
 loop-preserved c =
-    let l = c.loop in
-    (ap (λ (k : ℕ). walk.negations k c.args.before (walk.draft c.put.new.table c.put.new.notes)) (fewer c.args.many l.counter) ∙ negated (c.args.many - l.counter) _ _ _ _ _ (omega (arith, c.loop-test.true)) c.put.ensures.table_value c.put.ensures.notes_after ∙ l.invariant.0, c.put.auto.table ∙ l.invariant.1, c.put.auto.notes ∙ l.invariant.2)
+    let l = c.loop in (
+      ap (λ (k : ℕ). walk.negations k c.args.before (walk.draft c.put.new.table c.put.new.notes)) (fewer c.args.many l.counter)
+          ∙ negated (c.args.many - l.counter) _ _ _ _ _ (omega (arith, c.loop-test.true)) c.put.ensures.table_value c.put.ensures.notes_after ∙ l.invariant.0,
+      (l.invariant.1.0, (c.put.auto.table ∙ l.invariant.1.1.0, c.put.auto.notes ∙ l.invariant.1.1.1)),
+    )
 
-pub returns : goal.returns
-returns c =
+pub returns-clause-value : goal.returns-clause-value
+returns-clause-value c =
     let l = c.loop in
-    let e = sym (negated_all (c.args.many - l.counter) c.args.before (walk.draft l.table l.notes) (omega (arith, c.loop-test.false))) ∙ l.invariant.0 in
-    record { table_after = ap (λ (p : Draft). p.table) e; notes_after = ap (λ (p : Draft). p.notes) e }
+    sym (negated_all (c.args.many - l.counter) c.args.before (draft_in l.lent) (omega (arith, c.loop-test.false))) ∙ l.invariant.0
+
+pub returns-clause-same_lists : goal.returns-clause-same_lists
+returns-clause-same_lists c = c.loop.invariant.1

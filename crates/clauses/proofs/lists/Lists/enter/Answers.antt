@@ -1,0 +1,22 @@
+-- `clauses::lists::Lists::enter` meets its contract. Assumes nothing.
+use mathlib.Core.Path.{sym, ap, ◌∙◌}
+use Rattle.entries.specs.Lending.{draft_in}
+use Rattle.clauses.specs.declared.lists.Listed.{Listed}
+use Rattle.clauses.specs.Private.{entered}
+use Rattle.clauses.proofs.lists.Lists.enter.Goals as goal
+
+pub returns-in-Declared-clause-value : goal.returns-in-Declared-clause-value
+unfolding entered
+returns-in-Declared-clause-value c =
+    let z = c.args in
+    let e = c.declare.ensures in
+    (λ i. record { table = e.table_value i; notes = e.notes_after i })
+    ∙ ap (λ (l : Listed). entered z.self.now.text.now l z.start z.end (draft_in z.lent.now)) (sym c.in-Declared.is)
+
+pub returns-in-Fields-clause-value : goal.returns-in-Fields-clause-value
+unfolding entered
+returns-in-Fields-clause-value c =
+    let z = c.args in
+    let e = c.clause_field.ensures in
+    (λ i. record { table = e.table_value i; notes = e.notes_after i })
+    ∙ ap (λ (l : Listed). entered z.self.now.text.now l z.start z.end (draft_in z.lent.now)) (sym c.in-Fields.is)

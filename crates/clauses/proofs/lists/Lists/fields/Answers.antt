@@ -1,0 +1,7 @@
+-- `clauses::lists::Lists::fields` meets its contract. Assumes nothing.
+use Rattle.reading_laws.proofs.AgreesWith.{leaves_same}
+use Rattle.clauses.proofs.NameLists.{list_is_fields}
+use Rattle.clauses.proofs.lists.Lists.fields.Goals as goal
+
+pub returns-clause-value : goal.returns-clause-value
+returns-clause-value c = leaves_same _ _ _ _ _ (list_is_fields c.args.self.now.text.now _ _) c.list.ensures.value

@@ -1,0 +1,14 @@
+-- `heads::parts::Functions::functions` meets its contract. Assumes nothing.
+use Prim.Native.Nat.{◌-◌}
+use mathlib.Core.Path.{◌≡◌}
+use mathlib.Core.Bool.{false}
+use Rattle.entries.specs.Lending.{draft_in, SameLists}
+use Rattle.reading_laws.specs.Walk as walk
+use Rattle.cursors.specs.Packed.{is_stop, cursor_in}
+use Rattle.heads.proofs.parts.Functions.functions.Given as goal
+
+abbrev pub invariant-loop : goal.invariant-loop
+invariant-loop l =
+    let s = l.self.text.now in
+    (walk.functions s (l.end - l.counter) (cursor_in s l.here) (draft_in l.lent) ≡ walk.functions s l.end (cursor_in s l.initial.here) (draft_in l.initial.lent))
+    × (SameLists l.initial.lent l.lent × (is_stop l.here ≡ false))
