@@ -8,123 +8,27 @@ ghost use Rattle.tokens.specs.Tokens.{between};
 ghost use Rattle.contract.specs.Table.{word_at, clause_word};
 ghost use Rattle.contract.specs.Decode.{word_of, clause_at, contract_of};
 ghost use Rattle.contract.specs.Check.{passes};
+ghost use Rattle.contract.specs.Rows.{clause_row_of};
 ghost use Rattle.state.specs.States.{with_integer};
 ghost use Rattle.agreements.specs.Agreement.{parts_in, words_in, same_verb, same_fields, same_clause, same_clauses, set_fields, agreed_fields, fields_in, fields_of, agreed_on, agreed_in};
 ghost use Rattle.agreements.specs.Private.{verb_of, part_at, set_part, set_by, agreed_part, agreed_by, same_by};
 
-use contract::Contract;
+use contract::{Clause, Contract};
+use items::get_or;
 use outcomes::{Outcome, Rule, Stepped};
 use questions::Question;
 use state::State;
 
-// Item i, or what stands past the end.
-fn item<T: Copy>(s: &[T], i: usize, none: T) -> T
-    ensures { result ≡ get_or s.now i none }
-{
-    s.get(i).copied().unwrap_or(none)
-}
-
-// Whether the name whose length stands at o is the part of the line from a up to, not including, e.
-fn named(table: &[u64], o: usize, line: &[u8], a: usize, e: usize) -> bool
-    ensures { result ≡ same_bytes (between line.now a e) (word_of table.now o) }
-{
-    table_names::same_name(table, o, tokens::between(line, a, e))
-}
-
 // Whether a clause and a part have the same verb: 0 for SET, else OK.
+#[tactic(auto, unfolding(crate::specs::Agreement::same_verb, laws::specs::Choice::pick))]
 fn same_verb(a: usize, b: usize) -> bool
     ensures { result ≡ same_verb (verb_of a) (verb_of b) }
 {
     if a == 0 { b == 0 } else { b != 0 }
 }
 
-// Whether the fields of clause i are those that the line names from field `at` on.
-fn same_fields(table: &[u64], i: usize, line: &[u8], spans: &[usize], at: usize) -> bool
-    requires { (passes table.now ≡ true) × (i < word_at table.now 5) × (at < 1024) }
-    ensures { result ≡ same_fields (contract_of table.now) (clause_at table.now i).fields (words_in line.now (clause_word table.now i 2) (drop (at * 2) spans.now)) }
-{
-    let c = contract::clause_at(table, i);
-    let n = c.fields;
-    for j in 0..n {
-        let from = (at + j) * 2;
-        let o = contract::FIELDS + contract::clause_field(table, i, j) * contract::NAME_WORDS;
-        if !named(
-            table,
-            o,
-            line,
-            item(spans, from, 0),
-            item(spans, from + 1, 0),
-        ) {
-            return false;
-        }
-    }
-    true
-}
-
-// Whether clause i is the part whose fields start at `at`.
-fn same_clause(
-    table: &[u64],
-    i: usize,
-    line: &[u8],
-    parts: &[usize],
-    spans: &[usize],
-    values: &[i64],
-    at: usize,
-) -> bool
-    requires { (passes table.now ≡ true) × (i < word_at table.now 5) × (at < 1024) × (at ≤ length values.now) }
-    ensures { result ≡ same_clause (contract_of table.now) (clause_at table.now i) (part_at line.now parts.now spans.now values.now i at) }
-{
-    let c = contract::clause_at(table, i);
-    let p = i * 4;
-    if item(parts, p + 3, 0) != c.fields {
-        return false;
-    }
-    if values.len() < at + c.fields {
-        return false;
-    }
-    if !same_verb(c.verb, item(parts, p + 2, 0)) {
-        return false;
-    }
-    if named(
-        table,
-        contract::PARTIES + c.party * contract::NAME_WORDS,
-        line,
-        item(parts, p, 0),
-        item(parts, p + 1, 0),
-    ) {
-        return same_fields(table, i, line, spans, at);
-    }
-    false
-}
-
-// Whether the clauses are the parts, and nothing is left over.
-fn same_clauses(
-    table: &[u64],
-    line: &[u8],
-    parts: &[usize],
-    spans: &[usize],
-    values: &[i64],
-) -> bool
-    requires { passes table.now ≡ true }
-    ensures { result ≡ same_clauses (contract_of table.now) (contract_of table.now).clauses (parts_in line.now (length parts.now / 4) parts.now spans.now values.now) }
-{
-    let h = contract::head(table);
-    let count = h.clauses;
-    if parts.len() / 4 != count {
-        return false;
-    }
-    let mut at: usize = 0;
-    for i in 0..count {
-        if !same_clause(table, i, line, parts, spans, values, at) {
-            return false;
-        }
-        let c = contract::clause_at(table, i);
-        at += c.fields;
-    }
-    (parts.len() <= count * 4) & ((spans.len() <= at * 2) & (values.len() <= at))
-}
-
 // Field x gets an integer.
+#[tactic(auto, using(state::proofs::Lengths::kinds_length, state::proofs::Lengths::numbers_length, crate::proofs::Agreements::past_integer))]
 fn with_integer(s: State, x: usize, z: i64) -> State
     ensures { result ≡ with_integer s x z }
 {
@@ -137,57 +41,8 @@ fn with_integer(s: State, x: usize, z: i64) -> State
     next
 }
 
-// The fields of clause i get the values from `at` on.
-fn set_fields(table: &[u64], s: State, i: usize, values: &[i64], at: usize) -> State
-    requires { (passes table.now ≡ true) × (i < word_at table.now 5) × (at < 1024) }
-    ensures { result ≡ set_fields s (clause_at table.now i).fields (drop at values.now) }
-{
-    let c = contract::clause_at(table, i);
-    let n = c.fields;
-    let mut next = s;
-    for j in 0..n {
-        let k = at + j;
-        if values.len() <= k {
-            return next;
-        }
-        next = with_integer(
-            next,
-            contract::clause_field(table, i, j),
-            item(values, k, 0),
-        );
-    }
-    next
-}
-
-fn set_clause(table: &[u64], s: State, i: usize, values: &[i64], at: usize) -> State
-    requires { (passes table.now ≡ true) × (i < word_at table.now 5) × (at < 1024) }
-    ensures { result ≡ set_part s (clause_at table.now i).fields (drop at values.now) (clause_at table.now i).verb }
-{
-    let c = contract::clause_at(table, i);
-    if c.verb == 0 {
-        return set_fields(table, s, i, values, at);
-    }
-    s
-}
-
-// The clauses' fields get their values.
-fn set_clauses(table: &[u64], s: State, values: &[i64]) -> State
-    requires { passes table.now ≡ true }
-    ensures { result ≡ set_by s (contract_of table.now).clauses values.now }
-{
-    let h = contract::head(table);
-    let count = h.clauses;
-    let mut next = s;
-    let mut at: usize = 0;
-    for i in 0..count {
-        next = set_clause(table, next, i, values, at);
-        let c = contract::clause_at(table, i);
-        at += c.fields;
-    }
-    next
-}
-
 // Whether field x has this integer.
+#[tactic(auto, using(state::proofs::Lengths::kinds_length, crate::proofs::Agreements::no_integer, crate::proofs::Agreements::other_kind, crate::proofs::Agreements::integer_kind, numbers::proofs::Whole::eq_bits))]
 fn has_integer(s: State, x: usize, z: i64) -> bool
     ensures { result ≡ (eqb (get_or s.kinds x 0) 1 && eq_z (get_or s.numbers x (pos 0)) z) }
 {
@@ -199,126 +54,289 @@ fn has_integer(s: State, x: usize, z: i64) -> bool
         return false;
     }
     let numbers = s.numbers;
-    item(&numbers, x, 0) == z
+    get_or(&numbers, x, 0) == z
 }
 
-// Whether the fields of clause i have the values from `at` on.
-fn agreed_fields(table: &[u64], s: State, i: usize, values: &[i64], at: usize) -> bool
-    requires { (passes table.now ≡ true) × (i < word_at table.now 5) × (at < 1024) }
-    ensures { result ≡ agreed_fields s (clause_at table.now i).fields (drop at values.now) }
-{
-    let c = contract::clause_at(table, i);
-    let n = c.fields;
-    for j in 0..n {
-        let k = at + j;
-        if values.len() <= k {
+// What was heard, on a table that passes: the line, its parts, where its fields' names stand, and their values.
+#[derive(Clone, Copy)]
+struct Heard<'a> {
+    table: &'a [u64],
+    line: &'a [u8],
+    parts: &'a [usize],
+    spans: &'a [usize],
+    values: &'a [i64],
+    ghost whole: { passes table.now ≡ true },
+}
+
+// Clause i of the table, and from which field on its own fields were heard.
+#[derive(Clone, Copy)]
+struct ClauseAt<'a> {
+    heard: Heard<'a>,
+    i: usize,
+    at: usize,
+    row: Clause,
+    ghost read: { row ≡ clause_row_of heard.table.now i },
+    ghost room: { (i < word_at heard.table.now 5) × (at < 1024) },
+}
+
+impl<'a> ClauseAt<'a> {
+    fn of(heard: Heard<'a>, i: usize, at: usize) -> ClauseAt<'a>
+        requires { (i < word_at heard.table.now 5) × (at < 1024) }
+        ensures heard_value { result.heard ≡ heard.entry }
+        ensures i_value { result.i ≡ i }
+        ensures at_value { result.at ≡ at }
+    {
+        ClauseAt {
+            heard,
+            i,
+            at,
+            row: contract::clause_at(heard.table, i),
+        }
+    }
+}
+
+impl Heard<'_> {
+    // Whether the name whose length stands at o is the part of the line from a up to, not including, e.
+    fn named(&self, o: usize, a: usize, e: usize) -> bool
+        ensures { result ≡ same_bytes (between self.now.line.now a e) (word_of self.now.table.now o) }
+    {
+        table_names::same_name(self.table, o, tokens::between(self.line, a, e))
+    }
+}
+
+impl ClauseAt<'_> {
+    // Whether its fields are those that the line names.
+    #[tactic(auto, using(crate::proofs::Clauses::placed, crate::proofs::Clauses::row_fields, crate::proofs::Clauses::fields_count, crate::proofs::Clauses::field_at, crate::proofs::Clauses::here, crate::proofs::Agreements::fields_first, crate::proofs::Agreements::fields_more, crate::proofs::Agreements::fields_not, crate::proofs::Agreements::fields_all))]
+    fn same_fields(&self) -> bool
+        ensures { result ≡ same_fields (contract_of self.now.heard.table.now) (clause_at self.now.heard.table.now self.now.i).fields (words_in self.now.heard.line.now (clause_word self.now.heard.table.now self.now.i 2) (drop (self.now.at * 2) self.now.heard.spans.now)) }
+    {
+        let n = self.row.fields;
+        let spans = self.heard.spans;
+        for j in 0..n {
+            let from = (self.at + j) * 2;
+            let field = contract::clause_field(self.heard.table, self.i, j);
+            let o = contract::FIELDS + field * contract::NAME_WORDS;
+            if !self
+                .heard
+                .named(o, get_or(spans, from, 0), get_or(spans, from + 1, 0))
+            {
+                return false;
+            }
+        }
+        true
+    }
+
+    // Whether it is the part with its number.
+    #[tactic(auto, using(crate::proofs::Clauses::placed, crate::proofs::Clauses::row_few, crate::proofs::Clauses::row_party_few, crate::proofs::Clauses::row_count, crate::proofs::Clauses::row_fields, crate::proofs::Agreements::other_count, crate::proofs::Agreements::values_short))]
+    fn same_clause(&self) -> bool
+        requires { self.now.at ≤ length self.now.heard.values.now }
+        ensures { result ≡ same_clause (contract_of self.now.heard.table.now) (clause_at self.now.heard.table.now self.now.i) (part_at self.now.heard.line.now self.now.heard.parts.now self.now.heard.spans.now self.now.heard.values.now self.now.i self.now.at) }
+    {
+        let c = self.row;
+        let parts = self.heard.parts;
+        let values = self.heard.values;
+        let p = self.i * 4;
+        if get_or(parts, p + 3, 0) != c.fields {
+            return false;
+        }
+        if values.len() < self.at + c.fields {
+            return false;
+        }
+        if !same_verb(c.verb, get_or(parts, p + 2, 0)) {
+            return false;
+        }
+        let o = contract::PARTIES + c.party * contract::NAME_WORDS;
+        if self
+            .heard
+            .named(o, get_or(parts, p, 0), get_or(parts, p + 1, 0))
+        {
+            return self.same_fields();
+        }
+        false
+    }
+
+    // Its fields get their values.
+    #[tactic(auto, using(crate::proofs::Clauses::placed, crate::proofs::Clauses::row_fields, crate::proofs::Clauses::fields_count, crate::proofs::Clauses::field_at, crate::proofs::Agreements::set_more, crate::proofs::Agreements::set_short, crate::proofs::Agreements::set_all))]
+    fn set_fields(&self, s: State) -> State
+        ensures { result ≡ set_fields s (clause_at self.now.heard.table.now self.now.i).fields (drop self.now.at self.now.heard.values.now) }
+    {
+        let n = self.row.fields;
+        let values = self.heard.values;
+        let mut next = s;
+        for j in 0..n {
+            let k = self.at + j;
+            if values.len() <= k {
+                return next;
+            }
+            let field = contract::clause_field(self.heard.table, self.i, j);
+            next = with_integer(next, field, get_or(values, k, 0));
+        }
+        next
+    }
+
+    // The same, of a clause that says SET.
+    fn set_clause(&self, s: State) -> State
+        ensures { result ≡ set_part s (clause_at self.now.heard.table.now self.now.i).fields (drop self.now.at self.now.heard.values.now) (clause_at self.now.heard.table.now self.now.i).verb }
+    {
+        let c = self.row;
+        if c.verb == 0 {
+            return self.set_fields(s);
+        }
+        s
+    }
+
+    // Whether its fields have their values.
+    #[tactic(auto, using(crate::proofs::Clauses::placed, crate::proofs::Clauses::row_fields, crate::proofs::Clauses::fields_count, crate::proofs::Clauses::field_at, crate::proofs::Agreements::agreed_more, crate::proofs::Agreements::agreed_not, crate::proofs::Agreements::agreed_short, crate::proofs::Agreements::agreed_all))]
+    fn agreed_fields(&self, s: State) -> bool
+        ensures { result ≡ agreed_fields s (clause_at self.now.heard.table.now self.now.i).fields (drop self.now.at self.now.heard.values.now) }
+    {
+        let n = self.row.fields;
+        let values = self.heard.values;
+        for j in 0..n {
+            let k = self.at + j;
+            if values.len() <= k {
+                return true;
+            }
+            let field = contract::clause_field(self.heard.table, self.i, j);
+            if !has_integer(s, field, get_or(values, k, 0)) {
+                return false;
+            }
+        }
+        true
+    }
+
+    // The same, of a clause that says OK.
+    fn agreed_clause(&self, s: State) -> bool
+        ensures { result ≡ agreed_part s (clause_at self.now.heard.table.now self.now.i).fields (drop self.now.at self.now.heard.values.now) (clause_at self.now.heard.table.now self.now.i).verb }
+    {
+        let c = self.row;
+        if c.verb == 0 {
             return true;
         }
-        if !has_integer(s, contract::clause_field(table, i, j), item(values, k, 0)) {
+        self.agreed_fields(s)
+    }
+}
+
+impl Heard<'_> {
+    // Whether the clauses are the parts, and nothing is left over.
+    fn same_clauses(&self) -> bool
+        ensures { result ≡ same_clauses (contract_of self.now.table.now) (contract_of self.now.table.now).clauses (parts_in self.now.line.now (length self.now.parts.now / 4) self.now.parts.now self.now.spans.now self.now.values.now) }
+    {
+        let parts = self.parts;
+        let spans = self.spans;
+        let values = self.values;
+        let count = contract::head(self.table).clauses;
+        if parts.len() / 4 != count {
             return false;
         }
+        let mut at: usize = 0;
+        for i in 0..count {
+            let clause = ClauseAt::of(*self, i, at);
+            if !clause.same_clause() {
+                return false;
+            }
+            at += clause.row.fields;
+        }
+        (parts.len() <= count * 4) & ((spans.len() <= at * 2) & (values.len() <= at))
     }
-    true
-}
 
-fn agreed_clause(table: &[u64], s: State, i: usize, values: &[i64], at: usize) -> bool
-    requires { (passes table.now ≡ true) × (i < word_at table.now 5) × (at < 1024) }
-    ensures { result ≡ agreed_part s (clause_at table.now i).fields (drop at values.now) (clause_at table.now i).verb }
-{
-    let c = contract::clause_at(table, i);
-    if c.verb == 0 {
-        return true;
+    // The clauses' fields get their values.
+    #[tactic(auto, using(crate::proofs::Clauses::placed, crate::proofs::Clauses::row_few, crate::proofs::Clauses::clauses_first, crate::proofs::Agreements::set_by_more, crate::proofs::Agreements::set_by_all))]
+    fn set_clauses(&self, s: State) -> State
+        ensures { result ≡ set_by s (contract_of self.now.table.now).clauses self.now.values.now }
+    {
+        let count = contract::head(self.table).clauses;
+        let mut next = s;
+        let mut at: usize = 0;
+        for i in 0..count {
+            let clause = ClauseAt::of(*self, i, at);
+            next = clause.set_clause(next);
+            at += clause.row.fields;
+        }
+        next
     }
-    agreed_fields(table, s, i, values, at)
-}
 
-// Whether the values agreed on are those set.
-fn agreed_clauses(table: &[u64], s: State, values: &[i64]) -> bool
-    requires { passes table.now ≡ true }
-    ensures { result ≡ agreed_by s (contract_of table.now).clauses values.now }
-{
-    let h = contract::head(table);
-    let count = h.clauses;
-    let mut at: usize = 0;
-    for i in 0..count {
-        if !agreed_clause(table, s, i, values, at) {
+    // Whether the values agreed on are those set.
+    #[tactic(auto, using(crate::proofs::Clauses::placed, crate::proofs::Clauses::row_few, crate::proofs::Clauses::clauses_first, crate::proofs::Agreements::agreed_by_more, crate::proofs::Agreements::agreed_by_not, crate::proofs::Agreements::agreed_by_all))]
+    fn agreed_clauses(&self, s: State) -> bool
+        ensures { result ≡ agreed_by s (contract_of self.now.table.now).clauses self.now.values.now }
+    {
+        let count = contract::head(self.table).clauses;
+        let mut at: usize = 0;
+        for i in 0..count {
+            let clause = ClauseAt::of(*self, i, at);
+            if !clause.agreed_clause(s) {
+                return false;
+            }
+            at += clause.row.fields;
+        }
+        true
+    }
+
+    // A bit for each field of clause i.
+    #[tactic(auto, using(crate::proofs::Clauses::placed, crate::proofs::Clauses::field_at, crate::proofs::Clauses::fields_count, crate::proofs::Clauses::row_count, crate::proofs::Agreements::fields_none, crate::proofs::Agreements::fields_before, crate::proofs::Agreements::fields_done))]
+    fn fields_in(&self, i: usize) -> u64
+        requires { i < word_at self.now.table.now 5 }
+        ensures { result ≡ fields_in (clause_at self.now.table.now i).fields }
+    {
+        let mut mask: u64 = 0;
+        for j in (0..contract::clause_at(self.table, i).fields).rev() {
+            mask = mask | (1 << contract::clause_field(self.table, i, j));
+        }
+        mask
+    }
+
+    // A bit for each field that clauses of this verb name: 0 for SET, else OK.
+    #[tactic(auto, using(crate::proofs::Clauses::clauses_first, crate::proofs::Clauses::row_verb, crate::proofs::Agreements::clauses_none, crate::proofs::Agreements::clauses_before, crate::proofs::Agreements::clauses_skip, crate::proofs::Agreements::clauses_done))]
+    fn fields_of(&self, verb: usize) -> u64
+        ensures { result ≡ fields_of (verb_of verb) (contract_of self.now.table.now).clauses }
+    {
+        let mut mask: u64 = 0;
+        for i in (0..contract::head(self.table).clauses).rev() {
+            let c = contract::clause_at(self.table, i);
+            if !same_verb(verb, c.verb) {
+                continue;
+            }
+            mask = mask | self.fields_in(i);
+        }
+        mask
+    }
+
+    // Whether the values set, which this state has, and the values agreed on are the same map.
+    #[tactic(auto, using(crate::proofs::Agreements::masks_same, crate::proofs::Agreements::masks_other))]
+    fn same_map(&self, s: State) -> bool
+        ensures { result ≡ same_by s (contract_of self.now.table.now).clauses self.now.values.now }
+    {
+        if self.fields_of(0) != self.fields_of(1) {
             return false;
         }
-        let c = contract::clause_at(table, i);
-        at += c.fields;
+        self.agreed_clauses(s)
     }
-    true
-}
 
-// A bit for each field of clause i.
-fn fields_in(table: &[u64], i: usize) -> u64
-    requires { (passes table.now ≡ true) × (i < word_at table.now 5) }
-    ensures { result ≡ fields_in (clause_at table.now i).fields }
-{
-    let mut mask: u64 = 0;
-    for j in (0..contract::clause_at(table, i).fields).rev() {
-        mask = mask | (1 << contract::clause_field(table, i, j));
-    }
-    mask
-}
-
-// A bit for each field that clauses of this verb name: 0 for SET, else OK.
-fn fields_of(table: &[u64], verb: usize) -> u64
-    requires { passes table.now ≡ true }
-    ensures { result ≡ fields_of (verb_of verb) (contract_of table.now).clauses }
-{
-    let mut mask: u64 = 0;
-    for i in (0..contract::head(table).clauses).rev() {
-        let c = contract::clause_at(table, i);
-        if !same_verb(verb, c.verb) {
-            continue;
+    // An agreement on a contract's state.
+    fn agree_on_contract(&self, s: State) -> Stepped
+        ensures { result ≡ agreed_on (contract_of self.now.table.now) s (parts_in self.now.line.now (length self.now.parts.now / 4) self.now.parts.now self.now.spans.now self.now.values.now) }
+    {
+        if s.agreed {
+            return outcomes::refuse(s, Question::NotAgreed);
         }
-        mask = mask | fields_in(table, i);
+        if !self.same_clauses() {
+            return outcomes::refuse(s, Question::SameClauses);
+        }
+        let set = self.set_clauses(s);
+        if !self.same_map(set) {
+            return outcomes::refuse(s, Question::SameValues);
+        }
+        let h = contract::head(self.table);
+        let mut next = set;
+        next.agreed = true;
+        next.state = h.initial;
+        outcomes::answer(Outcome::Accepted(Rule::Agree), next)
     }
-    mask
-}
-
-// Whether the values set, which this state has, and the values agreed on are the same map.
-fn same_map(table: &[u64], s: State, values: &[i64]) -> bool
-    requires { passes table.now ≡ true }
-    ensures { result ≡ same_by s (contract_of table.now).clauses values.now }
-{
-    if fields_of(table, 0) != fields_of(table, 1) {
-        return false;
-    }
-    agreed_clauses(table, s, values)
-}
-
-// An agreement on a contract's state.
-fn agree_on_contract(
-    table: &[u64],
-    s: State,
-    line: &[u8],
-    parts: &[usize],
-    spans: &[usize],
-    values: &[i64],
-) -> Stepped
-    requires { passes table.now ≡ true }
-    ensures { result ≡ agreed_on (contract_of table.now) s (parts_in line.now (length parts.now / 4) parts.now spans.now values.now) }
-{
-    if s.agreed {
-        return outcomes::refuse(s, Question::NotAgreed);
-    }
-    if !same_clauses(table, line, parts, spans, values) {
-        return outcomes::refuse(s, Question::SameClauses);
-    }
-    let set = set_clauses(table, s, values);
-    if !same_map(table, set, values) {
-        return outcomes::refuse(s, Question::SameValues);
-    }
-    let h = contract::head(table);
-    let mut next = set;
-    next.agreed = true;
-    next.state = h.initial;
-    outcomes::answer(Outcome::Accepted(Rule::Agree), next)
 }
 
 // An agreement on a table and a state: question 3, then 21, 23 and 24.
+#[tactic(auto, unfolding(crate::specs::Agreement::agreed_in, laws::specs::Choice::pick))]
 pub fn agree_on(
     table: &[u64],
     s: State,
@@ -330,7 +348,14 @@ pub fn agree_on(
     ensures { result ≡ agreed_in table.now s (parts_in line.now (length parts.now / 4) parts.now spans.now values.now) }
 {
     if tables::table_passes(table) {
-        return agree_on_contract(table, s, line, parts, spans, values);
+        let heard = Heard {
+            table,
+            line,
+            parts,
+            spans,
+            values,
+        };
+        return heard.agree_on_contract(s);
     }
     outcomes::refuse(s, Question::TableCheck)
 }

@@ -1,4 +1,5 @@
 pub mod Values
 pub mod Truths
+pub mod Nots
 pub mod Refusals
 pub mod Sides

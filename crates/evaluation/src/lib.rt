@@ -15,6 +15,7 @@ ghost use Rattle.evaluation.specs.Meaning.{value_of, truth_of};
 ghost use Rattle.evaluation.specs.Private.{left_from, compared_at, simple_at, negates_at, run_from, turned_by};
 
 use contract::{Contract, Function, Node};
+use items::get_or;
 use numbers::{Comparison, Operator, Value};
 use questions::Question;
 
@@ -41,12 +42,15 @@ pub struct Memory<'a> {
 }
 
 // `~`s in a row: the node below them, and whether their number is odd.
+// Kept: (d) no `Option`, since a run always has both: a node, and a truth about the `~`s above it.
 #[derive(Clone, Copy)]
 struct Run {
     end: usize,
     odd: bool,
 }
 
+// Kept: (d) no `From`, here and below, since a number and these enums are types of other crates, and the enums' own knows no nodes; no
+// `TryFrom`, since each number has its answer.
 #[tactic(auto, unfolding(laws::specs::Choice::pick))]
 fn operator_of(kind: u64) -> Operator
     ensures { result ≡ operator_of kind }
@@ -59,6 +63,7 @@ fn operator_of(kind: u64) -> Operator
     }
 }
 
+// Kept: (d) as `operator_of`.
 #[tactic(auto, unfolding(laws::specs::Choice::pick))]
 fn comparison_of(kind: u64) -> Comparison
     ensures { result ≡ comparison_of kind }
@@ -95,13 +100,6 @@ fn string(n: u64) -> Result<Value, Question>
     Err(Question::TableCheck)
 }
 
-// The item at place i, and `none` past the end.
-pub fn at<T: Copy + Drop>(items: &[T], i: usize, none: T) -> T
-    ensures { result ≡ get_or items.now i none }
-{
-    items.get(i).copied().unwrap_or(none)
-}
-
 // The value of field i.
 #[tactic(auto, unfolding(laws::specs::Choice::pick, crate::specs::Meaning::field_value, crate::specs::Meaning::value_of))]
 fn field_value(memory: &Memory, i: usize) -> Result<Value, Question>
@@ -113,10 +111,10 @@ fn field_value(memory: &Memory, i: usize) -> Result<Value, Question>
         texts,
         ..
     } = *memory;
-    match at(kinds, i, 0) {
+    match get_or(kinds, i, 0) {
         0 => Err(Question::FieldValue),
-        1 => Ok(Value::Integer(at(numbers, i, 0))),
-        _ => Ok(Value::Text(at(texts, i, 0))),
+        1 => Ok(Value::Integer(get_or(numbers, i, 0))),
+        _ => Ok(Value::Text(get_or(texts, i, 0))),
     }
 }
 
@@ -124,7 +122,7 @@ fn field_value(memory: &Memory, i: usize) -> Result<Value, Question>
 fn parameter_amount(holdings: &[u64; Holdings::MOST], i: usize) -> u64
     ensures { result ≡ get_or holdings.now (max_assets + i) 0 }
 {
-    at(&holdings[Contract::ASSETS..], i, 0)
+    get_or(&holdings[Contract::ASSETS..], i, 0)
 }
 
 // An expression of no parts.
@@ -143,8 +141,8 @@ fn leaf(memory: &Memory, kind: u64, n: u64) -> Result<Value, Question>
         Node::STRING => string(n),
         Node::NOW => numbers::natural(memory.clock),
         Node::FIELD => field_value(memory, i),
-        Node::VALUE => Ok(Value::Integer(at(values, i, 0))),
-        Node::ASSET => numbers::natural(at(holdings, i, 0)),
+        Node::VALUE => Ok(Value::Integer(get_or(values, i, 0))),
+        Node::ASSET => numbers::natural(get_or(holdings, i, 0)),
         Node::PARAMETER => numbers::natural(parameter_amount(holdings, i)),
         _ => Err(Question::TableCheck),
     }
@@ -176,6 +174,8 @@ fn left_of(table: &[u64], k: usize, size: usize) -> Option<usize>
 }
 
 // The expression at node k.
+// Kept: (d) this and `truth` are public with these three, and only `compared_at` and `simple` take them besides: a struct of table and
+// memory would be made in each public call for those two.
 pub fn value(table: &[u64], memory: &Memory, k: usize) -> Result<Value, Question>
     ensures { result ≡ value_of (lent memory.now) (expression_at table.now k) }
 {
@@ -193,7 +193,7 @@ pub fn value(table: &[u64], memory: &Memory, k: usize) -> Result<Value, Question
     };
     let last = k - 1;
     let first = value(table, memory, left);
-    // Kept: document 01 opens an evaluation answer by let .. else.
+    // Kept: (a) document 01 opens an evaluation answer by let .. else.
     let Ok(a) = first else {
         return first;
     };
@@ -214,7 +214,7 @@ fn compared_at(table: &[u64], memory: &Memory, k: usize) -> Result<bool, Questio
     };
     let last = k - 1;
     let x = value(table, memory, left);
-    // Kept: document 01 opens an evaluation answer by let .. else.
+    // Kept: (a) document 01 opens an evaluation answer by let .. else.
     let Ok(a) = x else {
         return Err(x.unwrap_err());
     };
@@ -254,24 +254,21 @@ fn negates(table: &[u64], k: usize) -> bool
 }
 
 // The node below the `~`s that stand in a row at node k, each counting its part, and whether their number is odd.
-#[tactic(auto, unfolding(laws::specs::Choice::pick, crate::specs::Private::run_from))]
 fn run_at(table: &[u64], k: usize) -> Run
     ensures { result ≡ run_from table.now k false }
 {
-    let mut end = k;
-    let mut odd = false;
-    while 0 < end && negates(table, end) {
-        end -= 1;
-        odd = !odd;
+    let nots = (0..k).rev().take_while(|i| negates(table, i + 1)).count();
+    Run {
+        end: k - nots,
+        odd: nots % 2 == 1,
     }
-    Run { end, odd }
 }
 
 // A truth below a run of `~`s.
 fn turned(odd: bool, t: Result<bool, Question>) -> Result<bool, Question>
     ensures { result ≡ turned_by odd t }
 {
-    // Kept: document 01 opens an evaluation answer by let .. else.
+    // Kept: (a) document 01 opens an evaluation answer by let .. else.
     let Ok(holds) = t else {
         return t;
     };
@@ -307,7 +304,7 @@ pub fn truth(table: &[u64], memory: &Memory, k: usize) -> Result<bool, Question>
     };
     let last = end - 1;
     let one = truth(table, memory, left);
-    // Kept: document 01 opens an evaluation answer by let .. else.
+    // Kept: (a) document 01 opens an evaluation answer by let .. else.
     let Ok(a) = one else {
         return one;
     };

@@ -1,5 +1,5 @@
 -- The forms of a line exclude each other; what they hold fits the arrays. Assumes nothing.
-use mathlib.Core.Path.{◌≡◌, refl, sym, ap, ◌∙◌}
+use mathlib.Core.Path.{◌≡◌, refl, sym, ap, subst, ◌∙◌}
 use mathlib.Core.Bool.{Bool, true, false}
 use mathlib.Core.List.{List, [], ◌∷◌, ◌++◌}
 use Prim.Native.Nat.{ℕ, zero, suc, ◌+◌, ◌-◌, ◌*◌, ◌<◌, ◌≤◌}
@@ -16,10 +16,9 @@ use Rattle.laws.specs.Bytes.{bytes, starts_with}
 use Rattle.laws.proofs.Choice.{true_false, pick_true, pick_false}
 use Rattle.tokens.specs.Classes.{within as in_range, is_letter}
 use Rattle.lines.specs.Lines.{Span, Part, Names, Lists, Asked, refused, call, agreement, Parsed, done, no, and_then, give, otherwise, skipped, is_next, mark, end, name_from, name, verb, integer, list, names, lists, part, parts, tick_line, call_line, agreement_line, or_refused, asked}
-use Rattle.lines.specs.Answers.{padded, plain, line_of, parts_of, fields_of, heads_of, spans_of, values_of, agreement_of}
+use Rattle.lines.specs.Answers.{padded, plain, line_of, numbers_of, parts_of, fields_of, heads_of, spans_of, values_of, agreement_of}
 use Rattle.std.specs.Prelude.{Option, Some, None}
-use Rattle.lines.specs.Private.{given, request_in, names_from, with_integers}
-use Rattle.lines.specs.declared.Integers.{Integers}
+use Rattle.lines.specs.Private.{given, request_in, names_from, CallIs, Integers, with_integers}
 use Rattle.lines.specs.declared.Names as declared
 use Rattle.lines.specs.declared.Request.{Request}
 use Rattle.lines.specs.declared.Request.TheVariants as request
@@ -221,6 +220,11 @@ unfolding line_of
 timed_plain ticks = refl
 timed_plain (jumps z) = refl
 
+-- a tick or a jump has no integers
+pub timed_numbers : {a : Asked} → Timed a → numbers_of a ≡ []
+timed_numbers ticks = refl
+timed_numbers (jumps z) = refl
+
 -- ---- what a line asks for, told by the first form that reads it
 
 module _ (s : List ℕ) (short : length s ≤ 512) where
@@ -233,12 +237,21 @@ module _ (s : List ℕ) (short : length s ≤ 512) where
           ap plain (sym k) ∙ timed_plain (tick_alone s e).0 ∙ sym (ap line_of (asked_timed s short e))
       go no e h = cc
 
+  pub timed_numbers_told : {x : Request} → Some x ≡ given request_in (tick_line s 0) → padded (pos 0) 256 [] ≡ padded (pos 0) 256 (numbers_of (asked s))
+  timed_numbers_told {x} q = go (tick_line s 0) refl q
+    where
+      go : (p : Parsed Asked) → tick_line s 0 ≡ p → Some x ≡ given request_in p → padded (pos 0) 256 [] ≡ padded (pos 0) 256 (numbers_of (asked s))
+      go (done a n) e h = ap (padded (pos 0) 256) (sym (timed_numbers (tick_alone s e).0) ∙ sym (ap numbers_of (asked_timed s short e)))
+      go no e h = cc
+
   module _ (t : tick_line s 0 ≡ no) where
-    pub call_told : {x : Line} → Some x ≡ given line_of (call_line s 0) → x ≡ line_of (asked s)
-    call_told {x} q = go (call_line s 0) refl q
+    pub call_told : {x : Line} {new : List ℤ} → CallIs (call_line s 0) (Some x) new → (x ≡ line_of (asked s)) × (new ≡ padded (pos 0) 256 (numbers_of (asked s)))
+    call_told {x} {new} q = go (call_line s 0) refl q
       where
-        go : (p : Parsed Asked) → call_line s 0 ≡ p → Some x ≡ given line_of p → x ≡ line_of (asked s)
-        go (done a n) e h = let k : line_of a ≡ x = cc in sym k ∙ sym (ap line_of (asked_called s short t e))
+        go : (p : Parsed Asked) → call_line s 0 ≡ p → CallIs p (Some x) new → (x ≡ line_of (asked s)) × (new ≡ padded (pos 0) 256 (numbers_of (asked s)))
+        go (done a n) e h =
+            let k : x ≡ line_of a = let w = h.0 in cc in
+            (k ∙ sym (ap line_of (asked_called s short t e)), h.1 ∙ sym (ap (λ (y : Asked). padded (pos 0) 256 (numbers_of y)) (asked_called s short t e)))
         go no e h = cc
 
     module _ (c : call_line s 0 ≡ no) where
@@ -253,6 +266,14 @@ module _ (s : List ℕ) (short : length s ≤ 512) where
       pub nothing_told : None ≡ given agreement_of (parts s 0) → plain (request.Refused ask.LineForm) ≡ line_of (asked s)
       unfolding line_of
       nothing_told q = sym (ap line_of (asked_none s short t c (given_missed agreement_of (parts s 0) q)))
+
+-- what is no tick, no jump and no call has no integers
+pub other_numbers : (s : List ℕ) → length s ≤ 512 → tick_line s 0 ≡ no → call_line s 0 ≡ no → padded (pos 0) 256 [] ≡ padded (pos 0) 256 (numbers_of (asked s))
+other_numbers s short t c = go (parts s 0) refl
+  where
+    go : (p : Parsed (List Part)) → parts s 0 ≡ p → padded (pos 0) 256 [] ≡ padded (pos 0) 256 (numbers_of (asked s))
+    go (done ps n) e = sym (ap (λ (a : Asked). padded (pos 0) 256 (numbers_of a)) (asked_agreed s short t c e))
+    go no e = sym (ap (λ (a : Asked). padded (pos 0) 256 (numbers_of a)) (asked_none s short t c e))
 
 -- ---- a call
 
@@ -283,14 +304,24 @@ module _ (s : List ℕ) {m : Names} {d : ℕ} (e : names s 0 ≡ done m d) where
 abbrev pub no_integer : Integers
 no_integer = record { count = 0; all = replicate 256 (pos 0) }
 
-pub call_made : {x : declared.Names} {d : ℕ} {first second : Integers} {i j : ℕ} (s : List ℕ) → length s ≤ 512 → names s 0 ≡ done (names_from x) d → Gave (with_integers no_integer) (list s (40 ∷ []) (integer s) (41 ∷ []) d) first i → Gave (with_integers first) (list s (91 ∷ []) (integer s) (93 ∷ []) i) second j → end s j ≡ done tt j → ◌≡◌ {A = Option Line} (Some (record { request = request.Call; party_start = x.party.start; party_end = x.party.end; function_start = x.function.start; function_end = x.function.end; values = first.count; assets = second.count - first.count; numbers = second.all })) (given line_of (call_line s 0))
+pub call_made : {x : declared.Names} {d : ℕ} {zeros first second : Integers} {i j : ℕ} (s : List ℕ) → length s ≤ 512 → zeros ≡ no_integer → names s 0 ≡ done (names_from x) d → Gave (with_integers zeros) (list s (40 ∷ []) (integer s) (41 ∷ []) d) first i → Gave (with_integers first) (list s (91 ∷ []) (integer s) (93 ∷ []) i) second j → end s j ≡ done tt j → CallIs (call_line s 0) (Some (record { request = request.Call; party_start = x.party.start; party_end = x.party.end; function_start = x.function.start; function_end = x.function.end; values = first.count; assets = second.count - first.count })) second.all
 unfolding line_of
-call_made {x} {d} {first} {second} {i} {j} s short e v w f =
-    let a : first.count ≡ length v.read = ap (λ (y : Integers). y.count) v.stored ∙ (let z : 0 + length v.read ≡ length v.read = omega arith in z) in
+call_made {x} {d} {zeros} {first} {second} {i} {j} s short z e v w f =
+    let u : first ≡ with_integers no_integer v.read = v.stored ∙ ap (λ (y : Integers). with_integers y v.read) z in
+    let a : first.count ≡ length v.read = ap (λ (y : Integers). y.count) u ∙ (let n : 0 + length v.read ≡ length v.read = omega arith in n) in
     let b : second.count - first.count ≡ length w.read = omega (arith, ap (λ (y : Integers). y.count) w.stored) in
     let n : second.all ≡ padded (pos 0) 256 (v.read ++ w.read) =
-    ap (λ (y : Integers). y.all) (w.stored ∙ ap (λ (y : Integers). with_integers y w.read) v.stored)
+    ap (λ (y : Integers). y.all) (w.stored ∙ ap (λ (y : Integers). with_integers y w.read) u)
     ∙ sym (sets_append (replicate 256 (pos 0)) 0 v.read w.read)
     ∙ call_fits s e v.parsed w.parsed f short in
-    (λ t. Some (record { request = request.Call; party_start = x.party.start; party_end = x.party.end; function_start = x.function.start; function_end = x.function.end; values = a t; assets = b t; numbers = n t }))
-    ∙ sym (ap (given line_of) (call_whole s e v.parsed w.parsed f))
+    rw (call_whole s e v.parsed w.parsed f)
+    (λ t. Some (record { request = request.Call; party_start = x.party.start; party_end = x.party.end; function_start = x.function.start; function_end = x.function.end; values = a t; assets = b t }), n)
+
+-- the same list
+pub call_as : (p : Parsed Asked) (r : Option Line) {old new : List ℤ} → CallIs p r old → new ≡ old → CallIs p r new
+call_as p r w e = subst (CallIs p r) (sym e) w
+
+-- a line that is no call
+pub call_missed : (new : List ℤ) (p : Parsed Asked) → CallIs p None new → p ≡ no
+call_missed new (done a n) w = let h = w.0 in cc
+call_missed new no w = refl

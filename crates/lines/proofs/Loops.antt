@@ -9,8 +9,7 @@ use lib.IntN.{ℤ}
 use Rattle.lines.specs.Lines as lines
 use Rattle.lines.specs.Lines.{Parsed, done, no, Parser, mark, items}
 use Rattle.lines.specs.Answers.{spans_of, values_of}
-use Rattle.lines.specs.Private.{place_of, Added, with_integers, with_fields}
-use Rattle.lines.specs.declared.Integers.{Integers}
+use Rattle.lines.specs.Private.{place_of, Added, Integers, with_integers, with_fields}
 use Rattle.lines.specs.declared.Agreement.{Agreement}
 use Rattle.lines.proofs.Got.{added_no, added_done}
 use Rattle.lines.proofs.Flat.{sets_append, spans_more, values_more}

@@ -23,7 +23,6 @@ plain r =
       function_end = 0;
       values = 0;
       assets = 0;
-      numbers = padded (pos 0) 256 [];
     }
 
 unfoldable pub line_of : Asked → Line
@@ -40,8 +39,15 @@ line_of (call c) =
       function_end = c.names.function.end;
       values = length c.lists.values;
       assets = length c.lists.assets;
-      numbers = padded (pos 0) 256 (c.lists.values ++ c.lists.assets);
     }
+
+-- a call's values and then its assets; no other line has any
+abbrev pub numbers_of : Asked → List ℤ
+numbers_of (refused q) = []
+numbers_of tick = []
+numbers_of (jump T) = []
+numbers_of (agreement ps) = []
+numbers_of (call c) = c.lists.values ++ c.lists.assets
 
 -- ---- an agreement's parts
 

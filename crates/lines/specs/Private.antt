@@ -1,11 +1,11 @@
 -- What private functions answer: serves their contracts only.
-use Rattle.std.specs.Prelude.{ℕ, ◌+◌, ◌*◌, ◌≡◌, Bool, true, false, List, [], ◌∷◌, length, ℤ, neg_ℤ, Option, Some, None}
+use Rattle.std.specs.Prelude.{ℕ, ◌+◌, ◌*◌, ◌≡◌, Bool, true, false, List, [], ◌∷◌, length, ℤ, pos, neg_ℤ, Option, Some, None}
 use Rattle.std.proofs.lemmas.List.Edits.{sets}
 use Rattle.laws.specs.Choice.{pick}
 use Rattle.numbers.specs.Numbers.{within}
 use Rattle.lines.specs.Lines as lines
 use Rattle.lines.specs.Lines.{Part, Asked, Parsed, done, no}
-use Rattle.lines.specs.Answers.{line_of, verb_number, spans_of, values_of}
+use Rattle.lines.specs.Answers.{padded, line_of, numbers_of, verb_number, spans_of, values_of}
 use Rattle.lines.specs.declared.Request.{Request}
 use Rattle.lines.specs.declared.Agreement.{Agreement}
 use Rattle.lines.specs.declared.Span.{Span}
@@ -14,7 +14,8 @@ use Rattle.lines.specs.declared.Verb.{Verb}
 use Rattle.lines.specs.declared.Verb.TheVariants as verb
 use Rattle.lines.specs.declared.Field.{Field}
 use Rattle.lines.specs.declared.Names.{Names}
-use Rattle.lines.specs.declared.Integers.{Integers}
+use Rattle.lines.specs.declared.Integers as declared
+use Rattle.lines.specs.declared.Line.{Line}
 
 -- ---- what a parser gave
 
@@ -83,7 +84,24 @@ abbrev pub sign_of : Bool → ℤ → ℤ
 sign_of true z = neg_ℤ z
 sign_of false z = z
 
+-- a call's answer and its integers; after a no what was lent is free
+abbrev pub CallIs : Parsed Asked → Option Line → List ℤ → Type 0
+CallIs (done a n) r new = (r ≡ Some (line_of a)) × (new ≡ padded (pos 0) 256 (numbers_of a))
+CallIs no r new = r ≡ None
+
 -- ---- what was read so far
+
+-- so many integers, in a list
+pub record Integers : Type 0 where
+  pub count : ℕ
+  pub all : List ℤ
+
+abbrev pub integers_in : declared.Integers → Integers
+integers_in x = record { count = x.count; all = x.all.now }
+
+-- it is the same list
+abbrev pub SameList : declared.Integers → declared.Integers → Type 0
+SameList a b = b.all.ghost_name ≡ a.all.ghost_name
 
 -- integers more
 abbrev pub with_integers : Integers → List ℤ → Integers

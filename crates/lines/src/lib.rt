@@ -6,8 +6,8 @@ ghost use Rattle.laws.specs.Bytes.{same_bytes};
 ghost use Rattle.words.specs.Words.{spelled};
 ghost use Rattle.tokens.specs.Tokens.{between};
 ghost use Rattle.lines.specs.Lines.{asked, skipped, mark, end, name, digits, integer, verb, field, list, items, names, part, parts, jump_end, tick_line, call_line};
-ghost use Rattle.lines.specs.Answers.{plain, line_of, agreement_of, parts_of};
-ghost use Rattle.lines.specs.Private.{place_of, is_done, given, read_of, span_in, sign_of, ranged, verb_in, verb_word, field_in, field_from, request_in, names_in, Added, with_integers, with_fields, with_head, with_part};
+ghost use Rattle.lines.specs.Answers.{padded, plain, line_of, numbers_of, agreement_of, parts_of};
+ghost use Rattle.lines.specs.Private.{place_of, is_done, given, read_of, span_in, sign_of, ranged, verb_in, verb_word, field_in, field_from, request_in, names_in, Added, CallIs, integers_in, SameList, with_integers, with_fields, with_head, with_part};
 
 use questions::Question;
 
@@ -22,7 +22,9 @@ pub enum Request {
     Refused(Question),
 }
 
-// Kept: a call's fields stand beside the request, so that one struct is written in place; inside `Request::Call` each request would be as large.
+// Kept: (b) a call's numbers stand in a list that is lent to `read`. With them in here a desk took 263,259,701 instructions for the mixed
+// session of session-cost at level 5 and 176,242,978 without (two builds without proof of one tree): the room of an `Option<Line>`, 2,112
+// bytes then, is cleared at each line.
 #[derive(Clone, Copy)]
 pub struct Line {
     pub request: Request,
@@ -33,8 +35,6 @@ pub struct Line {
     pub function_end: usize,
     pub values: usize,
     pub assets: usize,
-    // The values, then the assets, then zeros. A line has fewer than 256.
-    pub numbers: [i64; Line::NUMBERS],
 }
 
 impl Line {
@@ -45,7 +45,8 @@ impl Line {
 }
 
 // The parts of an agreement; nothing for any other line. A line has at most 64 parts and 85 fields.
-// Kept: fixed memory, and `agreements::agree_on` takes the numbers as lent slices.
+// Kept: (a) a library has no heap, so each list has room for the most that a line can hold, and a count says how much is taken; three lists
+// of numbers, since the public `agreements::agree_on` takes them as slices of numbers.
 #[derive(Clone, Copy)]
 pub struct Agreement {
     pub parts: usize,
@@ -103,11 +104,11 @@ struct Names {
     function: Span,
 }
 
-// A call's integers, so many, then zeros.
-#[derive(Clone, Copy)]
-struct Integers {
+// A call's integers, so many so far, in a lent list.
+#[derive(Drop)]
+struct Integers<'a> {
     count: usize,
-    all: [i64; Line::NUMBERS],
+    all: &'a mut [i64; Line::NUMBERS],
 }
 
 // ---- tokens
@@ -291,16 +292,19 @@ fn call_names(line: &[u8]) -> Option<Names>
 // One integer more; without room it is counted alone.
 fn add_integer(out: &mut Integers, z: i64)
     requires { out.old.count < 2 ^ 63 }
-    ensures { out.new ≡ with_integers out.old (z ∷ []) }
+    ensures value { integers_in out.new ≡ with_integers (integers_in out.old) (z ∷ []) }
+    ensures same_list { SameList out.old out.new }
 {
-    items::set(&mut out.all, out.count, z);
-    out.count += 1;
+    let at = out.count;
+    items::set(out.all, at, z);
+    out.count = at + 1;
 }
 
 // One integer or more with commas between them, then the closing mark. Each takes a byte, so as many turns as the line has are enough.
 fn integers_from(line: &[u8], at: usize, close: &[u8], out: &mut Integers) -> Option<usize>
     requires { (out.old.count ≤ at) × (0 < length close.now) }
-    ensures { Added (with_integers out.old) (items line.now (integer line.now) (44 ∷ []) (mark line.now close.now) (length line.now) at) result out.new }
+    ensures value { Added (with_integers (integers_in out.old)) (items line.now (integer line.now) (44 ∷ []) (mark line.now close.now) (length line.now) at) result (integers_in out.new) }
+    ensures same_list { SameList out.old out.new }
 {
     let mut i = at;
     for turn in 0..line.len() {
@@ -323,7 +327,8 @@ fn integer_list(
     out: &mut Integers,
 ) -> Option<usize>
     requires { (out.old.count ≤ at) × (0 < length opening.now) × (0 < length close.now) }
-    ensures { Added (with_integers out.old) (list line.now opening.now (integer line.now) close.now at) result out.new }
+    ensures value { Added (with_integers (integers_in out.old)) (list line.now opening.now (integer line.now) close.now at) result (integers_in out.new) }
+    ensures same_list { SameList out.old out.new }
 {
     let i = mark(line, at, opening)?;
     let Some(end) = mark(line, i, close) else {
@@ -332,15 +337,18 @@ fn integer_list(
     Some(end)
 }
 
-// A call: its names, its two lists and the line's end.
-fn call_line(line: &[u8]) -> Option<Line>
-    requires { length line.now ≤ 512 }
-    ensures { result ≡ given line_of (call_line line.now 0) }
+// A call: its names, its two lists, whose integers are stored into the lent list of zeros, and the line's end.
+// Kept: (d) this, `part`, `parts` and `other` require a short line, which `read` and `agreement_of` test. A type for a short line would be
+// taken apart ten times in these, at each call of what reads any line.
+fn call_line(line: &[u8], numbers: &mut [i64; Line::NUMBERS]) -> Option<Line>
+    requires few { length line.now ≤ 512 }
+    requires zeros { numbers.old ≡ padded (pos 0) 256 [] }
+    ensures { CallIs (call_line line.now 0) result numbers.new }
 {
     let names = call_names(line)?;
     let mut read = Integers {
         count: 0,
-        all: [0; Line::NUMBERS],
+        all: numbers,
     };
     let i = integer_list(line, names.function.end, b"(", b")", &mut read)?;
     let values = read.count;
@@ -356,7 +364,6 @@ fn call_line(line: &[u8]) -> Option<Line>
         function_end: names.function.end,
         values,
         assets: read.count - values,
-        numbers: read.all,
     })
 }
 
@@ -374,7 +381,9 @@ fn add_field(out: &mut Agreement, field: Field)
 }
 
 // One field or more with commas between them, then `]`.
-// Kept: this loop, `integers_from` and `parts` read other items, add them elsewhere and close otherwise; one loop would take a closure for each.
+// Kept: (d) this, `field_list` and `part` take a line, a place and what is filled: a struct of line and agreement would be taken apart at each
+// call of `name`, `mark` and `verb_at`, which fill nothing. This loop, `integers_from` and `parts` read other items, add them elsewhere and
+// close otherwise: one loop for them would take a closure for each of the three.
 fn fields_from(line: &[u8], at: usize, out: &mut Agreement) -> Option<usize>
     requires { out.old.fields ≤ at }
     ensures { Added (with_fields out.old) (items line.now (field line.now) (44 ∷ []) (mark line.now (93 ∷ [])) (length line.now) at) result out.new }
@@ -489,11 +498,12 @@ fn plain(request: Request) -> Line
         function_end: 0,
         values: 0,
         assets: 0,
-        numbers: [0; Line::NUMBERS],
     }
 }
 
-// A line that is no tick, no jump and no call. Apart, since room for an agreement's parts is cleared at the call of what has it.
+// A line that is no tick, no jump and no call.
+// Kept: (b) apart from `read`, since the room for an agreement's parts is cleared at each call of the function that has it: with this in
+// `read` a desk took 236,566,377 instructions for the mixed session of session-cost at level 5, apart 155,267,204 (two builds without proof).
 #[inline(never)]
 fn other(line: &[u8]) -> Line
     requires few { length line.now ≤ 512 }
@@ -508,17 +518,20 @@ fn other(line: &[u8]) -> Line
 }
 
 // What a line asks for.
-pub fn read(line: &[u8]) -> Line
-    ensures { result ≡ line_of (asked line.now) }
+pub fn read(line: &[u8], numbers: &mut [i64; Line::NUMBERS]) -> Line
+    ensures value { result ≡ line_of (asked line.now) }
+    ensures numbers_after { numbers.new ≡ padded (pos 0) 256 (numbers_of (asked line.now)) }
 {
+    *numbers = [0; Line::NUMBERS];
     if Line::BYTES < line.len() {
         return plain(Request::Refused(Question::LineLength));
     }
     if let Some(request) = time_line(line) {
         return plain(request);
     }
-    if let Some(call) = call_line(line) {
+    if let Some(call) = call_line(line, numbers) {
         return call;
     }
+    *numbers = [0; Line::NUMBERS];
     other(line)
 }

@@ -16,7 +16,7 @@ use Rattle.contract.specs.Tree.{Contract}
 use Rattle.contract.specs.Decode.{contract_of}
 use Rattle.contract.specs.Check.{passes}
 use Rattle.state.specs.declared.State.{State}
-use Rattle.std.specs.Prelude.{Option, Some, None}
+use Rattle.std.specs.Prelude.{Option, Some, None, IfSome}
 use Rattle.state.specs.States.{state_ok, due_in}
 use Rattle.statements.specs.declared.Label.{Label}
 use Rattle.statements.specs.Running.{labels_from}
@@ -26,41 +26,49 @@ use Rattle.outcomes.specs.declared.Stepped.{Stepped}
 use Rattle.outcomes.specs.Outcomes.{no_labels}
 use Rattle.machine.specs.declared.Reply.{Reply}
 use Rattle.machine.specs.declared.Next.{Next}
+use Rattle.machine.specs.declared.Next.TheVariants as next
 use Rattle.machine.specs.declared.Played.{Played}
-use Rattle.machine.specs.Steps.{fired}
 use Rattle.machine.specs.Sessions.{Said, said, heard, end_of_line, Turn, takes, wait, turn_by_due, turn_at, Session, here, before, on_turn, session_for, session, not_played, played, reports_of}
-use Rattle.machine.specs.Private.{first_no, reply_of, taken_by, taken, TurnIs, stepped, waits, PlayedIs}
+use Rattle.machine.specs.Private.{first_no, reply_of, taken_by, taken, said_of, turn_of, EndsWithin, PlayedIs}
 use Rattle.step_reports.specs.Reports.{report_of, label_reports, told as lines_told, room_in, has_room, step_reports}
 use Rattle.step_reports.proofs.Reports.{Told, told_none, told_more, numbers_kept, integers_kept, sent_length, words_told}
 use Rattle.questions.specs.declared.Question.{Question}
 use Rattle.machine.proofs.Gates.{first_of, stops, goes}
 use Rattle.machine.proofs.Pendings.{Slotted, slotted_fired, slotted_taken, labels_fired, labels_taken, blank_fired, blank_taken}
 
--- ---- how a turn comes out
+-- ---- what a turn takes up
 
-module _ (c : Contract) (bytes : List ℕ) (s : State) (at : ℕ) (labels : List Label) (came : Reply) where
-  pub turn_fired : (k : ℕ) → due_in c s ≡ Some k → came ≡ reply_of (fired c s) → labels ≡ (fired c s).labels → TurnIs c s labels (Some (record { at = at; came = came })) (turn_at c bytes s at)
+module _ (c : Contract) (bytes : List ℕ) (s : State) (at : ℕ) where
+  pub turn_fires : {d : Option ℕ} (k : ℕ) → d ≡ due_in c s → d ≡ Some k → turn_at c bytes s at ≡ turn_of bytes at (Some next.Event)
   unfolding turn_at
-  turn_fired k e a b =
-      subst (TurnIs c s labels (Some (record { at = at; came = came }))) (sym (ap (turn_by_due bytes at) e)) (stepped refl a b)
+  turn_fires k f e = ap (turn_by_due bytes at) (sym f ∙ e)
 
-  module _ (end : ℕ) (e : due_in c s ≡ None) (f : end ≡ end_of_line bytes at) where
-    pub turn_taken : (line : List ℕ) → line ≡ between bytes at end → end < length bytes → came ≡ reply_of (taken c s line) → labels ≡ (taken c s line).labels → TurnIs c s labels (Some (record { at = end + 1; came = came })) (turn_at c bytes s at)
-    unfolding turn_at taken_by
-    turn_taken line g h a b =
-        let w : line ≡ between bytes at (end_of_line bytes at) = g ∙ ap (between bytes at) f in
-        let n : end + 1 ≡ suc (end_of_line bytes at) = omega arith in
+  module _ {d : Option ℕ} (f : d ≡ due_in c s) (e : d ≡ None) (end : ℕ) (g : end ≡ end_of_line bytes at) where
+    pub turn_reads : end < length bytes → turn_at c bytes s at ≡ turn_of bytes at (Some (next.Line end))
+    unfolding turn_at
+    turn_reads h =
         let l : end_of_line bytes at < length bytes = omega arith in
-        subst (TurnIs c s labels (Some (record { at = end + 1; came = came })))
-        (sym (ap (turn_by_due bytes at) e ∙ pick_true _ _ _ (lt-ltb _ _ l)))
-        (stepped n (a ∙ ap (λ (x : List ℕ). reply_of (taken c s x)) w) (b ∙ ap (λ (x : List ℕ). (taken c s x).labels) w))
+        ap (turn_by_due bytes at) (sym f ∙ e)
+        ∙ pick_true _ _ _ (lt-ltb _ _ l)
+        ∙ (λ i. takes (said (between bytes at (sym g i))) (suc (sym g i)))
 
-pub turn_waits : (c : Contract) (bytes : List ℕ) (s : State) (at : ℕ) (labels : List Label) (end : ℕ) → due_in c s ≡ None → end ≡ end_of_line bytes at
-    → length bytes ≤ end → TurnIs c s labels None (turn_at c bytes s at)
-unfolding turn_at
-turn_waits c bytes s at labels end e f h =
-    let l : length bytes ≤ end_of_line bytes at = omega arith in
-    subst (TurnIs c s labels None) (sym (ap (turn_by_due bytes at) e ∙ pick_false _ _ _ (le-ltb _ _ l))) waits
+    pub turn_waits : length bytes ≤ end → turn_at c bytes s at ≡ turn_of bytes at None
+    unfolding turn_at
+    turn_waits h =
+        let l : length bytes ≤ end_of_line bytes at = omega arith in
+        ap (turn_by_due bytes at) (sym f ∙ e) ∙ pick_false _ _ _ (le-ltb _ _ l)
+
+-- a line is heard as it is taken
+pub line_heard : (c : Contract) (s : State) (bytes : List ℕ) (at end : ℕ) {line : List ℕ} {n : Next} → line ≡ between bytes at end → n ≡ next.Line end → taken c s line ≡ heard c s (said_of bytes at n)
+unfolding taken_by
+line_heard c s bytes at end e f = ap (taken c s) e ∙ sym (ap (λ (x : Next). heard c s (said_of bytes at x)) f)
+
+pub some_within : (size : ℕ) (n : Next) {r : Option Next} → IfSome r (λ x. EndsWithin size x) → r ≡ Some n → EndsWithin size n
+some_within size n h e = subst (λ (r : Option Next). IfSome r (λ x. EndsWithin size x)) e h
+
+pub within_more : (a b : ℕ) (n : Next) → EndsWithin a n → a ≤ b → EndsWithin b n
+within_more a b next.Event h l = tt
+within_more a b (next.Line end) h l = omega arith
 
 -- ---- turns
 
@@ -83,22 +91,12 @@ module _ (c : Contract) (s : State) where
     unfolding turn_at
     kept = kept_by (due_in c s)
 
-  -- a turn that took something up
-  pub record Made (r : Next) (labels : List Label) (turn : Turn) : Type 0 where
+  -- a turn that took something up: where the next line starts, the step and its labels
+  pub record Made (at : ℕ) (came : Reply) (labels : List Label) (turn : Turn) : Type 0 where
     pub taken_up : Said
-    pub turned : turn ≡ takes taken_up r.at
-    pub came : r.came ≡ reply_of (heard c s taken_up)
+    pub turned : turn ≡ takes taken_up at
+    pub came_so : came ≡ reply_of (heard c s taken_up)
     pub labelled : labels ≡ (heard c s taken_up).labels
-
-  made : {r : Option Next} {labels : List Label} {turn : Turn} (m : Next) → TurnIs c s labels r turn → r ≡ Some m → Made m labels turn
-  made m (stepped {r} {x} {at} b d e) h =
-      let same : r ≡ m = cc in
-      record { taken_up = x; turned = ap (takes x) (sym b ∙ ap (λ (z : Next). z.at) same); came = sym (ap (λ (z : Next). z.came) same) ∙ d; labelled = e }
-  made m waits h = let z : ◌≡◌ {A = ℕ} 0 1 = cc in absurd (omega arith)
-
-  waited : {r : Option Next} {labels : List Label} {turn : Turn} → TurnIs c s labels r turn → r ≡ None → turn ≡ wait
-  waited (stepped b d e) h = let z : ◌≡◌ {A = ℕ} 0 1 = cc in absurd (omega arith)
-  waited waits h = refl
 
 -- ---- a session from its turns
 
@@ -172,16 +170,15 @@ module _ {c : Contract} {bytes : List ℕ} {room : ℕ} {numbers : List ℕ} {in
     pub ended_full : room - n < 65 → PlayedIs e (record { question = None; state = s; used = at; many = n }) numbers integers told values
     ended_full h = ended (g.same ∙ ap (before g.so) (session_full (heard c) c bytes (room - n) s at g.turns h))
 
-    pub ended_wait : (r : Option Next) (labels : List Label) → TurnIs c s labels r (turn_at c bytes s at) → r ≡ None → PlayedIs e (record { question = None; state = s; used = at; many = n }) numbers integers told values
-    ended_wait r labels t h =
-        ended (g.same ∙ ap (before g.so) (session_wait (heard c) c bytes (room - n) s at g.turns (waited c s t h)))
+    pub ended_wait : turn_at c bytes s at ≡ wait → PlayedIs e (record { question = None; state = s; used = at; many = n }) numbers integers told values
+    ended_wait h =
+        ended (g.same ∙ ap (before g.so) (session_wait (heard c) c bytes (room - n) s at g.turns h))
 
     -- a turn that sent no label left none
-    pub left_blank : (o : Option Next) (r : Next) (labels : List Label) → TurnIs c s labels o (turn_at c bytes s at) → o ≡ Some r → r.came.count ≡ 0 → labels ≡ no_labels
-    left_blank o r labels turn h z =
-        let w = made c s r turn h in
+    pub left_blank : {next : ℕ} {r : Reply} {labels : List Label} → Made c s next r labels (turn_at c bytes s at) → r.count ≡ 0 → labels ≡ no_labels
+    left_blank {next} {r} {labels} w z =
         let k = subst (Kept c s) w.turned (kept c s bytes at g.slotted) in
-        w.labelled ∙ k.2 (sym (ap (λ (x : Reply). x.count) w.came) ∙ z)
+        w.labelled ∙ k.2 (sym (ap (λ (x : Reply). x.count) w.came_so) ∙ z)
 
     -- there is room for the result lines of a step
     module _ (enough : 65 ≤ room - n) (whole : room ≡ room_in (length numbers) (length integers)) where
@@ -194,25 +191,24 @@ module _ {c : Contract} {bytes : List ℕ} {room : ℕ} {numbers : List ℕ} {in
       pub goes_up : (k m : ℕ) → m ≡ pick (has_room told values n) (n + 1 + k) n → room - m < room - n
       goes_up k m e = let d : m ≡ n + 1 + k = e ∙ pick_true _ _ _ fit in omega arith
 
-      pub going_on : (p : Option Next) (r : Next) (ws : List ℤ) → TurnIs c s (labels_from ws) p (turn_at c bytes s at) → p ≡ Some r
+      pub going_on : {next : ℕ} {r : Reply} (ws : List ℤ) → Made c s next r (labels_from ws) (turn_at c bytes s at)
           → {m : ℕ} {more : List ℕ} {others : List ℤ}
-          → m ≡ pick (has_room told values n) (n + 1 + min r.came.count 64) n
-          → more ≡ pick (has_room told values n) (sets told (4 * n) (coded_all (replies_of r.came ws))) told
-          → others ≡ pick (has_room told values n) (sets values n (integers_of (replies_of r.came ws))) values
-          → Going c bytes room e numbers integers more others r.came.state r.at m
+          → m ≡ pick (has_room told values n) (n + 1 + min r.count 64) n
+          → more ≡ pick (has_room told values n) (sets told (4 * n) (coded_all (replies_of r ws))) told
+          → others ≡ pick (has_room told values n) (sets values n (integers_of (replies_of r ws))) values
+          → Going c bytes room e numbers integers more others r.state next m
       unfolding lines_told
-      going_on p r ws turn h {m} {more} {others} up a b =
-          let w = made c s r turn h in
+      going_on {next} {r} ws w {m} {more} {others} up a b =
           let t : Stepped = heard c s w.taken_up in
           let k = subst (Kept c s) w.turned (kept c s bytes at g.slotted) in
           let l : length (labels_from ws) ≡ 64 = ap length w.labelled ∙ k.0 in
-          let f : replies_of r.came ws ≡ lines_told t =
-          ap (λ (z : List Report). report_of r.came.outcome r.came.state.state r.came.state.clock ∷ z) (words_told r.came.count ws l)
-          ∙ (λ i. report_of (w.came i).outcome (w.came i).state.state (w.came i).state.clock ∷ label_reports (take (w.came i).count (w.labelled i))) in
+          let f : replies_of r ws ≡ lines_told t =
+          ap (λ (z : List Report). report_of r.outcome r.state.state r.state.clock ∷ z) (words_told r.count ws l)
+          ∙ (λ i. report_of (w.came_so i).outcome (w.came_so i).state.state (w.came_so i).state.clock ∷ label_reports (take (w.came_so i).count (w.labelled i))) in
           let y : Told told values n (lines_told t) more others =
           subst (λ (z : List Report). Told told values n z more others) f (record { numbers_after = a ∙ pick_true _ _ _ fit; integers_after = b ∙ pick_true _ _ _ fit }) in
-          let len : length (lines_told t) ≡ suc (min r.came.count 64) = ap length (sym f) ∙ ap suc (sent_length (min r.came.count 64) ws) in
-          let d : m ≡ n + 1 + min r.came.count 64 = up ∙ pick_true _ _ _ fit in
+          let len : length (lines_told t) ≡ suc (min r.count 64) = ap length (sym f) ∙ ap suc (sent_length (min r.count 64) ws) in
+          let d : m ≡ n + 1 + min r.count 64 = up ∙ pick_true _ _ _ fit in
           let i : 0 + length g.so ≡ n = omega (arith, g.counted) in
           let j : room - n - length (lines_told t) ≡ room - m = omega arith in
           let o : g.turns ≡ suc (g.turns - 1) = omega (arith, g.enough) in
@@ -224,12 +220,12 @@ module _ {c : Contract} {bytes : List ℕ} {room : ℕ} {numbers : List ℕ} {in
             enough = omega (arith, g.enough);
             same =
                 g.same
-                ∙ ap (before g.so) (session_step (heard c) c bytes (room - n) s at g.turns (g.turns - 1) w.taken_up r.at o enough w.turned)
+                ∙ ap (before g.so) (session_step (heard c) c bytes (room - n) s at g.turns (g.turns - 1) w.taken_up next o enough w.turned)
                 ∙ before_before g.so (lines_told t) _
-                ∙ ap (λ x. before (g.so ++ lines_told t) (session_for (g.turns - 1) (heard c) c bytes x t.state r.at)) j
-                ∙ ap (λ (x : Reply). before (g.so ++ lines_told t) (session_for (g.turns - 1) (heard c) c bytes (room - m) x.state r.at)) (sym w.came);
+                ∙ ap (λ x. before (g.so ++ lines_told t) (session_for (g.turns - 1) (heard c) c bytes x t.state next)) j
+                ∙ ap (λ (x : Reply). before (g.so ++ lines_told t) (session_for (g.turns - 1) (heard c) c bytes (room - m) x.state next)) (sym w.came_so);
             written = told_more g.written (sym i) y;
-            slotted = subst (λ (x : Reply). Slotted x.state) (sym w.came) k.1;
+            slotted = subst (λ (x : Reply). Slotted x.state) (sym w.came_so) k.1;
           }
 
 -- ---- the first questions of a session

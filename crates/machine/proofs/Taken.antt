@@ -24,11 +24,10 @@ use Rattle.std.specs.Prelude.{Option, Some, None}
 use Rattle.state.specs.States.{due_in}
 use Rattle.lines.specs.Lines.{Field, Asked, set, ok}
 use Rattle.lines.specs.Lines as lines
-use Rattle.lines.specs.Answers.{verb_number, padded, line_of, agreement_of, parts_of, heads_of, spans_of, values_of, fields_of}
+use Rattle.lines.specs.Answers.{verb_number, padded, line_of, numbers_of, agreement_of, parts_of, heads_of, spans_of, values_of, fields_of}
 use Rattle.lines.specs.declared.Line.{Line}
 use Rattle.lines.specs.declared.Agreement.{Agreement}
 use Rattle.lines.specs.declared.Request.TheVariants as request
-use Rattle.lines.specs.contracts.Line as line
 use Rattle.lines.specs.contracts.Agreement as agreement
 use Rattle.lines.proofs.Flat.{spans_append, values_append, spans_length, values_length, heads_length}
 use Rattle.lines.proofs.Told.{told_refused, told_tick, told_jump, told_call, told_agreement, padded_room, padded_front, padded_first, padded_second}
@@ -42,9 +41,6 @@ use Rattle.questions.specs.declared.Question.{Question}
 use Rattle.questions.specs.declared.Question.TheVariants as ask
 
 -- ---- the lengths of the arrays in structs that are lent by value
-
-pub numbers_length : (r : Line) (vs : List Val) → Is line.the_row r vs → length r.numbers ≡ 256
-numbers_length r vs g = g.1.1.1.1.1.1.1.1.1.0.1.0.1
 
 pub record Arrays (a : Agreement) : Type 0 where
   pub heads : length a.heads ≡ 256
@@ -186,11 +182,12 @@ module _ (c : Contract) (s : State) (line : List ℕ) where
 
   -- ---- a call
 
-  pub record CallRead (a : Asked) (r : Line) : Type 0 where
+  -- what was read of a call, and its integers
+  pub record CallRead (a : Asked) (r : Line) (zs : List ℤ) : Type 0 where
     pub room : r.values + r.assets ≤ 256
-    pub does : called_by c s (between line r.party_start r.party_end) (between line r.function_start r.function_end) (take r.values r.numbers) (take r.assets (drop r.values r.numbers)) ≡ taken_by c s line a
+    pub does : called_by c s (between line r.party_start r.party_end) (between line r.function_start r.function_end) (take r.values zs) (take r.assets (drop r.values zs)) ≡ taken_by c s line a
 
-  call_read : (k : lines.Call) → length (padded (pos 0) 256 (k.lists.values ++ k.lists.assets)) ≡ 256 → CallRead (lines.call k) (line_of (lines.call k))
+  call_read : (k : lines.Call) → length (padded (pos 0) 256 (k.lists.values ++ k.lists.assets)) ≡ 256 → CallRead (lines.call k) (line_of (lines.call k)) (padded (pos 0) 256 (k.lists.values ++ k.lists.assets))
   unfolding line_of taken_by
   call_read k l =
       let vs = k.lists.values in
@@ -203,17 +200,16 @@ module _ (c : Contract) (s : State) (line : List ℕ) where
             ∙ ap (λ (x : List ℤ). called_by c s (name_in line n.party) (name_in line n.function) vs x) (padded_second (pos 0) 256 vs hs);
       }
 
-  numbers_of : (k : lines.Call) → (line_of (lines.call k)).numbers ≡ padded (pos 0) 256 (k.lists.values ++ k.lists.assets)
-  unfolding line_of
-  numbers_of k = refl
-
-  pub does_call : (a : Asked) (r : Line) → r ≡ line_of a → r.request ≡ request.Call → length r.numbers ≡ 256 → CallRead a r
-  does_call a r e f l =
-      let g : (line_of a).request ≡ request.Call = ap (λ (x : Line). x.request) (sym e) ∙ f in
-      let k = told_call a g in
+  pub does_call : (a : Asked) (r : Line) (zs : List ℤ) → r ≡ line_of a → r.request ≡ request.Call → zs ≡ padded (pos 0) 256 (numbers_of a) → length zs ≡ 256 → CallRead a r zs
+  does_call a r zs e f g l =
+      let h : (line_of a).request ≡ request.Call = ap (λ (x : Line). x.request) (sym e) ∙ f in
+      let k = told_call a h in
       let p : line_of (lines.call k.asks) ≡ r = sym (e ∙ ap line_of k.is) in
-      let m : length (padded (pos 0) 256 (k.asks.lists.values ++ k.asks.lists.assets)) ≡ 256 = ap length (sym (numbers_of k.asks)) ∙ ap (λ (x : Line). length x.numbers) p ∙ l in
-      subst (λ (x : Asked). CallRead x r) (sym k.is) (subst (CallRead (lines.call k.asks)) p (call_read k.asks m))
+      let z : zs ≡ padded (pos 0) 256 (k.asks.lists.values ++ k.asks.lists.assets) = g ∙ ap (λ (x : Asked). padded (pos 0) 256 (numbers_of x)) k.is in
+      let m : length (padded (pos 0) 256 (k.asks.lists.values ++ k.asks.lists.assets)) ≡ 256 = ap length (sym z) ∙ l in
+      subst (λ (x : Asked). CallRead x r zs) (sym k.is)
+      (subst (λ (x : Line). CallRead (lines.call k.asks) x zs) p
+      (subst (λ (x : List ℤ). CallRead (lines.call k.asks) (line_of (lines.call k.asks)) x) (sym z) (call_read k.asks m)))
 
   -- ---- an agreement
 

@@ -1,5 +1,5 @@
 -- What the parts of the code work out.
-use Rattle.std.specs.Prelude.{ℕ, ◌<◌, Bool, true, false, ◌≡◌, List, [], length, leb, ℤ, Option, Some, None}
+use Rattle.std.specs.Prelude.{ℕ, suc, ◌<◌, Bool, true, false, ◌≡◌, List, [], length, leb, ℤ, Option, Some, None}
 use Rattle.std.proofs.lemmas.List.Edits.{sets}
 use Rattle.laws.specs.Choice.{pick}
 use Rattle.contract.specs.Tree.{Block, Function, Event, Contract}
@@ -9,13 +9,13 @@ use Rattle.contract.specs.Check.{passes}
 use Rattle.lines.specs.Lines.{Asked, asked}
 use Rattle.state.specs.declared.State.{State}
 use Rattle.state.specs.States.{fresh_at, with_state, state_ok}
-use Rattle.statements.specs.declared.Label.{Label}
 use Rattle.statements.specs.declared.Work.{Work}
 use Rattle.statements.specs.Running.{memory_in, ran}
 use Rattle.outcomes.specs.declared.Rule.TheVariants.{EventMatch}
 use Rattle.outcomes.specs.Outcomes.{answered}
 use Rattle.holdings.specs.Holdings.{reached}
-use Rattle.machine.specs.Steps.{accepted, begun, unless_refused, schedule, with_scheduled, room_needed}
+use Rattle.tokens.specs.Tokens.{between}
+use Rattle.machine.specs.Steps.{firing, accepted, begun, unless_refused, schedule, with_scheduled, room_needed}
 use Rattle.machine.specs.declared.Handler.{Handler}
 use Rattle.outcomes.specs.declared.Outcome.{Outcome}
 use Rattle.outcomes.specs.declared.Outcome.TheVariants.{Accepted, Failed}
@@ -23,12 +23,13 @@ use Rattle.outcomes.specs.declared.Outcome.TheVariants as outcome
 use Rattle.outcomes.specs.declared.Stepped.{Stepped}
 use Rattle.machine.specs.declared.Reply.{Reply}
 use Rattle.machine.specs.declared.Next.{Next}
+use Rattle.machine.specs.declared.Next.TheVariants as next
 use Rattle.machine.specs.Steps.{Invocation, Chosen, chosen, unknown, choose, called}
 use Rattle.questions.specs.declared.Question.{Question}
 use Rattle.questions.specs.declared.Question.TheVariants as ask
 use Rattle.results.specs.Coded.{coded_all, integers_of}
 use Rattle.machine.specs.declared.Played.{Played}
-use Rattle.machine.specs.Sessions.{Said, said_by, heard, Turn, takes, wait, Session}
+use Rattle.machine.specs.Sessions.{Said, asks, said_by, said, heard, Turn, takes, wait, Session}
 
 -- the first question that every step asks and that is answered by no
 unfoldable pub first_no : List ℕ → ℕ → State → Option Question
@@ -61,10 +62,24 @@ taken_by c s line a = heard c s (said_by line a)
 abbrev pub taken : Contract → State → List ℕ → Stepped
 taken c s line = taken_by c s line (asked line)
 
--- a turn's answer in state s, with its labels beside it
-pub data TurnIs (c : Contract) (s : State) (labels : List Label) : Option Next → Turn → Type 0 where
-  stepped : {r : Next} {x : Said} {at : ℕ} → r.at ≡ at → r.came ≡ reply_of (heard c s x) → labels ≡ (heard c s x).labels → TurnIs c s labels (Some r) (takes x at)
-  waits : TurnIs c s labels None wait
+-- what is said by what is taken up from a place on, and where the next line starts after it
+abbrev pub said_of : List ℕ → ℕ → Next → Said
+said_of bytes at next.Event = asks firing
+said_of bytes at (next.Line end) = said (between bytes at end)
+
+abbrev pub place_after : ℕ → Next → ℕ
+place_after at next.Event = at
+place_after at (next.Line end) = suc end
+
+-- a turn, by what is taken up
+abbrev pub turn_of : List ℕ → ℕ → Option Next → Turn
+turn_of bytes at (Some n) = takes (said_of bytes at n) (place_after at n)
+turn_of bytes at None = wait
+
+-- its line, if it is one, ends before a place
+abbrev pub EndsWithin : ℕ → Next → Type 0
+EndsWithin size next.Event = Unit
+EndsWithin size (next.Line end) = end < size
 
 -- a session's answer, and its result lines as numbers
 pub record PlayedIs (e : Session) (r : Played) (numbers : List ℕ) (integers : List ℤ) (told : List ℕ) (values : List ℤ) : Type 0 where

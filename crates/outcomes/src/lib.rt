@@ -26,7 +26,7 @@ pub enum Outcome {
     Refused(Question),
 }
 
-// Kept: document 01 has the core fill an array of labels by value, and a refused step hand its state back: array and count, and one struct.
+// Kept: (a) document 01 has the core fill an array of labels by value, and a refused step hand its state back: array and count, and one struct.
 #[derive(Clone, Copy)]
 pub struct Stepped {
     pub outcome: Outcome,

@@ -1,7 +1,7 @@
 -- The loops that put the kept events in front: one turn, and the end. Assumes nothing.
 use mathlib.Core.Path.{◌≡◌, refl, sym, ap, subst, ◌∙◌}
 use mathlib.Core.Bool.{Bool, true, false}
-use mathlib.Core.List.{List, [], ◌∷◌, ◌++◌, append-nil}
+use mathlib.Core.List.{List, [], ◌∷◌, ◌++◌, append-nil, append_assoc}
 use Prim.Native.Nat.{ℕ, zero, suc, ◌+◌, ◌-◌, ◌<◌, ◌≤◌}
 use native.Mathlib.Numerals.{add-one}
 use native.Mathlib.Omega.{arith}
@@ -52,18 +52,14 @@ drop_repeated zero n x = let z : n ≡ n - 0 = omega arith in ap (λ (m : ℕ). 
 drop_repeated (suc k) zero x = let z : 0 ≡ 0 - suc k = omega arith in ap (λ (m : ℕ). repeated m x) z
 drop_repeated (suc k) (suc n) x = let z : n - k ≡ suc n - suc k = omega arith in drop_repeated k n x ∙ ap (λ (m : ℕ). repeated m x) z
 
-pub put_both : (n : ℕ) (a b x y : List Pending) → length a + length b ≤ n
-    → x ≡ take 0 (repeated n blank) ++ a ++ drop (0 + length a) (repeated n blank)
-    → y ≡ take (length a) x ++ b ++ drop (length a + length b) x
-    → y ≡ (a ++ b) ++ repeated (n - length (a ++ b)) blank
+-- two lists put, one after the other, over blank slots
+pub put_both : (n : ℕ) (a b x y : List Pending) → length a + length b ≤ n → x ≡ a → y ≡ b ++ drop (length b) (drop (length a) (repeated n blank))
+    → x ++ y ≡ (a ++ b) ++ repeated (n - length (a ++ b)) blank
 put_both n a b x y h e f =
-    let z : 0 + length a ≡ length a = omega arith in
-    let x' : x ≡ a ++ repeated (n - length a) blank = e ∙ ap (λ (k : ℕ). a ++ drop k (repeated n blank)) z ∙ ap (λ (l : List Pending). a ++ l) (drop_repeated (length a) n blank) in
     let k : n - length a - length b ≡ n - length (a ++ b) = simp length-append (omega arith) in
-    let front : take (length a) x ≡ a = ap (take (length a)) x' ∙ take-append_seam a _ in
-    let back : drop (length a + length b) x ≡ repeated (n - length (a ++ b)) blank =
-    ap (drop (length a + length b)) x' ∙ drop-append-add a _ (length b) ∙ drop_repeated (length b) (n - length a) blank ∙ ap (λ (m : ℕ). repeated m blank) k in
-    f ∙ (λ i. front i ++ b ++ back i)
+    let back : drop (length b) (drop (length a) (repeated n blank)) ≡ repeated (n - length (a ++ b)) blank =
+    ap (drop (length b)) (drop_repeated (length a) n blank) ∙ drop_repeated (length b) (n - length a) blank ∙ ap (λ (m : ℕ). repeated m blank) k in
+    (λ i. e i ++ (f ∙ ap (λ (l : List Pending). b ++ l) back) i) ∙ sym (append_assoc a b _)
 
 -- ---- one more of a list's first elements
 pub one_more : {A : Type 0} (l : List A) (i : ℕ) (d : A) → i < length l → take (i + 1) l ≡ take i l ++ (get_or l i d ∷ [])

@@ -26,7 +26,8 @@ const BLANK: Pending = Pending {
     time: 0,
 };
 
-// Kept: a state goes by value in fixed memory without heap, its columns in the narrowest types: arrays, and a count beside the last.
+// Kept: (a) a state goes by value in fixed memory without heap: arrays by column in the narrowest types, and how many slots are in use.
+// Callers hand in any such struct and question 4 judges it, so that `agreed` and the counts are no `Option` and no type that says less.
 #[derive(Clone, Copy)]
 pub struct State {
     // Whether the state name is not none, and its number; 0 where it is none.
@@ -277,12 +278,12 @@ pub fn first_due(table: &[u64], s: State) -> Option<usize>
 
 // ---- The pending events change.
 
-// Writes these pending events into the slots, from a place on.
-fn put(slots: &mut [Pending], at: usize, events: &[Pending])
-    requires { at + length events.now ≤ length slots.old }
-    ensures { slots.new ≡ take at slots.old ++ events.now ++ drop (at + length events.now) slots.old }
+// Writes these pending events into the first slots.
+fn put(slots: &mut [Pending], events: &[Pending])
+    requires { length events.now ≤ length slots.old }
+    ensures { slots.new ≡ events.now ++ drop (length events.now) slots.old }
 {
-    slots[at..at + events.len()].copy_from_slice(events);
+    slots[..events.len()].copy_from_slice(events);
 }
 
 // The state with these pending events, blank slots after them.
@@ -292,8 +293,9 @@ fn with_pending(s: State, first: &[Pending], then: &[Pending]) -> State
     ensures { result ≡ with_pending s (first.now ++ then.now) }
 {
     let mut events = [BLANK; State::PENDING];
-    put(&mut events, 0, first);
-    put(&mut events, first.len(), then);
+    let (front, rest) = events.split_at_mut(first.len());
+    front.copy_from_slice(first);
+    put(rest, then);
     let mut next = s;
     next.pending = first.len() + then.len();
     next.events = events;

@@ -3,20 +3,17 @@ use mathlib.Core.Path.{◌≡◌, refl, sym, ap, ◌∙◌}
 use mathlib.Core.Bool.{Bool, true, false}
 use mathlib.Core.List.{List}
 use Prim.Native.Nat.{ℕ, ◌-◌}
-use native.Mathlib.Omega.{arith}
 use lib.Dec.{eqb}
-use lib.IntN.{ℤ, pos, negsuc, nat_abs}
-use lib.Signed.{lt_z}
+use lib.IntN.{ℤ, pos, negsuc}
 use borrow.Author.Tests.{eq-eqb, ne_eqb}
 use Rattle.std.specs.Prelude.{Ok, Err}
 use Rattle.laws.specs.Choice.{pick}
 use Rattle.questions.specs.declared.Question.{Question}
 use Rattle.questions.specs.declared.Question.TheVariants as ask
-use Rattle.laws.proofs.Choice.{pick_true, pick_false, true_false}
+use Rattle.laws.proofs.Choice.{pick_true, pick_false}
 use Rattle.numbers.specs.declared.Value.{Value}
 use Rattle.numbers.specs.declared.Value.TheVariants.{Integer, Text}
 use Rattle.numbers.specs.Numbers.{Answer}
-use Rattle.numbers.proofs.Whole.{lt_true}
 use Rattle.contract.specs.Table.{kind_at, argument_at}
 use Rattle.contract.specs.Rows.{node_of}
 use Rattle.contract.specs.declared.Node.{Node}
@@ -25,32 +22,20 @@ use Rattle.contract.specs.Decode.{holder_of, holder_at, expression_at, value_mov
 use Rattle.evaluation.specs.Meaning.{value_of}
 use Rattle.statements.specs.declared.Work.{Work}
 use Rattle.statements.specs.Running.{memory_in, stopped, stored, sent, receiver, place, moved, paid, with_amount, performed}
-use Rattle.statements.specs.Private.{action_at, value_given, amount_given, answer_at}
+use Rattle.statements.specs.Private.{action_at, amount_in, value_given, amount_given, answer_at}
 
 -- ---- the amount
 
--- an integer that is not below 0
-pub natural_of : (z : ℤ) (n : ℕ) → lt_z z (pos 0) ≡ false → n ≡ nat_abs z → z ≡ pos n
-natural_of (pos m) n e q = ap pos (sym q)
-natural_of (negsuc m) n e q = true_false e
+module _ (w : Work) (f : ℕ → Work) where
+  amount_goes : (v : Value) (n : ℕ) (r : Work) → amount_in v ≡ Ok n → r ≡ f n → r ≡ with_amount w (Ok v) f
+  amount_goes (Text t) n r e h = absurd (cc)
+  amount_goes (Integer (pos m)) n r e h = let q : n ≡ m = cc in h ∙ ap f q
+  amount_goes (Integer (negsuc m)) n r e h = absurd (cc)
 
-pub is_natural : (v : Value) (z y : ℤ) (n : ℕ) → v ≡ Integer z → y ≡ z → lt_z y (pos 0) ≡ false → n ≡ nat_abs y → v ≡ Integer (pos n)
-is_natural v z y n e q l h = e ∙ ap Integer (sym q ∙ natural_of y n l h)
-
-below_zero : (z : ℤ) (w : Work) (f : ℕ → Work) → lt_z z (pos 0) ≡ true → stopped w ask.AmountSign ≡ with_amount w (Ok (Integer z)) f
-below_zero (pos n) w f e = absurd (omega (arith, lt_true (pos n) (pos 0) e))
-below_zero (negsuc n) w f e = refl
-
-module _ (w : Work) (f : ℕ → Work) (v : Value) where
-  pub text_stops : (n : ℕ) → v ≡ Text n → stopped w ask.OperandKind ≡ with_amount w (Ok v) f
-  text_stops n e = sym (ap (λ (x : Value). with_amount w (Ok x) f) e)
-
-  pub negative_stops : (z y : ℤ) → v ≡ Integer z → y ≡ z → lt_z y (pos 0) ≡ true → stopped w ask.AmountSign ≡ with_amount w (Ok v) f
-  negative_stops z y e q l =
-      below_zero y w f l ∙ (λ i. with_amount w (Ok (Integer (q i))) f) ∙ sym (ap (λ (x : Value). with_amount w (Ok x) f) e)
-
-  pub natural_goes : (n : ℕ) (r : Work) → v ≡ Integer (pos n) → r ≡ f n → r ≡ with_amount w (Ok v) f
-  natural_goes n r e h = h ∙ sym (ap (λ (x : Value). with_amount w (Ok x) f) e)
+  amount_stops : (v : Value) (q : Question) → amount_in v ≡ Err q → stopped w q ≡ with_amount w (Ok v) f
+  amount_stops (Text t) q e = let p : q ≡ ask.OperandKind = cc in ap (stopped w) p
+  amount_stops (Integer (pos m)) q e = absurd (cc)
+  amount_stops (Integer (negsuc m)) q e = let p : q ≡ ask.AmountSign = cc in ap (stopped w) p
 
 -- ---- where a value and an amount go, by the nodes
 
@@ -70,6 +55,19 @@ module _ (w : Work) (t : List ℕ) (k : ℕ) (a : Answer) where
       go : (b : Bool) → stopped w q ≡ pick b (stopped w q) (stopped w q)
       go true = refl
       go false = refl
+
+  pub amount_unfit : (x : Value) → a ≡ Ok x → (q : Question) → amount_in x ≡ Err q → stopped w q ≡ amount_given w t k a
+  unfolding amount_given pick
+  amount_unfit x e q s = go (eqb (kind_at t (k - 1)) 23) ∙ sym (ap (amount_given w t k) e)
+    where
+      i : ℕ
+      i = place (holder_at t (k - 2))
+
+      go : (b : Bool)
+          → stopped w q
+          ≡ pick b (with_amount w (Ok x) (paid w i (receiver (argument_at t (k - 1))))) (with_amount w (Ok x) (moved w i (place (holder_at t (k - 1)))))
+      go true = amount_stops w (paid w i (receiver (argument_at t (k - 1)))) x q s
+      go false = amount_stops w (moved w i (place (holder_at t (k - 1)))) x q s
 
   module _ (r : Work) (x : Value) (e : a ≡ Ok x) (target : Node) (et : target ≡ node_of t (k - 1)) where
     pub value_sent : (p : ℕ) → p ≡ receiver target.argument → target.kind ≡ 23 → r ≡ sent w p x → r ≡ value_given w t k a
@@ -92,20 +90,20 @@ module _ (w : Work) (t : List ℕ) (k : ℕ) (a : Answer) where
       from : i ≡ place (holder_at t (k - 2))
       from = ei ∙ (λ y. place (holder_of (es y).kind (es y).argument))
 
-      pub amount_paid : (p : ℕ) → p ≡ receiver target.argument → target.kind ≡ 23 → r ≡ with_amount w (Ok x) (paid w i p)
+      pub amount_paid : (n p : ℕ) → amount_in x ≡ Ok n → p ≡ receiver target.argument → target.kind ≡ 23 → r ≡ paid w i p n
           → r ≡ amount_given w t k a
       unfolding amount_given
-      amount_paid p ep q h =
-          h
+      amount_paid n p en ep q h =
+          amount_goes w (paid w i p) x n r en h
           ∙ (λ y. with_amount w (Ok x) (paid w (from y) ((ep ∙ (λ z. receiver (et z).argument)) y)))
           ∙ sym (pick_true _ _ _ (eq-eqb (kind_at t (k - 1)) 23 (sym (λ y. (et y).kind) ∙ q)))
           ∙ sym (ap (amount_given w t k) e)
 
-      pub amount_moved : (j : ℕ) → (target.kind ≡ 23 → ⊥) → j ≡ place (holder_of target.kind target.argument)
-          → r ≡ with_amount w (Ok x) (moved w i j) → r ≡ amount_given w t k a
+      pub amount_moved : (n j : ℕ) → amount_in x ≡ Ok n → (target.kind ≡ 23 → ⊥) → j ≡ place (holder_of target.kind target.argument)
+          → r ≡ moved w i j n → r ≡ amount_given w t k a
       unfolding amount_given
-      amount_moved j q ej h =
-          h
+      amount_moved n j en q ej h =
+          amount_goes w (moved w i j) x n r en h
           ∙ (λ y. with_amount w (Ok x) (moved w (from y) ((ej ∙ (λ z. place (holder_of (et z).kind (et z).argument))) y)))
           ∙ sym (pick_false _ _ _ (ne_eqb (kind_at t (k - 1)) 23 (λ p. q ((λ y. (et y).kind) ∙ p))))
           ∙ sym (ap (amount_given w t k) e)

@@ -7,7 +7,7 @@ use native.Mathlib.Omega.{arith}
 use lib.IntN.{ℤ}
 use lib.Dec.{eqb, ltb}
 use borrow.Author.Tests.{le-leb, lt-leb, le-ltb, eq-eqb, ne_eqb, eqb-true, eqb-false, ltb-false, leb-true}
-use Rattle.std.specs.Prelude.{Option, None, Some, is_none, Result, Ok, Err}
+use Rattle.std.specs.Prelude.{Option, None, Some, is_none, Ok, Err}
 use Rattle.laws.specs.Choice.{pick}
 use Rattle.questions.specs.declared.Question.{Question}
 use Rattle.questions.specs.declared.Question.TheVariants as ask
@@ -21,8 +21,7 @@ use Rattle.contract.specs.Decode.{block_between, condition_at}
 use Rattle.contract_laws.proofs.Levels.{block_step}
 use Rattle.evaluation.specs.Meaning.{truth_of}
 use Rattle.statements.specs.declared.Work.{Work}
-use Rattle.statements.specs.declared.Halt.{Halt}
-use Rattle.statements.specs.Running.{memory_in, stopped, onward, performed, by_truth, ran, sent_unless, Ended, end_of}
+use Rattle.statements.specs.Running.{memory_in, stopped, onward, performed, by_truth, ran, work_from}
 use Rattle.statements.specs.Private.{end_before, action_at, statement_at, branched, performed_at}
 
 -- the block before the statement at node k ends there or before
@@ -92,22 +91,23 @@ module _ (w : List ℕ) (from end : ℕ) (h : from < end) where
 
 -- ---- running it
 
--- an end with the lists of a work
-abbrev ended_by : Work → Result ℕ Halt → Ended
-ended_by x r = record { kinds = x.kinds; numbers = x.numbers; texts = x.texts; holdings = x.holdings; labels = x.labels; sent = r }
-
 -- before the first statement, which must start where the block does
-pub ran_none : (v : List ℤ) (c : ℕ) (x : Work) (w : List ℕ) (from end : ℕ) → end ≤ from → x.refusal ≡ None → (r : Result ℕ Halt)
-    → r ≡ pick (eqb end from) (Ok x.count) (Err (record { question = ask.TableCheck; count = x.count })) → ended_by x r ≡ end_of (ran v c x (block_between w from end))
+pub ran_none : (v : List ℤ) (c : ℕ) (x : Work) (w : List ℕ) (from end : ℕ) → end ≤ from → (o : Option Question)
+    → o ≡ pick (eqb end from) None (Some ask.TableCheck)
+    → work_from x.kinds x.numbers x.texts x.holdings x.labels x.count o ≡ ran v c (work_from x.kinds x.numbers x.texts x.holdings x.labels x.count None) (block_between w from end)
 unfolding ran
-ran_none v c x w from end h z r er = ap (ended_by x) er ∙ go (eqb end from) refl
+ran_none v c x w from end h o eo = ap ended eo ∙ go (eqb end from) refl
   where
-    go : (b : Bool) → eqb end from ≡ b → ended_by x (pick (eqb end from) (Ok x.count) (Err (record { question = ask.TableCheck; count = x.count }))) ≡ end_of (ran v c x (block_between w from end))
+    ended : Option Question → Work
+    ended o = work_from x.kinds x.numbers x.texts x.holdings x.labels x.count o
+
+    go : (b : Bool) → eqb end from ≡ b → ended (pick (eqb end from) None (Some ask.TableCheck)) ≡ ran v c (ended None) (block_between w from end)
     go true e =
-        ap (ended_by x) (pick_true _ _ _ e ∙ ap (λ (o : Option Question). sent_unless o x.count) (sym z))
-        ∙ sym (ap (λ b. end_of (ran v c x b)) (block_step w from end ∙ pick_true _ _ _ (le-leb end from h) ∙ pick_true _ _ _ e))
+        ap ended (pick_true _ _ _ e)
+        ∙ sym (ap (ran v c (ended None)) (block_step w from end ∙ pick_true _ _ _ (le-leb end from h) ∙ pick_true _ _ _ e))
     go false e =
-        ap (ended_by x) (pick_false _ _ _ e) ∙ sym (ap (λ b. end_of (ran v c x b)) (block_step w from end ∙ pick_true _ _ _ (le-leb end from h) ∙ pick_false _ _ _ e))
+        ap ended (pick_false _ _ _ e)
+        ∙ sym (ap (ran v c (ended None)) (block_step w from end ∙ pick_true _ _ _ (le-leb end from h) ∙ pick_false _ _ _ e))
 
 -- ---- where a statement ends
 

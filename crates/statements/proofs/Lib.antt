@@ -1,6 +1,5 @@
 pub mod Writes
 pub mod Moves
-pub mod Parted
 pub mod Actions
 pub mod Blocks
 pub mod Silent

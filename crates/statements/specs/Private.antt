@@ -1,5 +1,5 @@
 -- What the parts of the code work out: where blocks stand, and what a statement does with a value.
-use Rattle.std.specs.Prelude.{ℕ, suc, ◌-◌, Bool, false, List, [], get_or, set, eqb, leb, ltb, ℤ, pos, Option, None, Some}
+use Rattle.std.specs.Prelude.{ℕ, ◌≡◌, ◌-◌, Bool, false, List, eqb, leb, ltb, ℤ, pos, negsuc, Option, None, Result, Ok, Err}
 use Rattle.laws.specs.Choice.{pick}
 use Rattle.numbers.specs.declared.Value.{Value}
 use Rattle.numbers.specs.declared.Value.TheVariants.{Integer, Text}
@@ -11,9 +11,9 @@ use Rattle.contract.specs.Table.{kind_at, argument_at, size_at, party_kind, valu
 use Rattle.contract.specs.Decode.{holder_at, expression_at, condition_at, value_move_at, asset_move_at, whole_move_at, block_between}
 use Rattle.evaluation.specs.Memory.{Memory}
 use Rattle.evaluation.specs.Meaning.{value_of, truth_of}
-use Rattle.statements.specs.declared.Label.{Label}
 use Rattle.statements.specs.declared.Work.{Work}
-use Rattle.statements.specs.Running.{max_labels, memory_in, stored, sent, moved, paid, receiver, place, with_value, with_amount, performed, by_truth, ran, work_from}
+use Rattle.statements.specs.declared.Runner.{Runner}
+use Rattle.statements.specs.Running.{memory_in, stored, sent, moved, paid, receiver, place, with_value, with_amount, performed, by_truth, ran, work_in}
 
 -- where the block before the statement at node k ends
 unfoldable pub end_before : List ℕ → ℕ → ℕ
@@ -28,40 +28,33 @@ action_at w k =
     pick (eqb (kind_at w k) value_move_kind) (value_move_at w k)
     (pick (eqb (kind_at w k) asset_move_kind) (asset_move_at w k) (whole_move_at w k))
 
--- the kind of a value in a field and in a label, what a field holds of it, and its number in a label
-abbrev pub sort_of : Value → ℕ
-sort_of (Integer z) = 1
-sort_of (Text n) = 2
+-- what a runner has reached, with the question that refuses, if one does
+abbrev pub reached : Runner → Option Question → Work
+reached r o = work_in r.kinds.now r.numbers.now r.texts.now r.holdings.now r.labels.now r.count o
 
-abbrev pub number_of : Value → ℤ
-number_of (Integer z) = z
-number_of (Text n) = pos 0
+abbrev pub work_of : Runner → Work
+work_of r = reached r None
 
-abbrev pub text_of : Value → ℕ
-text_of (Integer z) = 0
-text_of (Text n) = n
+-- what its expressions and conditions are worked out in
+abbrev pub memory_of : Runner → Memory
+memory_of r = memory_in r.values.now r.clock (work_of r)
 
-abbrev pub amount_of : Value → ℤ
-amount_of (Integer z) = z
-amount_of (Text n) = pos n
+-- it has the same table and lists
+pub record SameLists (a b : Runner) : Type 0 where
+  pub table : b.table ≡ a.table
+  pub kinds : b.kinds.ghost_name ≡ a.kinds.ghost_name
+  pub numbers : b.numbers.ghost_name ≡ a.numbers.ghost_name
+  pub texts : b.texts.ghost_name ≡ a.texts.ghost_name
+  pub holdings : b.holdings.ghost_name ≡ a.holdings.ghost_name
+  pub labels : b.labels.ghost_name ≡ a.labels.ghost_name
+  pub values : b.values ≡ a.values
+  pub clock : b.clock ≡ a.clock
 
--- a label after the first n, and how many there are then
-unfoldable pub labels_with : List Label → ℕ → ℕ → ℕ → ℤ → List Label
-labels_with l n kind party value = pick (ltb n max_labels) (set l n (record { kind = kind; party = party; value = value })) l
-
-unfoldable pub count_with : ℕ → ℕ
-count_with n = pick (ltb n max_labels) (suc n) n
-
--- n taken from place i, and the question that refuses it
-unfoldable pub taken_from : List ℕ → ℕ → ℕ → List ℕ
-taken_from l i n = pick (ltb (get_or l i 0) n) l (set l i (get_or l i 0 - n))
-
-unfoldable pub taken_refusal : List ℕ → ℕ → ℕ → Option Question
-taken_refusal l i n = pick (ltb (get_or l i 0) n) (Some ask.AmountHeld) None
-
--- a work of which only the holdings and the refusal count
-abbrev pub only_holdings : List ℕ → Option Question → Work
-only_holdings l o = work_from [] [] [] l [] 0 o
+-- a value as an amount: an integer that is 0 or more
+abbrev pub amount_in : Value → Result ℕ Question
+amount_in (Text n) = Err ask.OperandKind
+amount_in (Integer (pos n)) = Ok n
+amount_in (Integer (negsuc n)) = Err ask.AmountSign
 
 -- E -> t at node k, with the answer of E
 unfoldable pub value_given : Work → List ℕ → ℕ → Answer → Work

@@ -23,6 +23,7 @@ use Rattle.outcomes.specs.declared.Outcome.{Outcome}
 use Rattle.outcomes.specs.declared.Outcome.TheVariants as outcome
 use Rattle.outcomes.specs.Outcomes.{no_label, label_at}
 use Rattle.outcomes.proofs.Labels.{label_at_lem}
+pub use Rattle.step_reports.specs.Private.{Told}
 use Rattle.step_reports.specs.Reports.{rule_number, report_of, label_report, label_reports, sent, step_reports, room_in, has_room}
 
 -- ---- stores after stores
@@ -72,11 +73,6 @@ integers_append : (a b : List Report) → integers_of (a ++ b) ≡ integers_of a
 unfolding integers_of
 integers_append [] b = refl
 integers_append (r ∷ a) b = ap (λ l. integer_of r ∷ l) (integers_append a b)
-
--- these reports stand from report n on, all else is as it was
-pub record Told (numbers : List ℕ) (integers : List ℤ) (n : ℕ) (rs : List Report) (told : List ℕ) (values : List ℤ) : Type 0 where
-  pub numbers_after : told ≡ sets numbers (4 * n) (coded_all rs)
-  pub integers_after : values ≡ sets integers n (integers_of rs)
 
 module _ {numbers : List ℕ} {integers : List ℤ} {n : ℕ} where
   pub told_none : Told numbers integers n [] numbers integers
@@ -168,16 +164,13 @@ words_told count ws h =
     sent_first (min count 64) ws (omega arith) ∙ ap label_reports (take_least (labels_from ws) count 64 (ltb count 64) refl h)
 
 -- what came of a step, and its labels after it
-module _ {numbers told more : List ℕ} {integers values others : List ℤ} {n m : ℕ} (o : Outcome) (state clock count : ℕ) (ws : List ℤ) where
-  pub step_told : m ≡ min count 64
-      → told ≡ sets numbers (4 * n) (coded (report_of o state clock))
-      → values ≡ sets integers n (integer_of (report_of o state clock) ∷ [])
-      → more ≡ sets told (4 * (n + 1)) (coded_all (sent m ws))
-      → others ≡ sets values (n + 1) (integers_of (sent m ws))
-      → Told numbers integers n (step_reports o state clock count ws) more others
-  step_told e a b p q =
-      let x : Told told values (n + 1) (sent m ws) more others = record { numbers_after = p; integers_after = q } in
-      subst (λ (k : ℕ). Told numbers integers n (report_of o state clock ∷ sent k ws) more others) e (told_more (told_one (report_of o state clock) told values a b) refl x)
+pub step_told : {numbers told more : List ℕ} {integers values others : List ℤ} {n m k : ℕ} (o : Outcome) (state clock count : ℕ) (ws : List ℤ)
+    → m ≡ min count 64 → k ≡ n + 1
+    → Told numbers integers n (report_of o state clock ∷ []) told values
+    → Told told values k (sent m ws) more others
+    → Told numbers integers n (step_reports o state clock count ws) more others
+step_told {numbers} {told} {more} {integers} {values} {others} {n} {m} {k} o state clock count ws e f x y =
+    subst (λ (j : ℕ). Told numbers integers n (report_of o state clock ∷ sent j ws) more others) e (told_more x f y)
 
 -- ---- whether result lines fit
 pub fits_not : (n room : ℕ) → room < 65 → false ≡ leb (n + 65) room
@@ -210,7 +203,8 @@ module _ (o : Outcome) (state clock : ℕ) where
   unfolding report_of
   turned_down q k e f = ap report.Refused f ∙ ap (λ (x : Outcome). report_of x state clock) (sym e)
 
--- the numbers of a report are those of an equal one
-pub same_report : (numbers told : List ℕ) (integers values : List ℤ) (n : ℕ) (r u : Report) → r ≡ u → told ≡ sets numbers (4 * n) (coded r) → values ≡ sets integers n (integer_of r ∷ []) → (told ≡ sets numbers (4 * n) (coded u)) × (values ≡ sets integers n (integer_of u ∷ []))
-same_report numbers told integers values n r u e a b =
-    (a ∙ ap (λ (x : Report). sets numbers (4 * n) (coded x)) e, b ∙ ap (λ (x : Report). sets integers n (integer_of x ∷ [])) e)
+-- a line by a report's numbers is told of an equal one
+pub same_report : {numbers told : List ℕ} {integers values : List ℤ} {n : ℕ} (r u : Report) → r ≡ u
+    → told ≡ sets numbers (4 * n) (coded r) → values ≡ sets integers n (integer_of r ∷ []) → Told numbers integers n (u ∷ []) told values
+same_report {numbers} {told} {integers} {values} {n} r u e a b =
+    told_one u told values (a ∙ ap (λ (x : Report). sets numbers (4 * n) (coded x)) e) (b ∙ ap (λ (x : Report). sets integers n (integer_of x ∷ [])) e)

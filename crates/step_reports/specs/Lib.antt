@@ -1,1 +1,2 @@
 pub mod Reports
+pub mod Private

@@ -10,5 +10,5 @@ use Rattle.evaluation.proofs.parameter_amount.Goals as goal
 pub returns : goal.returns
 returns c =
     let held = c.args.holdings.now in
-    c.at.ensures ∙ ap (λ (l : List ℕ). get_or l c.args.i 0) (take_all 4 (drop 16 held) (omega (arith, length-drop 16 held, c.told-holdings)))
+    c.get_or.ensures ∙ ap (λ (l : List ℕ). get_or l c.args.i 0) (take_all 4 (drop 16 held) (omega (arith, length-drop 16 held, c.told-holdings)))
     ∙ get_or-drop 16 held c.args.i 0

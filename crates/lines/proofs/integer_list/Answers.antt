@@ -7,18 +7,18 @@ use Rattle.lines.proofs.Turns.{list_none, list_empty, list_some}
 use Rattle.lines.proofs.Loops.{no_integers}
 use Rattle.lines.proofs.integer_list.Goals as goal
 
-pub returns-in_err-i : goal.returns-in_err-i
-returns-in_err-i c =
+pub returns-in_err-i-clause-value : goal.returns-in_err-i-clause-value
+returns-in_err-i-clause-value c =
     added_no _ _ (list_none _ _ _ _ _ (place_missed _ c.in_err-i.ensures)) c.from_residual.ensures
 
 pub integers_from-requires : goal.integers_from-requires
 integers_from-requires c =
     (omega (arith, c.requires.0, mark_size _ _ _ (place_got _ c.in_ok-i.ensures)), c.requires.2)
 
-pub returns-in_default : goal.returns-in_default
-returns-in_default c =
-    added_as _ _ _ (list_some _ _ _ _ _ (place_got _ c.in_ok-i.ensures) (place_missed _ c.in_default.ensures)) c.integers_from.ensures
+pub returns-in_default-clause-value : goal.returns-in_default-clause-value
+returns-in_default-clause-value c =
+    added_as _ _ _ (list_some _ _ _ _ _ (place_got _ c.in_ok-i.ensures) (place_missed _ c.in_default.ensures)) c.integers_from.ensures.value
 
-pub returns : goal.returns
-returns c =
+pub returns-clause-value : goal.returns-clause-value
+returns-clause-value c =
     added_done _ (list_empty _ _ _ _ _ (place_got _ c.in_ok-i.ensures) (place_got _ c.in-Some.ensures)) refl (no_integers _)

@@ -32,7 +32,7 @@ returns-in_default-found c =
 pub invoke-requires : goal.invoke-requires
 invoke-requires c =
     record {
-      table_value = (c.requires.table_value.0, c.requires.table_value.1, c.find_function-found.ensures.within _ c.in-Some.is);
+      room = c.requires.table_value.1;
       labels_value = c.requires.labels_value;
     }
 

@@ -9,4 +9,4 @@ use Rattle.statements.proofs.held_amount.Goals as goal
 pub returns : goal.returns
 returns c =
     let l = c.args.holdings.now in
-    c.at.ensures ∙ ap (λ (i : ℕ). get_or l i 0) c.place_of.ensures ∙ held_is l (holder_of c.args.kind c.args.argument) c.told-holdings
+    c.get_or.ensures ∙ ap (λ (i : ℕ). get_or l i 0) c.place_of.ensures ∙ held_is l (holder_of c.args.kind c.args.argument) c.told-holdings

@@ -1,0 +1,10 @@
+-- `agreements::ClauseAt::agreed_fields` meets its contract. Assumes nothing.
+use mathlib.Core.Path.{◌≡◌}
+use lib.ListN.{drop}
+use Rattle.contract.specs.Decode.{clause_at}
+use Rattle.agreements.specs.Agreement.{agreed_fields}
+use Rattle.agreements.proofs.ClauseAt.agreed_fields.Given as goal
+
+abbrev pub invariant-loop-j : goal.invariant-loop-j
+invariant-loop-j l =
+    agreed_fields l.s (clause_at l.self.heard.table.now l.self.i).fields (drop l.self.at l.self.heard.values.now) ≡ agreed_fields l.s (drop l.j (clause_at l.self.heard.table.now l.self.i).fields) (drop l.j (drop l.self.at l.self.heard.values.now))

@@ -1,0 +1,16 @@
+-- `machine::turns::Moment::next` meets its contract. Assumes nothing.
+use Rattle.contract.specs.Decode.{contract_of}
+use Rattle.machine.proofs.Playing.{turn_fires, turn_reads, turn_waits}
+use Rattle.machine.proofs.turns.Moment.next.Goals as goal
+
+pub returns-clause-turn : goal.returns-clause-turn
+returns-clause-turn c =
+    turn_waits (contract_of c.args.self.now.table.now) c.args.input.now c.args.self.now.s.now c.args.at c.first_due-due.ensures c.in_default.is _ c.line_end-end.ensures c.if-end-input.false
+
+pub returns-in-Some-clause-turn : goal.returns-in-Some-clause-turn
+returns-in-Some-clause-turn c =
+    turn_fires (contract_of c.args.self.now.table.now) c.args.input.now c.args.self.now.s.now c.args.at _ c.first_due-due.ensures c.in-Some.is
+
+pub returns-then-end-input-clause-turn : goal.returns-then-end-input-clause-turn
+returns-then-end-input-clause-turn c =
+    turn_reads (contract_of c.args.self.now.table.now) c.args.input.now c.args.self.now.s.now c.args.at c.first_due-due.ensures c.in_default.is _ c.line_end-end.ensures c.if-end-input.true
