@@ -2,7 +2,7 @@
 // and what each asset holds at the end.
 #![tactic(auto)]
 
-ghost use Rattle.std.specs.Prelude.{◌≡◌, ◌+◌, ◌*◌, ◌<◌, min, length, set};
+ghost use Rattle.std.specs.Prelude.{◌≡◌, ◌+◌, ◌*◌, ◌<◌, min, length};
 ghost use Rattle.std.proofs.lemmas.List.Edits.{sets};
 ghost use Rattle.results.specs.Coded.{coded, coded_all};
 ghost use Rattle.results.specs.declared.Report.TheVariants.{Held};
@@ -37,6 +37,7 @@ fn count(from: usize, end: usize, size: usize) -> usize
 }
 
 // The bytes from a place up to an end come to the front, as many as are kept; answers how many.
+// Kept: (a) from and end may be any numbers, and the clauses say what comes of those past the buffer, which a slice of it can't tell.
 pub fn bring(bytes: &mut [u8], from: usize, end: usize) -> usize
     ensures value { result ≡ length (kept bytes.old from end) }
     ensures bytes_after { bytes.new ≡ sets bytes.old 0 (kept bytes.old from end) }
@@ -49,6 +50,7 @@ pub fn bring(bytes: &mut [u8], from: usize, end: usize) -> usize
 }
 
 // A last line without LF counts if it has a byte: it gets its LF. Answers how many bytes there are then.
+// Kept: (a) the size may be any number, as above; the LF is stored past it.
 pub fn close(bytes: &mut [u8], size: usize) -> usize
     ensures value { result ≡ closed_size (length bytes.old) size }
     ensures bytes_after { bytes.new ≡ closed bytes.old size }
@@ -81,26 +83,17 @@ pub fn question_of(numbers: &[u64], i: usize) -> u8
     0
 }
 
-// A number at a place; past the end nothing is written.
-fn put(numbers: &mut [u64], at: usize, v: u64)
-    ensures { numbers.new ≡ set numbers.old at v }
-{
-    if at < numbers.len() {
-        numbers[at] = v;
-        return;
-    }
-}
-
 // The result line of what asset i holds, as four numbers.
+// Kept: (d) no buffer with a place: i is the asset, and its numbers stand where it says.
 fn put_held(numbers: &mut [u64], i: usize, amount: u64)
     requires { i < 16 }
     ensures { numbers.new ≡ sets numbers.old (4 * i) (coded (Held i amount)) }
 {
     let at = Report::WORDS * i;
-    put(numbers, at, 3);
-    put(numbers, at + 1, i as u64);
-    put(numbers, at + 2, amount);
-    put(numbers, at + 3, 0);
+    items::set(numbers, at, 3);
+    items::set(numbers, at + 1, i as u64);
+    items::set(numbers, at + 2, amount);
+    items::set(numbers, at + 3, 0);
 }
 
 // The result lines of what each asset holds, as numbers; answers how many they are.

@@ -1,6 +1,6 @@
 -- Bytes and lines as they are shown, stored one byte a turn; the front of a buffer. Assumes nothing.
 use mathlib.Core.Path.{◌≡◌, refl, sym, ap, ◌∙◌}
-use mathlib.Core.List.{List, [], ◌∷◌, map}
+use mathlib.Core.List.{List, [], ◌∷◌, ◌++◌, map}
 use Prim.Native.Nat.{ℕ, zero, suc, ◌+◌, ◌<◌, ◌≤◌, min}
 use native.Mathlib.Omega.{arith}
 use lib.ListN.{length, get_or, set, take, drop, length-take, length-map}
@@ -10,7 +10,11 @@ use lib.Dec.{leb}
 use Rattle.laws.proofs.Choice.{pick_true, pick_false}
 use Rattle.laws.specs.Choice.{pick}
 use Rattle.tokens.specs.Classes.{within, is_printable}
-use Rattle.printing.proofs.Puts.{store_next}
+use Rattle.std.proofs.Common.{take_all}
+use Rattle.printing.specs.Writers.{Puts, Wrote, HasRoom}
+use Rattle.printing.specs.declared.Writer.{Writer}
+use Rattle.printing.proofs.Puts.{kept}
+use Rattle.printing.proofs.Writers.{wrote_of, wrote_same, wrote_nothing, wrote_then}
 use Rattle.diagnoses.specs.Diagnoses.{shown, shown_line}
 
 -- ---- a byte
@@ -44,12 +48,34 @@ shown_at line i h =
     let l : i < 200 = omega arith in
     map_at (take 200 line) i (omega (arith, length-take 200 line)) ∙ ap shown (get_or-take 200 line i 0 l)
 
-pub shown_next : (new line : List ℕ) (at i : ℕ) {b : ℕ} → i < min 200 (length line) → b ≡ shown (get_or line i 0)
-    → sets (set new (at + i) b) (at + (i + 1)) (drop (i + 1) (shown_line line)) ≡ sets new (at + i) (drop i (shown_line line))
-shown_next new line at i {b} h e =
-    let l : i < length (shown_line line) = omega (arith, shown_long line) in
-    ap (λ (v : ℕ). sets (set new (at + i) v) (at + (i + 1)) (drop (i + 1) (shown_line line))) (e ∙ sym (shown_at line i h))
-    ∙ store_next new (shown_line line) at i l
+take_more : (l : List ℕ) (i : ℕ) → i < length l → take i l ++ (get_or l i 0 ∷ []) ≡ take (suc i) l
+take_more [] i h = absurd (omega arith)
+take_more (x ∷ l) zero h = refl
+take_more (x ∷ l) (suc i) h = ap (λ (k : List ℕ). x ∷ k) (take_more l i (omega arith))
+
+-- its first i bytes are put
+pub record Showing (line : List ℕ) (old : Writer) (i : ℕ) (new : Writer) : Type 0 where
+  pub shown : Wrote old (take i (shown_line line)) new
+
+module _ {line : List ℕ} {old : Writer} where
+  pub none_shown : HasRoom 200 old → Showing line old 0 old
+  none_shown h = record { shown = wrote_nothing old (omega arith) }
+
+  module _ {i : ℕ} {new : Writer} (s : Showing line old i new) where
+    pub more_shown : {b : ℕ} {next : Writer} → HasRoom 200 old → i < min 200 (length line) → b ≡ shown (get_or line i 0) → Puts new (b ∷ []) next
+        → Showing line old (i + 1) next
+    more_shown {b} r h e p =
+        let l : i < length (shown_line line) = omega (arith, shown_long line) in
+        let k : suc i ≡ i + 1 = omega arith in
+        let room : HasRoom 1 new = omega (arith, s.shown.written.place, kept s.shown.written, length-take i (shown_line line)) in
+        record {
+          shown =
+              wrote_same (ap (λ (v : ℕ). take i (shown_line line) ++ (v ∷ [])) (e ∙ sym (shown_at line i h)) ∙ take_more (shown_line line) i l ∙ ap (λ (n : ℕ). take n (shown_line line)) k)
+              (wrote_then s.shown (wrote_of (b ∷ []) p room));
+        }
+
+    pub all_shown : min 200 (length line) ≤ i → Wrote old (shown_line line) new
+    all_shown h = wrote_same (take_all i (shown_line line) (omega (arith, shown_long line))) s.shown
 
 -- ---- what was stored first
 

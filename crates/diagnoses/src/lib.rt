@@ -2,10 +2,11 @@
 #![tactic(auto)]
 
 ghost use Rattle.std.specs.Prelude.{◌≡◌, ◌≤◌, length};
-ghost use Rattle.printing.specs.Pieces.{Put};
+ghost use Rattle.printing.specs.Writers.{Wrote, HasRoom};
 ghost use Rattle.diagnoses.specs.Diagnoses.{diagnosis, written, buffer_after};
 
 use arguments::Asked;
+use printing::Writer;
 use questions::Question;
 
 mod lines;
@@ -25,18 +26,18 @@ impl Diagnosis {
 }
 
 // The diagnosis, where there is room for any.
-fn put_diagnosis(file: &[u8], text: &[u8], number: u8, place: usize, buffer: &mut [u8]) -> usize
+fn put_diagnosis(out: &mut Writer, file: &[u8], text: &[u8], number: u8, place: usize)
     requires file_len_bound { length file.now ≤ 1024 }
-    requires in_bounds { 2048 ≤ length buffer.old }
-    ensures { Put buffer.old 0 (diagnosis file.now text.now number place) result buffer.new }
+    requires in_bounds { HasRoom 2048 out.old }
+    ensures { Wrote out.old (diagnosis file.now text.now number place) out.new }
 {
     let p = places::place_in(text, place);
-    let what = lines::put_where(file, p.line, p.column, buffer);
-    let end = lines::put_what(number, buffer, what);
+    lines::put_where(out, file, p.line, p.column);
+    lines::put_what(out, number);
     if (number == Question::TextLength.number()) | (number == Question::TableLength.number()) {
-        return end;
+        return;
     }
-    lines::put_source(text, p, buffer, end)
+    lines::put_source(out, text, p);
 }
 
 // The diagnosis of a text that the question with a number refused at a place; answers how many bytes it has.
@@ -46,7 +47,9 @@ pub fn write(file: &[u8], text: &[u8], number: u8, place: usize, buffer: &mut [u
     ensures buffer_after { buffer.new ≡ buffer_after file.now text.now number place buffer.old }
 {
     if (file.len() <= Diagnosis::FILE) & (Diagnosis::ROOM <= buffer.len()) {
-        return put_diagnosis(file, text, number, place, buffer);
+        let mut out = Writer::new(buffer);
+        put_diagnosis(&mut out, file, text, number, place);
+        return out.used();
     }
     0
 }

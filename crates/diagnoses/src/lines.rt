@@ -1,59 +1,57 @@
-// The lines of a diagnosis, each stored from a place of the lent buffer on; each hands back the place after it.
-ghost use Rattle.std.specs.Prelude.{◌+◌, ◌≤◌, length};
-ghost use Rattle.printing.specs.Pieces.{Put};
+// The lines of a diagnosis.
+ghost use Rattle.std.specs.Prelude.{◌≤◌, length};
+ghost use Rattle.printing.specs.Writers.{Wrote, HasRoom};
 ghost use Rattle.diagnoses.specs.Diagnoses.{where_text, what_text, mark_under, source_text};
 
 use crate::Diagnosis;
 use crate::pieces::{put_shown, put_words};
 use places::Place;
-use printing::{put_byte, put_bytes, put_number, put_spaces};
+use printing::Writer;
 
 // The file, the line and the column.
-pub(crate) fn put_where(file: &[u8], line: usize, column: usize, buffer: &mut [u8]) -> usize
+pub(crate) fn put_where(out: &mut Writer, file: &[u8], line: usize, column: usize)
     requires file_len_bound { length file.now ≤ 1024 }
-    requires in_bounds { 2048 ≤ length buffer.old }
-    ensures { Put buffer.old 0 (where_text file.now line column) result buffer.new }
+    requires in_bounds { HasRoom 2048 out.old }
+    ensures { Wrote out.old (where_text file.now line column) out.new }
 {
-    let a = put_bytes(buffer, 0, file);
-    let b = put_byte(buffer, a, b':');
-    let d = put_number(buffer, b, line as u64);
-    let e = put_byte(buffer, d, b':');
-    let f = put_number(buffer, e, column as u64);
-    put_bytes(buffer, f, b": ")
+    out.put_bytes(file);
+    out.put_byte(b':');
+    out.put_number(line as u64);
+    out.put_byte(b':');
+    out.put_number(column as u64);
+    out.put_bytes(b": ");
 }
 
 // The words of a question and its number.
-pub(crate) fn put_what(number: u8, buffer: &mut [u8], at: usize) -> usize
-    requires { at + 88 ≤ length buffer.old }
-    ensures { Put buffer.old at (what_text number) result buffer.new }
+pub(crate) fn put_what(out: &mut Writer, number: u8)
+    requires { HasRoom 88 out.old }
+    ensures { Wrote out.old (what_text number) out.new }
 {
-    let a = put_words(number, buffer, at);
-    let b = put_bytes(buffer, a, b" (");
-    let d = put_number(buffer, b, number as u64);
-    put_bytes(buffer, d, b")\n")
+    put_words(out, number);
+    out.put_bytes(b" (");
+    out.put_number(number as u64);
+    out.put_bytes(b")\n");
 }
 
 // A mark under a column.
-fn put_mark(column: usize, buffer: &mut [u8], at: usize) -> usize
-    requires at_in_bounds { at + 201 ≤ length buffer.old }
+fn put_mark(out: &mut Writer, column: usize)
+    requires at_in_bounds { HasRoom 201 out.old }
     requires le_column { 1 ≤ column }
-    ensures { Put buffer.old at (mark_under column) result buffer.new }
+    ensures { Wrote out.old (mark_under column) out.new }
 {
-    if Diagnosis::SHOWN < column {
-        return at;
+    if column <= Diagnosis::SHOWN {
+        out.put_spaces(column - 1);
+        out.put_bytes(b"^\n");
     }
-    let a = put_spaces(buffer, at, column - 1);
-    put_bytes(buffer, a, b"^\n")
 }
 
 // The text's line with a place, and the mark.
-pub(crate) fn put_source(text: &[u8], p: Place, buffer: &mut [u8], at: usize) -> usize
-    requires at_in_bounds { at + 402 ≤ length buffer.old }
+pub(crate) fn put_source(out: &mut Writer, text: &[u8], p: Place)
+    requires at_in_bounds { HasRoom 402 out.old }
     requires le_column { 1 ≤ p.column }
-    ensures { Put buffer.old at (source_text text.now p) result buffer.new }
+    ensures { Wrote out.old (source_text text.now p) out.new }
 {
-    let line = tokens::between(text, p.start, p.end);
-    let a = put_shown(line, buffer, at);
-    let b = put_byte(buffer, a, b'\n');
-    put_mark(p.column, buffer, b)
+    put_shown(out, tokens::between(text, p.start, p.end));
+    out.put_byte(b'\n');
+    put_mark(out, p.column);
 }

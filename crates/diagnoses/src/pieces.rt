@@ -1,20 +1,20 @@
-// The pieces of a diagnosis, each stored into the lent buffer from a place on; each hands back the place after it.
-ghost use Rattle.std.specs.Prelude.{◌≡◌, ◌+◌, ◌≤◌, length};
-ghost use Rattle.printing.specs.Pieces.{put, place_after, Put};
+// The pieces of a diagnosis.
+ghost use Rattle.std.specs.Prelude.{◌≡◌};
+ghost use Rattle.printing.specs.Writers.{Puts, Wrote, HasRoom};
 ghost use Rattle.question_words.specs.Words.{words_of};
 ghost use Rattle.diagnoses.specs.Diagnoses.{shown, shown_line};
 
 use crate::Diagnosis;
+use printing::Writer;
 use question_words::Sentence;
 
 // The words of a question.
-pub(crate) fn put_words(number: u8, buffer: &mut [u8], at: usize) -> usize
-    ensures value { result ≡ place_after buffer.old at (words_of number) }
-    ensures buffer_after { buffer.new ≡ put buffer.old at (words_of number) }
+pub(crate) fn put_words(out: &mut Writer, number: u8)
+    ensures { Puts out.old (words_of number) out.new }
 {
     let mut words = [0u8; Sentence::BYTES];
     let n = question_words::words(number, &mut words);
-    printing::put_bytes(buffer, at, &words[..n])
+    out.put_bytes(&words[..n]);
 }
 
 // A byte as it is shown.
@@ -26,13 +26,12 @@ fn show(b: u8) -> u8
 }
 
 // A line as it is shown.
-pub(crate) fn put_shown(line: &[u8], buffer: &mut [u8], at: usize) -> usize
-    requires { at + 200 ≤ length buffer.old }
-    ensures { Put buffer.old at (shown_line line.now) result buffer.new }
+pub(crate) fn put_shown(out: &mut Writer, line: &[u8])
+    requires { HasRoom 200 out.old }
+    ensures { Wrote out.old (shown_line line.now) out.new }
 {
     let n = Diagnosis::SHOWN.min(line.len());
-    for i in 0..n {
-        buffer[at + i] = show(line[i]);
+    for b in &line[..n] {
+        out.put_byte(show(*b));
     }
-    at + n
 }

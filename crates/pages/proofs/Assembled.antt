@@ -16,101 +16,97 @@ use Rattle.contract.specs.Tree.{Contract}
 use Rattle.contract.specs.Decode.{contract_of}
 use Rattle.contract.specs.Check.{passes}
 use Rattle.printing.specs.Decimal.{decimal}
-use Rattle.printing.specs.Pieces.{Put, spaces, name_bytes}
-use Rattle.printing.proofs.Puts.{Puts, put_of, puts_as, same, then, part, piece, kept}
+use Rattle.printing.specs.Pieces.{spaces, name_bytes}
+use Rattle.printing.specs.Writers.{Puts, Wrote, HasRoom}
+use Rattle.printing.specs.declared.Writer.{Writer}
+use Rattle.printing.proofs.Puts.{kept}
+use Rattle.printing.proofs.Writers.{puts_same, wrote_of, wrote_same, wrote_then, wrote_part, wrote_piece}
 use Rattle.results.specs.Lines.{rule_name}
 use Rattle.results.proofs.Rows.{party_row}
 use Rattle.pages.specs.Entries.{entry_at}
 use Rattle.pages.specs.Page.{right, left, line_of, blank_line, foot}
+use Rattle.pages.specs.Private.{step_text, payee_text}
 use Rattle.pages.proofs.Given.{entry_whole}
 
 -- ---- room for a whole is room for its parts
 
-pub room_first : {size : ℕ} (at : ℕ) (u v : List ℕ) → at + length (u ++ v) ≤ size → at + length u ≤ size
-room_first at u v h = omega (arith, length-append u v)
+pub room_first : (out : Writer) (u v : List ℕ) → HasRoom (length (u ++ v)) out → HasRoom (length u) out
+room_first out u v h = omega (arith, length-append u v)
 
-pub room_next : {old mid : List ℕ} {at m : ℕ} (u v : List ℕ) → at + length (u ++ v) ≤ length old → Put old at u m mid → m + length v ≤ length mid
-room_next u v h p = omega (arith, length-append u v, p.place, kept p)
+pub room_next : {old mid : Writer} (u v : List ℕ) → HasRoom (length (u ++ v)) old → Wrote old u mid → HasRoom (length v) mid
+room_next u v h p = omega (arith, length-append u v, p.written.place, kept p.written)
 
 -- ---- columns
 
 -- a party's name has room in its column
-pub name_room : {old mid : List ℕ} {at m : ℕ} (w : List ℕ) (party : ℕ) → passes w ≡ true → party < length (contract_of w).parties
-    → at + length (left 32 (get_or (contract_of w).parties party [])) ≤ length old → Puts old at (name_bytes w (43 + party * 33)) m mid
-    → Put old at (name_bytes w (43 + party * 33)) m mid
+pub name_room : {old mid : Writer} (w : List ℕ) (party : ℕ) → passes w ≡ true → party < length (contract_of w).parties
+    → HasRoom (length (left 32 (get_or (contract_of w).parties party []))) old → Puts old (name_bytes w (43 + party * 33)) mid
+    → Wrote old (name_bytes w (43 + party * 33)) mid
 unfolding left
-name_room {old} {mid} {at} {m} w party t l h p =
+name_room {old} {mid} w party t l h p =
     let name = get_or (contract_of w).parties party [] in
     let e = (party_row w t party l).name in
-    let r : at + length (name_bytes w (43 + party * 33)) ≤ length old = subst (λ (u : List ℕ). at + length u ≤ length old) e (room_first at name (spaces (32 - length name)) h) in
-    put_of (name_bytes w (43 + party * 33)) p r
+    let r : HasRoom (length (name_bytes w (43 + party * 33))) old = subst (λ (u : List ℕ). HasRoom (length u) old) e (room_first old name (spaces (32 - length name)) h) in
+    wrote_of (name_bytes w (43 + party * 33)) p r
 
 -- so has a call's rule
-pub call_room : {old mid : List ℕ} {at m : ℕ} (rule : ℕ) → rule ≡ 1 → at + length (left 11 (rule_name rule)) ≤ length old → Puts old at (spelled function) m mid
-    → Put old at (spelled function) m mid
+pub call_room : {old mid : Writer} (rule : ℕ) → rule ≡ 1 → HasRoom (length (left 11 (rule_name rule))) old → Puts old (spelled function) mid
+    → Wrote old (spelled function) mid
 unfolding left rule_name pick spelled
-call_room {old} {mid} {at} {m} rule e h p =
-    put_of (spelled function) p (room_first at (spelled function) (spaces 3) (subst (λ (r : ℕ). at + length (left 11 (rule_name r)) ≤ length old) e h))
+call_room {old} {mid} rule e h p =
+    wrote_of (spelled function) p (room_first old (spelled function) (spaces 3) (subst (λ (r : ℕ). HasRoom (length (left 11 (rule_name r))) old) e h))
 
-module _ {old mid new : List ℕ} {at m n : ℕ} where
+module _ {old mid new : Writer} where
   -- so many spaces before a number
-  pub right_piece : (k : ℕ) {d g : ℕ} → at + length (right 19 (decimal k)) ≤ length old → d ≡ length (decimal k) → g ≡ 19 - d → Puts old at (spaces g) m mid
-      → Puts mid m (decimal k) n new → Put old at (right 19 (decimal k)) n new
+  pub right_piece : (k : ℕ) {d g : ℕ} → HasRoom (length (right 19 (decimal k))) old → d ≡ length (decimal k) → g ≡ 19 - d → Puts old (spaces g) mid
+      → Puts mid (decimal k) new → Wrote old (right 19 (decimal k)) new
   unfolding right
   right_piece k {d} {g} h e f p q =
       let s : g ≡ 19 - length (decimal k) = f ∙ ap (λ (x : ℕ). 19 - x) e in
-      piece (spaces (19 - length (decimal k))) h (puts_as old at (ap spaces s) p) λ h. put_of (decimal k) q h
+      wrote_piece (spaces (19 - length (decimal k))) h (puts_same (ap spaces s) p) λ h. wrote_of (decimal k) q h
 
   -- a call's rule, and so many spaces after it
-  pub call_piece : (rule : ℕ) {g : ℕ} → rule ≡ 1 → at + length (left 11 (rule_name rule)) ≤ length old → Puts old at (spelled function) m mid → g ≡ 11 - (m - at)
-      → Puts mid m (spaces g) n new → Put old at (left 11 (rule_name rule)) n new
+  pub call_piece : (rule : ℕ) {g start end : ℕ} → rule ≡ 1 → HasRoom (length (left 11 (rule_name rule))) old → start ≡ old.at → Puts old (spelled function) mid
+      → end ≡ mid.at → g ≡ 11 - (end - start) → Puts mid (spaces g) new → Wrote old (left 11 (rule_name rule)) new
   unfolding left rule_name pick spelled
-  call_piece rule {g} e h p f q =
-      let one : Put old at (spelled function) m mid = call_room rule e h p in
-      let s : g ≡ 3 = omega (arith, f, one.place) in
-      same (ap (λ (r : ℕ). left 11 (rule_name r)) (sym e))
-      (part (subst (λ (r : ℕ). at + length (left 11 (rule_name r)) ≤ length old) e h) one λ h. put_of (spaces 3) (puts_as mid m (ap spaces s) q) h)
+  call_piece rule {g} e h a p b f q =
+      let one : Wrote old (spelled function) mid = call_room rule e h p in
+      let s : g ≡ 3 = omega (arith, f, a, b, one.written.place) in
+      wrote_same (ap (λ (r : ℕ). left 11 (rule_name r)) (sym e))
+      (wrote_part (subst (λ (r : ℕ). HasRoom (length (left 11 (rule_name r))) old) e h) one λ h. wrote_of (spaces 3) (puts_same (ap spaces s) q) h)
 
   -- a name, and so many spaces after it
-  pub party_piece : (w : List ℕ) (party : ℕ) {g : ℕ} → passes w ≡ true → party < length (contract_of w).parties
-      → at + length (left 32 (get_or (contract_of w).parties party [])) ≤ length old → Puts old at (name_bytes w (43 + party * 33)) m mid → g ≡ 32 - (m - at)
-      → Puts mid m (spaces g) n new → Put old at (left 32 (get_or (contract_of w).parties party [])) n new
+  pub party_piece : (w : List ℕ) (party : ℕ) {g start end : ℕ} → passes w ≡ true → party < length (contract_of w).parties
+      → HasRoom (length (left 32 (get_or (contract_of w).parties party []))) old → start ≡ old.at → Puts old (name_bytes w (43 + party * 33)) mid
+      → end ≡ mid.at → g ≡ 32 - (end - start) → Puts mid (spaces g) new → Wrote old (left 32 (get_or (contract_of w).parties party [])) new
   unfolding left
-  party_piece w party {g} t l h p f q =
+  party_piece w party {g} t l h a p b f q =
       let name = get_or (contract_of w).parties party [] in
       let e = (party_row w t party l).name in
-      let one : Put old at name m mid = same (sym e) (name_room w party t l h p) in
-      let s : g ≡ 32 - length name = omega (arith, f, one.place) in
-      part h one λ h. put_of (spaces (32 - length name)) (puts_as mid m (ap spaces s) q) h
+      let one : Wrote old name mid = wrote_same (sym e) (name_room w party t l h p) in
+      let s : g ≡ 32 - length name = omega (arith, f, a, b, one.written.place) in
+      wrote_part h one λ h. wrote_of (spaces (32 - length name)) (puts_same (ap spaces s) q) h
 
-pub firing_piece : {old new : List ℕ} {at n : ℕ} (rule : ℕ) → (eqb rule 1 || eqb rule 2) ≡ true → (rule ≡ 1 → ⊥) → at + length (left 11 (rule_name rule)) ≤ length old
-    → Puts old at (spelled event_match) n new → Put old at (left 11 (rule_name rule)) n new
+pub firing_piece : {old new : Writer} (rule : ℕ) → (eqb rule 1 || eqb rule 2) ≡ true → (rule ≡ 1 → ⊥) → HasRoom (length (left 11 (rule_name rule))) old
+    → Puts old (spelled event_match) new → Wrote old (left 11 (rule_name rule)) new
 unfolding left rule_name pick spelled
-firing_piece {old} {new} {at} {n} rule r d h p =
+firing_piece {old} {new} rule r d h p =
     let e : rule ≡ 2 = eqb-true rule 2 (or_right (eqb rule 1) (eqb rule 2) (ne_eqb rule 1 d) r) in
-    same (ap (λ (r : ℕ). left 11 (rule_name r)) (sym e))
-    (put_of (spelled event_match) p (subst (λ (r : ℕ). at + length (left 11 (rule_name r)) ≤ length old) e h))
+    wrote_same (ap (λ (r : ℕ). left 11 (rule_name r)) (sym e))
+    (wrote_of (spelled event_match) p (subst (λ (r : ℕ). HasRoom (length (left 11 (rule_name r))) old) e h))
 
 -- ---- the two halves of a line
 
--- clock and rule, each with a space after it
-abbrev pub step_text : ℕ → ℕ → List ℕ
-step_text clock rule = right 19 (decimal clock) ++ (bytes " " ++ (left 11 (rule_name rule) ++ bytes " "))
-
--- party, a space, the amount and LF
-abbrev pub payee_text : Contract → ℕ → ℕ → List ℕ
-payee_text c party amount = left 32 (get_or c.parties party []) ++ (bytes " " ++ (right 19 (decimal amount) ++ spelled line_end))
-
-module _ {old l1 l2 : List ℕ} {at x y : ℕ} (a b c d : List ℕ) (h : at + length (a ++ (b ++ (c ++ d))) ≤ length old) (p : Put old at a x l1) (q : Puts l1 x b y l2) where
+module _ {old l1 l2 : Writer} (a b c d : List ℕ) (h : HasRoom (length (a ++ (b ++ (c ++ d)))) old) (p : Wrote old a l1) (q : Puts l1 b l2) where
   -- room for the third of four pieces
-  pub third_room : y + length c ≤ length l2
+  pub third_room : HasRoom (length c) l2
   third_room =
       let r = room_next a (b ++ (c ++ d)) h p in
-      room_first y c d (room_next b (c ++ d) r (put_of b q (room_first x b (c ++ d) r)))
+      room_first l2 c d (room_next b (c ++ d) r (wrote_of b q (room_first l1 b (c ++ d) r)))
 
   -- all four
-  pub four_pieces : {l3 new : List ℕ} {z n : ℕ} → Put l2 y c z l3 → Puts l3 z d n new → Put old at (a ++ (b ++ (c ++ d))) n new
-  four_pieces r s = part h p λ h. piece b h q λ h. part h r λ h. put_of d s h
+  pub four_pieces : {l3 new : Writer} → Wrote l2 c l3 → Puts l3 d new → Wrote old (a ++ (b ++ (c ++ d))) new
+  four_pieces r s = wrote_part h p λ h. wrote_piece b h q λ h. wrote_part h r λ h. wrote_of d s h
 
 -- both halves are the line
 halves : (a b c d e f g h : List ℕ) → (a ++ (b ++ (c ++ d))) ++ (e ++ (f ++ (g ++ h))) ≡ a ++ (b ++ (c ++ (d ++ (e ++ (f ++ (g ++ h))))))
@@ -133,31 +129,31 @@ line_halves c ns zs i h l {amount} e =
     ∙ ap (line_of c) (sym (entry_whole ns zs i h l))
 
 module _ (c : Contract) (ns : List ℕ) (zs : List ℤ) (i : ℕ) (h : 5 * i + 5 ≤ length ns) (l : i < length zs) where
-  pub step_room : {size : ℕ} (at : ℕ) → at + length (line_of c (entry_at ns zs i)) ≤ size → at + length (step_text (get_or ns (5 * i + 3) 0) (get_or ns (5 * i + 2) 0)) ≤ size
-  step_room {size} at r =
-      room_first at (step_text (get_or ns (5 * i + 3) 0) (get_or ns (5 * i + 2) 0)) (payee_text c (get_or ns (5 * i + 1) 0) (nat_abs (get_or zs i (pos 0))))
-      (subst (λ (k : List ℕ). at + length k ≤ size) (sym (line_halves c ns zs i h l refl)) r)
+  pub step_room : (out : Writer) → HasRoom (length (line_of c (entry_at ns zs i))) out → HasRoom (length (step_text (get_or ns (5 * i + 3) 0) (get_or ns (5 * i + 2) 0))) out
+  step_room out r =
+      room_first out (step_text (get_or ns (5 * i + 3) 0) (get_or ns (5 * i + 2) 0)) (payee_text c (get_or ns (5 * i + 1) 0) (nat_abs (get_or zs i (pos 0))))
+      (subst (λ (k : List ℕ). HasRoom (length k) out) (sym (line_halves c ns zs i h l refl)) r)
 
-  module _ {old mid : List ℕ} {at m amount : ℕ} (e : amount ≡ nat_abs (get_or zs i (pos 0))) where
-    pub payee_room : at + length (line_of c (entry_at ns zs i)) ≤ length old → Put old at (step_text (get_or ns (5 * i + 3) 0) (get_or ns (5 * i + 2) 0)) m mid
-        → m + length (payee_text c (get_or ns (5 * i + 1) 0) amount) ≤ length mid
+  module _ {old mid : Writer} {amount : ℕ} (e : amount ≡ nat_abs (get_or zs i (pos 0))) where
+    pub payee_room : HasRoom (length (line_of c (entry_at ns zs i))) old → Wrote old (step_text (get_or ns (5 * i + 3) 0) (get_or ns (5 * i + 2) 0)) mid
+        → HasRoom (length (payee_text c (get_or ns (5 * i + 1) 0) amount)) mid
     payee_room r p =
         room_next (step_text (get_or ns (5 * i + 3) 0) (get_or ns (5 * i + 2) 0)) (payee_text c (get_or ns (5 * i + 1) 0) amount)
-        (subst (λ (k : List ℕ). at + length k ≤ length old) (sym (line_halves c ns zs i h l e)) r) p
+        (subst (λ (k : List ℕ). HasRoom (length k) old) (sym (line_halves c ns zs i h l e)) r) p
 
-    pub whole_line : {new : List ℕ} {n : ℕ} → Put old at (step_text (get_or ns (5 * i + 3) 0) (get_or ns (5 * i + 2) 0)) m mid
-        → Put mid m (payee_text c (get_or ns (5 * i + 1) 0) amount) n new → Put old at (line_of c (entry_at ns zs i)) n new
-    whole_line p q = same (line_halves c ns zs i h l e) (then p q)
+    pub whole_line : {new : Writer} → Wrote old (step_text (get_or ns (5 * i + 3) 0) (get_or ns (5 * i + 2) 0)) mid
+        → Wrote mid (payee_text c (get_or ns (5 * i + 1) 0) amount) new → Wrote old (line_of c (entry_at ns zs i)) new
+    whole_line p q = wrote_same (line_halves c ns zs i h l e) (wrote_then p q)
 
 -- ---- lines without a payout
 
-module _ {old mid new : List ℕ} {at m n : ℕ} where
-  pub blank_line_lem : at + 85 ≤ length old → Puts old at (spaces 84) m mid → Puts mid m (bytes "\n") n new → Put old at blank_line n new
+module _ {old mid new : Writer} where
+  pub blank_line_lem : HasRoom 85 old → Puts old (spaces 84) mid → Puts mid (bytes "\n") new → Wrote old blank_line new
   unfolding spelled
-  blank_line_lem h p q = piece (spaces 84) h p λ h. put_of (bytes "\n") q h
+  blank_line_lem h p q = wrote_piece (spaces 84) h p λ h. wrote_of (bytes "\n") q h
 
-  pub foot_line : (k : ℕ) {l2 l3 : List ℕ} {y z : ℕ} → at + 85 ≤ length old → Puts old at (spaces 82) m mid → Puts mid m ((48 + k / 10) ∷ []) y l2 → Puts l2 y ((48 + k % 10) ∷ []) z l3
-      → Puts l3 z (bytes "\n") n new → Put old at (foot k) n new
+  pub foot_line : (k : ℕ) {l2 l3 : Writer} → HasRoom 85 old → Puts old (spaces 82) mid → Puts mid ((48 + k / 10) ∷ []) l2 → Puts l2 ((48 + k % 10) ∷ []) l3
+      → Puts l3 (bytes "\n") new → Wrote old (foot k) new
   unfolding foot spelled
-  foot_line k {l2} {l3} {y} {z} h p q r s =
-      piece (spaces 82) h p λ h. piece ((48 + k / 10) ∷ []) h q λ h. piece ((48 + k % 10) ∷ []) h r λ h. put_of (bytes "\n") s h
+  foot_line k {l2} {l3} h p q r s =
+      wrote_piece (spaces 82) h p λ h. wrote_piece ((48 + k / 10) ∷ []) h q λ h. wrote_piece ((48 + k % 10) ∷ []) h r λ h. wrote_of (bytes "\n") s h

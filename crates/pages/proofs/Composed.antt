@@ -17,7 +17,11 @@ use Rattle.contract_laws.proofs.Inversions.{by_test}
 use Rattle.contract_laws.proofs.Members.{length_each, every_each}
 use Rattle.contract_laws.proofs.Sound.{sound}
 use Rattle.printing.specs.Pieces.{Put}
-use Rattle.printing.proofs.Puts.{same, then, kept, over, line_end_lem}
+use Rattle.printing.specs.Writers.{Starts, Wrote, HasRoom}
+use Rattle.printing.specs.declared.Writer.{Writer}
+use Rattle.std.specs.Borrow.{MutBor}
+use Rattle.printing.proofs.Puts.{kept, over, line_end_lem}
+use Rattle.printing.proofs.Writers.{wrote_same, wrote_nothing, wrote_then, from_start}
 use Rattle.pages.specs.Entries.{Entry, is_payout, entry_at, entries_of}
 use Rattle.pages.specs.Page.{line_of, blank_line, blank_lines, foot, sheet, sixty, page_of}
 use Rattle.pages.specs.Answers.{paged, after, buffer_after}
@@ -29,10 +33,6 @@ use Rattle.pages.proofs.Widths.{line_long, lines_long, blanks_long, sheet_long}
 use Rattle.pages.proofs.Cuts.{every_sixty, sixty_long, joined_append, joined_one}
 use Rattle.pages.proofs.Given.{each_snoc, each_take, each_drop, entries_whole}
 use Rattle.pages.proofs.Asking.{all_whole, pays_at}
-
--- nothing is put
-put_none : (old : List ℕ) (at : ℕ) → at ≤ length old → Put old at [] at old
-put_none old at h = record { place = omega arith; list = refl; room = omega arith }
 
 -- ---- the lines of entries
 
@@ -54,29 +54,29 @@ module _ {w ns : List ℕ} {zs : List ℤ} (a : AllPayable w ns zs) where
       every_each (is_payout (contract_of w)) from n (entry_at ns zs) (λ j l. (each_payable (from + j) (omega arith)).payout) in
       lines_long (contract_of w) (sound w a.table) es p ∙ ap (λ (k : ℕ). 85 * k) (length_each from n (entry_at ns zs))
 
-pub record Going (w ns : List ℕ) (zs : List ℤ) (from to : ℕ) (old : List ℕ) (i at : ℕ) (new : List ℕ) : Type 0 where
+pub record Going (w ns : List ℕ) (zs : List ℤ) (from to : ℕ) (old : Writer) (i : ℕ) (new : Writer) : Type 0 where
   pub first : from ≤ i
   pub few : i - from ≤ to - from
-  pub lines : Put old 0 (joined (line_of (contract_of w)) (each_from from (i - from) (entry_at ns zs))) at new
+  pub lines : Wrote old (joined (line_of (contract_of w)) (each_from from (i - from) (entry_at ns zs))) new
 
-module _ {w ns : List ℕ} {zs : List ℤ} {from to : ℕ} {old : List ℕ} where
-  pub start : Going w ns zs from to old from 0 old
+module _ {w ns : List ℕ} {zs : List ℤ} {from to : ℕ} {old : Writer} where
+  pub start : HasRoom 0 old → Going w ns zs from to old from old
   unfolding joined each_from
-  start =
+  start h =
       let e : 0 ≡ from - from = omega arith in
       record {
         first = omega arith;
         few = omega arith;
-        lines = same (ap (λ (k : ℕ). joined (line_of (contract_of w)) (each_from from k (entry_at ns zs))) e) (put_none old 0 (omega arith));
+        lines = wrote_same (ap (λ (k : ℕ). joined (line_of (contract_of w)) (each_from from k (entry_at ns zs))) e) (wrote_nothing old h);
       }
 
-  module _ {i at : ℕ} {new : List ℕ} (g : Going w ns zs from to old i at new) where
-    pub line_room : AllPayable w ns zs → to ≤ length zs → 85 * (to - from) ≤ length old → i < to
-        → at + length (line_of (contract_of w) (entry_at ns zs i)) ≤ length new
+  module _ {i : ℕ} {new : Writer} (g : Going w ns zs from to old i new) where
+    pub line_room : AllPayable w ns zs → to ≤ length zs → HasRoom (85 * (to - from)) old → i < to
+        → HasRoom (length (line_of (contract_of w) (entry_at ns zs i))) new
     line_room a h r l =
-        omega (arith, g.lines.place, part_long a from (i - from) (omega (arith, g.first)), each_long a i (omega arith), kept g.lines, g.first)
+        omega (arith, g.lines.written.place, part_long a from (i - from) (omega (arith, g.first)), each_long a i (omega arith), kept g.lines.written, g.first)
 
-    pub turn : {n : ℕ} {next : List ℕ} → i < to → Put new at (line_of (contract_of w) (entry_at ns zs i)) n next → Going w ns zs from to old (i + 1) n next
+    pub turn : {next : Writer} → i < to → Wrote new (line_of (contract_of w) (entry_at ns zs i)) next → Going w ns zs from to old (i + 1) next
     turn l p =
         let c = contract_of w in
         let e : i + 1 - from ≡ suc (i - from) = omega (arith, g.first) in
@@ -89,12 +89,12 @@ module _ {w ns : List ℕ} {zs : List ℤ} {from to : ℕ} {old : List ℕ} wher
         ∙ joined_append (line_of c) done (entry_at ns zs (from + (i - from)) ∷ [])
         ∙ ap (λ (l : List ℕ). joined (line_of c) done ++ l) (joined_one (line_of c) (entry_at ns zs (from + (i - from))))
         ∙ ap (λ (m : ℕ). joined (line_of c) done ++ line_of c (entry_at ns zs m)) f) in
-        record { first = omega (arith, g.first); few = omega (arith, g.first); lines = same more (then g.lines p) }
+        record { first = omega (arith, g.first); few = omega (arith, g.first); lines = wrote_same more (wrote_then g.lines p) }
 
-    pub all_lines : to ≤ i → Put old 0 (joined (line_of (contract_of w)) (each_from from (to - from) (entry_at ns zs))) at new
+    pub all_lines : to ≤ i → Wrote old (joined (line_of (contract_of w)) (each_from from (to - from) (entry_at ns zs))) new
     all_lines l =
         let e : i - from ≡ to - from = omega (arith, g.few) in
-        same (ap (λ (k : ℕ). joined (line_of (contract_of w)) (each_from from k (entry_at ns zs))) e) g.lines
+        wrote_same (ap (λ (k : ℕ). joined (line_of (contract_of w)) (each_from from k (entry_at ns zs))) e) g.lines
 
 -- ---- blank lines
 
@@ -109,24 +109,24 @@ blanks_more n = go n ∙ ap blank_lines (omega_suc n)
     go zero = sym (append-nil blank_line)
     go (suc n) = append_assoc blank_line (blank_lines n) blank_line ∙ ap (λ (l : List ℕ). blank_line ++ l) (go n)
 
-pub record Blanked (n : ℕ) (old : List ℕ) (at i next : ℕ) (new : List ℕ) : Type 0 where
+pub record Blanked (n : ℕ) (old : Writer) (i : ℕ) (new : Writer) : Type 0 where
   pub few : i ≤ n
-  pub lines : Put old at (blank_lines i) next new
+  pub lines : Wrote old (blank_lines i) new
 
-module _ {n : ℕ} {old : List ℕ} {at : ℕ} where
-  pub none_blank : at + 85 * n ≤ length old → Blanked n old at 0 at old
+module _ {n : ℕ} {old : Writer} where
+  pub none_blank : HasRoom (85 * n) old → Blanked n old 0 old
   unfolding blank_lines
-  none_blank h = record { few = omega arith; lines = put_none old at (omega arith) }
+  none_blank h = record { few = omega arith; lines = wrote_nothing old (omega arith) }
 
-  module _ {i next : ℕ} {new : List ℕ} (b : Blanked n old at i next new) where
-    pub blank_room : at + 85 * n ≤ length old → i < n → next + 85 ≤ length new
-    blank_room h l = omega (arith, b.lines.place, blanks_long i, kept b.lines)
+  module _ {i : ℕ} {new : Writer} (b : Blanked n old i new) where
+    pub blank_room : HasRoom (85 * n) old → i < n → HasRoom 85 new
+    blank_room h l = omega (arith, b.lines.written.place, blanks_long i, kept b.lines.written)
 
-    pub more_blank : {m : ℕ} {later : List ℕ} → i < n → Put new next blank_line m later → Blanked n old at (i + 1) m later
-    more_blank l p = record { few = omega arith; lines = same (blanks_more i) (then b.lines p) }
+    pub more_blank : {next : Writer} → i < n → Wrote new blank_line next → Blanked n old (i + 1) next
+    more_blank l p = record { few = omega arith; lines = wrote_same (blanks_more i) (wrote_then b.lines p) }
 
-    pub all_blank : n ≤ i → Put old at (blank_lines n) next new
-    all_blank l = let e : i ≡ n = omega (arith, b.few) in same (ap blank_lines e) b.lines
+    pub all_blank : n ≤ i → Wrote old (blank_lines n) new
+    all_blank l = let e : i ≡ n = omega (arith, b.few) in wrote_same (ap blank_lines e) b.lines
 
 -- ---- the page
 
@@ -157,31 +157,33 @@ module _ {w ns : List ℕ} {zs : List ℤ} (a : AllPayable w ns zs) (number : �
   counted : length (sixty number (entries_of ns zs)) ≡ end - first
   counted = ap length on_page ∙ length_each first (end - first) (entry_at ns zs)
 
-  pub lines_room : {size : ℕ} → 5185 ≤ size → (end ≤ length zs) × (85 * (end - first) ≤ size)
-  lines_room h = (omega (arith, e), omega (arith, f, e))
+  pub lines_room : {lent : MutBor (List ℕ)} {out : Writer} → 5185 ≤ length lent.now → Starts lent out → (end ≤ length zs) × (HasRoom (85 * (end - first)) out)
+  lines_room h s = (omega (arith, e), omega (arith, f, e, s.place, ap length s.bytes))
 
-  module _ {old l1 : List ℕ} {b : ℕ} (h : 5185 ≤ length old) (p : Put old 0 (joined (line_of (contract_of w)) (each_from first (end - first) (entry_at ns zs))) b l1) where
-    lines_end : b ≡ 85 * (end - first)
-    lines_end = line_end_lem p ∙ part_long a first (end - first) (omega (arith, f, e))
+  module _ {lent : MutBor (List ℕ)} {old l1 : Writer} (h : 5185 ≤ length lent.now) (s : Starts lent old)
+      (p : Wrote old (joined (line_of (contract_of w)) (each_from first (end - first) (entry_at ns zs))) l1) where
+    lines_end : l1.at ≡ 85 * (end - first)
+    lines_end = omega (arith, p.written.place, s.place, part_long a first (end - first) (omega (arith, f, e)))
 
-    pub blanks_room : b + 85 * (60 - (end - first)) ≤ length l1
-    blanks_room = omega (arith, lines_end, kept p, f, e)
+    pub blanks_room : HasRoom (85 * (60 - (end - first))) l1
+    blanks_room = omega (arith, lines_end, kept p.written, ap length s.bytes, f, e)
 
-    module _ {l2 : List ℕ} {d : ℕ} (q : Put l1 b (blank_lines (60 - (end - first))) d l2) where
-      pub foot_room : (end - first < 100) × (d + 85 ≤ length l2)
-      foot_room = (omega (arith, f, e), omega (arith, lines_end, kept p, q.place, kept q, blanks_long (60 - (end - first)), f, e))
+    module _ {l2 : Writer} (q : Wrote l1 (blank_lines (60 - (end - first))) l2) where
+      pub foot_room : (end - first < 100) × (HasRoom 85 l2)
+      foot_room = (omega (arith, f, e), omega (arith, lines_end, kept p.written, ap length s.bytes, q.written.place, kept q.written, blanks_long (60 - (end - first)), f, e))
 
-      pub page_put : {new : List ℕ} {m : ℕ} → Put l2 d (foot (end - first)) m new → new ≡ page_of (contract_of w) (entries_of ns zs) number ++ drop 5185 old
+      pub page_put : {l3 : Writer} {new : List ℕ} → Wrote l2 (foot (end - first)) l3 → new ≡ l3.buffer.now
+          → new ≡ page_of (contract_of w) (entries_of ns zs) number ++ drop 5185 lent.now
       unfolding sheet
-      page_put {new} {m} r =
+      page_put {l3} {new} r g =
           let c = contract_of w in
           let es = entries_of ns zs in
           let is : joined (line_of c) (each_from first (end - first) (entry_at ns zs)) ++ (blank_lines (60 - (end - first)) ++ foot (end - first)) ≡ page_of c es number =
           (λ i. joined (line_of c) (sym on_page i) ++ (blank_lines (60 - sym counted i) ++ foot (sym counted i))) in
-          let s : Put old 0 (page_of c es number) m new = same is (then p (then q r)) in
+          let t : Put lent.now 0 (page_of c es number) l3.at new = from_start s (wrote_same is (wrote_then p (wrote_then q r))) refl g in
           let few : length (sixty number es) ≤ 60 = omega (arith, sixty_long number es) in
-          let long : m ≡ 5185 = line_end_lem s ∙ sheet_long c (sound w a.table) (sixty number es) (every_sixty (is_payout c) number es a.payouts) few in
-          over s ∙ ap (λ (k : ℕ). page_of c es number ++ drop k old) long
+          let long : l3.at ≡ 5185 = line_end_lem t ∙ sheet_long c (sound w a.table) (sixty number es) (every_sixty (is_payout c) number es a.payouts) few in
+          over t ∙ ap (λ (k : ℕ). page_of c es number ++ drop k lent.now) long
 
 -- ---- the answer and the buffer
 

@@ -7,6 +7,7 @@ ghost use Rattle.pages.specs.Entries.{entries_of};
 ghost use Rattle.pages.specs.Answers.{paged, buffer_after};
 ghost use Rattle.pages.specs.Gathering.{gathered, numbers_after, values_after};
 
+use payouts::Entries;
 use questions::Question;
 use results::Report;
 
@@ -21,7 +22,7 @@ pub struct Sheet {}
 
 impl Sheet {
     // Its bytes, its lines for payouts, and the numbers of an entry: kind, party, rule, clock and one that is not looked at.
-    // Kept: entries are handed on in two lent buffers of numbers (no heap), and question 61 judges what they name.
+    // Kept: (d) these are sizes of a page and of its columns, and no kinds of anything.
     pub const BYTES: usize = 5185;
 
     pub const LINES: usize = 60;
@@ -79,13 +80,19 @@ pub fn page(
     if !tables::table_passes(table) {
         return Err(Question::TableCheck);
     }
-    if !payouts::all_payouts(table, numbers, values) {
+    let entries = Entries {
+        table,
+        numbers,
+        values,
+    };
+    if !entries.all_payouts() {
         return Err(Question::PageEntries);
     }
-    sheets::write_sheet(table, numbers, values, number, buffer);
+    entries.write_sheet(number, buffer);
     Ok(())
 }
 
+// Kept: (a) the two lists that a batch of result lines is handed on in, and the two that a page is made of, are the public form.
 // Result line i of those in a row, by their numbers and integers: the last accepted step's rule and clock are kept, and a payout joins the
 // lent entries and values after those that are counted, where the page has room.
 pub fn gather(

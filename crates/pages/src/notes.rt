@@ -7,6 +7,7 @@ ghost use Rattle.pages.specs.Gathering.{gathered, numbers_after, values_after};
 use crate::{Gathered, Sheet};
 
 // The five numbers of a payout.
+// Kept: (d) no writer: one call stores one entry at the place that its number gives, and nothing is handed on.
 fn store_entry(entries: &mut [u64], at: usize, party: u64, rule: u64, clock: u64)
     requires { at < 1000 }
     ensures { entries.new ≡ sets entries.old at (3 ∷ party ∷ rule ∷ clock ∷ 0 ∷ []) }

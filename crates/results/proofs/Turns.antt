@@ -29,6 +29,7 @@ use Rattle.questions.specs.declared.Question.{Question}
 use Rattle.questions.specs.declared.Question.TheVariants as ask
 use Rattle.results.specs.declared.Batch.{Batch}
 use Rattle.results.specs.declared.Report.{Report}
+use Rattle.results.specs.declared.many.Coded.{Coded}
 use Rattle.results.specs.declared.Report.TheVariants.{Ruled, Sent, Held, Refused, Failed}
 
 -- ---- a report from its numbers
@@ -131,11 +132,12 @@ module _ (ns : List ℕ) (zs : List ℤ) where
       each_report p n (suc i) (both_right (p (report_at ns zs i)) _ e) j (omega (arith, d)) (omega arith)
 
 -- a report of those that are ready
-module _ {w ns : List ℕ} {zs : List ℤ} {from to size : ℕ} (a : AllReady w ns zs from to size) {j : ℕ} where
-  pub ready_at : {r : Report} → r ≡ report_at ns zs j → from ≤ j → j < to → report_ok (contract_of w) r ≡ true
+module _ {x : Coded} {size : ℕ} (a : AllReady x size) {j : ℕ} where
+  pub ready_at : {r : Report} → r ≡ report_at x.numbers.now x.integers.now j → x.from ≤ j → j < x.to → report_ok (contract_of x.table.now) r ≡ true
   ready_at e h k =
-      let l : j < from + (to - from) = omega (arith, h, k) in
-      ap (report_ok (contract_of w)) e ∙ each_report ns zs (report_ok (contract_of w)) (to - from) from a.range j h l
+      let c = contract_of x.table.now in
+      let l : j < x.from + (x.to - x.from) = omega (arith, h, k) in
+      ap (report_ok c) e ∙ each_report x.numbers.now x.integers.now (report_ok c) (x.to - x.from) x.from a.range j h l
 
 -- ---- question 53 of all reports
 
@@ -245,8 +247,8 @@ module _ (ns : List ℕ) (zs : List ℤ) (from to : ℕ) (old : List ℕ) {end :
   firsts : first_reports (length old) (reports_from ns zs from (to - from)) ≡ reports_from ns zs from (end - from)
   firsts = first_reports_lem ns zs from (length old / 128) (to - from) (end - from) (omega (arith, e))
 
-  pub all_ready : {w : List ℕ} → passes w ≡ true → every (report_ok (contract_of w)) (reports_from ns zs from (end - from)) ≡ true → AllReady w ns zs from end (length old)
-  all_ready t k = record { room = omega (arith, e); table = t; range = k }
+  pub lines_room : 128 * (end - from) ≤ length old
+  lines_room = omega (arith, e)
 
   module _ (c : Contract) where
     pub all_written : {used : ℕ} {new : List ℕ} → every (report_ok c) (reports_from ns zs from (end - from)) ≡ true

@@ -1,26 +1,33 @@
 -- For private functions only: what is known of a report that is in range.
 use Rattle.std.specs.Prelude.{◌≡◌, true, List, ℕ, ◌-◌, ◌*◌, ◌≤◌, ℤ}
+use Rattle.printing.specs.declared.Writer.{Writer}
+use Rattle.printing.specs.Writers.{HasRoom}
 use Rattle.laws.specs.Lists.{every}
 use Rattle.contract.specs.Decode.{contract_of}
 use Rattle.contract.specs.Check.{passes}
 use Rattle.results.specs.Coded.{reports_from}
 use Rattle.results.specs.Lines.{value_ok, report_ok}
 use Rattle.results.specs.declared.Report.{Report}
+use Rattle.results.specs.declared.many.Coded.{Coded}
 
 -- questions 52, 3 and 53 are passed
-pub record Ready (w : List ℕ) (report : Report) (size : ℕ) : Type 0 where
-  pub room : 128 ≤ size
+pub record Ready (w : List ℕ) (report : Report) (out : Writer) : Type 0 where
+  pub room : HasRoom 128 out
   pub table : passes w ≡ true
   pub range : report_ok (contract_of w) report ≡ true
 
 -- the same of a label's value alone
-pub record ReadyValue (w : List ℕ) (kind : ℕ) (value : ℤ) (size : ℕ) : Type 0 where
-  pub room : 128 ≤ size
+pub record ReadyValue (w : List ℕ) (kind : ℕ) (value : ℤ) (out : Writer) : Type 0 where
+  pub room : HasRoom 128 out
   pub table : passes w ≡ true
   pub range : value_ok (contract_of w) kind value ≡ true
 
--- the same of the reports from number `from` up to, not including, `to`, with room for all their lines
-pub record AllReady (w ns : List ℕ) (zs : List ℤ) (from to size : ℕ) : Type 0 where
-  pub room : 128 * (to - from) ≤ size
-  pub table : passes w ≡ true
-  pub range : every (report_ok (contract_of w)) (reports_from ns zs from (to - from)) ≡ true
+-- the reports that are meant
+abbrev pub reports_in : Coded → List Report
+reports_in r = reports_from r.numbers.now r.integers.now r.from (r.to - r.from)
+
+-- the same of all of them, with room for all their lines
+pub record AllReady (r : Coded) (size : ℕ) : Type 0 where
+  pub room : 128 * (r.to - r.from) ≤ size
+  pub table : passes r.table.now ≡ true
+  pub range : every (report_ok (contract_of r.table.now)) (reports_in r) ≡ true

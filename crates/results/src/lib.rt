@@ -6,6 +6,8 @@ ghost use Rattle.contract.specs.Decode.{contract_of};
 ghost use Rattle.results.specs.Coded.{reports_from};
 ghost use Rattle.results.specs.Results.{written, text_written, buffer_after, text_buffer_after, batch, batch_after};
 
+use many::Coded;
+use printing::Writer;
 use questions::Question;
 
 mod many;
@@ -14,7 +16,7 @@ mod reports;
 pub use many::report_at;
 
 // A line that the desk prints.
-// Kept: the numbers of a lent buffer give it (`write_batch`), and question 53 judges each, so that a wrong one has to be sayable.
+// Kept: (a) the numbers of a lent buffer give it (`write_batch`), and question 53 judges each, so that a wrong one has to be sayable.
 #[derive(Clone, Copy)]
 pub enum Report {
     // A rule (0 an agreement, 1 a call, 2 a firing, 3 a tick or a jump), and the state's number and the clock after it.
@@ -71,12 +73,16 @@ pub fn write_text_refusal(number: u8, place: usize, buffer: &mut [u8]) -> Result
     if !reports::is_text_refusal(number) {
         return Err(Question::ResultKinds);
     }
-    let space = reports::put_refused(buffer, 0, number);
-    let second = printing::put_byte(buffer, space, b' ');
-    let end = printing::put_number(buffer, second, place as u64);
-    Ok(printing::put_byte(buffer, end, b'\n'))
+    let mut out = Writer::new(buffer);
+    reports::put_refused(&mut out, number);
+    out.put_byte(b' ');
+    out.put_number(place as u64);
+    out.put_byte(b'\n');
+    Ok(out.used())
 }
 
+// Kept: (a) two lent lists of numbers, which any caller may hand over, are the public form: question 53 judges what they name, and a list
+// of `Report`s would be a narrower type.
 // The lines of the reports numbered from `from` up to, not including, `to`: of as many as surely fit, 128 bytes to each. Question 53 is
 // asked of all of these before the first is written; which one it refuses is not told (`write` of each tells it).
 pub fn write_batch(
@@ -96,5 +102,12 @@ pub fn write_batch(
     if !tables::table_passes(table) {
         return Err(Question::TableCheck);
     }
-    many::write_lines(table, numbers, integers, from, to, buffer)
+    let reports = Coded {
+        table,
+        numbers,
+        integers,
+        from,
+        to,
+    };
+    reports.write_lines(buffer)
 }

@@ -1,20 +1,20 @@
 // Many reports in a row, as numbers, and their lines one after the other.
-ghost use Rattle.std.specs.Prelude.{◌≡◌, true, ◌+◌, ◌-◌, ◌/◌, ◌<◌, min, length};
+ghost use Rattle.std.specs.Prelude.{◌≡◌, true, ◌+◌, ◌-◌, ◌/◌, min, length};
 ghost use Rattle.laws.specs.Lists.{every};
 ghost use Rattle.contract.specs.Decode.{contract_of};
 ghost use Rattle.contract.specs.Check.{passes};
 ghost use Rattle.printing.specs.Pieces.{Put};
-ghost use Rattle.results.specs.Coded.{report_from, report_at, reports_from};
+ghost use Rattle.results.specs.Coded.{report_from, report_at};
 ghost use Rattle.results.specs.Lines.{report_ok};
 ghost use Rattle.results.specs.Results.{batch_of, lines_of, batch_after};
-ghost use Rattle.results.specs.Private.{AllReady};
+ghost use Rattle.results.specs.Private.{AllReady, reports_in};
 
 use crate::reports::{report_ok, write_line};
 use crate::{Batch, Report};
 use questions::Question;
 
 // The report of four numbers and an integer.
-// Kept: many reports are handed on in two lent buffers of numbers (no heap), and question 53 judges what they name.
+// Kept: (a) many reports are handed on in two lent buffers of numbers (no heap), and question 53 judges what they name.
 #[tactic(auto, unfolding(crate::specs::Coded::report_from, laws::specs::Choice::pick))]
 fn report_of(which: u64, a: u64, b: u64, c: u64, value: i64) -> Report
     ensures { result ≡ report_from which a b c value }
@@ -32,6 +32,7 @@ fn report_of(which: u64, a: u64, b: u64, c: u64, value: i64) -> Report
     }
 }
 
+// Kept: (a) the two lists are the public form, as in `write_batch`.
 // Report i of those in a row; past those that stand there whole, one that question 53 refuses.
 pub fn report_at(numbers: &[u64], integers: &[i64], i: usize) -> Report
     ensures { result ≡ report_at numbers.now integers.now i }
@@ -56,57 +57,56 @@ fn last_of(from: usize, to: usize, size: usize) -> usize
     from + to.saturating_sub(from).min(size / Report::ROOM)
 }
 
-// Question 53 of each of the reports numbered from `from` up to, not including, `to`.
-fn all_ok(table: &[u64], numbers: &[u64], integers: &[i64], from: usize, to: usize) -> bool
-    ensures { result ≡ every (report_ok (contract_of table.now)) (reports_from numbers.now integers.now from (to - from)) }
-{
-    for i in from..to {
-        if !report_ok(table, report_at(numbers, integers, i)) {
-            return false;
+// Reports in a row on the contract in a table: those numbered from `from` up to, not including, `to`.
+#[derive(Clone, Copy)]
+pub(crate) struct Coded<'a> {
+    pub(crate) table: &'a [u64],
+    pub(crate) numbers: &'a [u64],
+    pub(crate) integers: &'a [i64],
+    pub(crate) from: usize,
+    pub(crate) to: usize,
+}
+
+impl Coded<'_> {
+    // Question 53 of each.
+    fn all_ok(&self) -> bool
+        ensures { result ≡ every (report_ok (contract_of self.now.table.now)) (reports_in self.now) }
+    {
+        for i in self.from..self.to {
+            if !report_ok(self.table, report_at(self.numbers, self.integers, i)) {
+                return false;
+            }
         }
+        true
     }
-    true
-}
 
-// Their lines, one after the other; the place after them.
-fn put_lines(
-    table: &[u64],
-    numbers: &[u64],
-    integers: &[i64],
-    from: usize,
-    to: usize,
-    buffer: &mut [u8],
-) -> usize
-    requires { AllReady table.now numbers.now integers.now from to (length buffer.old) }
-    ensures { Put buffer.old 0 (lines_of (contract_of table.now) (reports_from numbers.now integers.now from (to - from))) result buffer.new }
-{
-    let mut used: usize = 0;
-    for i in from..to {
-        let report = report_at(numbers, integers, i);
-        used += write_line(table, report, &mut buffer[used..used + Report::ROOM]);
+    // Their lines, one after the other; the place after them.
+    fn put_lines(&self, buffer: &mut [u8]) -> usize
+        requires { AllReady self.now (length buffer.old) }
+        ensures { Put buffer.old 0 (lines_of (contract_of self.now.table.now) (reports_in self.now)) result buffer.new }
+    {
+        let mut used: usize = 0;
+        for i in self.from..self.to {
+            let report = report_at(self.numbers, self.integers, i);
+            used += write_line(self.table, report, &mut buffer[used..used + Report::ROOM]);
+        }
+        used
     }
-    used
-}
 
-// The lines of as many of the reports as surely fit, or none if question 53 refuses one of these.
-pub(crate) fn write_lines(
-    table: &[u64],
-    numbers: &[u64],
-    integers: &[i64],
-    from: usize,
-    to: usize,
-    buffer: &mut [u8],
-) -> Result<Batch, Question>
-    requires { passes table.now ≡ true }
-    ensures value { result ≡ batch_of (contract_of table.now) (reports_from numbers.now integers.now from (to - from)) (length buffer.old) }
-    ensures buffer_after { buffer.new ≡ batch_after (contract_of table.now) (reports_from numbers.now integers.now from (to - from)) result buffer.old }
-{
-    let end = last_of(from, to, buffer.len());
-    if !all_ok(table, numbers, integers, from, end) {
-        return Err(Question::ResultKinds);
+    // The lines of as many of them as surely fit, or none if question 53 refuses one of these.
+    pub(crate) fn write_lines(&self, buffer: &mut [u8]) -> Result<Batch, Question>
+        requires { passes self.now.table.now ≡ true }
+        ensures value { result ≡ batch_of (contract_of self.now.table.now) (reports_in self.now) (length buffer.old) }
+        ensures buffer_after { buffer.new ≡ batch_after (contract_of self.now.table.now) (reports_in self.now) result buffer.old }
+    {
+        let end = last_of(self.from, self.to, buffer.len());
+        let first = Coded { to: end, ..*self };
+        if !first.all_ok() {
+            return Err(Question::ResultKinds);
+        }
+        Ok(Batch {
+            many: end - self.from,
+            used: first.put_lines(buffer),
+        })
     }
-    Ok(Batch {
-        many: end - from,
-        used: put_lines(table, numbers, integers, from, end, buffer),
-    })
 }

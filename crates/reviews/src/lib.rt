@@ -11,6 +11,7 @@ ghost use Rattle.agreements.specs.Private.{verb_of};
 ghost use Rattle.reviews.specs.Reviews.{is_in, names, never_agreed, field_name};
 
 use contract::Contract;
+use printing::Writer;
 
 // Whether clause i names field x.
 fn clause_names(table: &[u64], i: usize, x: usize) -> bool
@@ -70,12 +71,9 @@ pub fn field_name(table: &[u64], x: usize, buffer: &mut [u8; Contract::NAME]) ->
     if tables::table_passes(table) {
         let h = contract::head(table);
         if x < h.fields {
-            return printing::put_name(
-                table,
-                contract::FIELDS + x * contract::NAME_WORDS,
-                buffer,
-                0,
-            );
+            let mut out = Writer::new(buffer);
+            out.put_name(table, contract::FIELDS + x * contract::NAME_WORDS);
+            return out.used();
         }
         return 0;
     }

@@ -18,7 +18,7 @@ four l a b d e i p q r s ea eb ed ee =
 pub returns : goal.returns
 returns c =
     let s = c.args in
-    let a = c.put.ensures in
-    let b = c.put-2.ensures in
-    let d = c.put-3.ensures in
-    four s.numbers.now _ _ _ _ (4 * s.i) 3 s.i s.amount 0 a b d c.put-4.ensures
+    let a = c.set.ensures in
+    let b = c.set-2.ensures in
+    let d = c.set-3.ensures in
+    four s.numbers.now _ _ _ _ (4 * s.i) 3 s.i s.amount 0 a b d c.set-4.ensures

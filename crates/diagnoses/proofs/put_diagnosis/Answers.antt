@@ -5,25 +5,22 @@ use Rattle.printing.proofs.Puts.{kept}
 use Rattle.diagnoses.proofs.Diagnosed.{told, where_short, what_short, column_counts, diagnosed_short, diagnosed}
 use Rattle.diagnoses.proofs.put_diagnosis.Goals as goal
 
-pub put_what-end-requires : goal.put_what-end-requires
-put_what-end-requires c =
+pub put_what-requires : goal.put_what-requires
+put_what-requires c =
     let o = c.place_in-p in
-    let p = c.put_where-what.ensures in
+    let p = c.put_where.ensures.written in
     omega (arith, c.requires.in_bounds, p.place, kept p, where_short c.args.file.now o.result.line o.result.column c.requires.file_len_bound (omega arith) (omega arith))
 
 pub returns-then-number : goal.returns-then-number
 returns-then-number c =
     let a = c.args in
-    diagnosed_short a.file.now a.text.now a.number a.place c.place_in-p.ensures (told a.number c.number.ensures c.number-2.ensures ∙ c.if-number.true) c.put_where-what.ensures c.put_what-end.ensures
-
-pub shape_of-buffer-then-number : goal.shape_of-buffer-then-number
-shape_of-buffer-then-number c = kept (returns-then-number c)
+    diagnosed_short a.file.now a.text.now a.number a.place c.place_in-p.ensures (told a.number c.number.ensures c.number-2.ensures ∙ c.if-number.true) c.put_where.ensures c.put_what.ensures
 
 pub put_source-requires : goal.put_source-requires
 put_source-requires c =
     let o = c.place_in-p in
-    let p = c.put_where-what.ensures in
-    let q = c.put_what-end.ensures in record {
+    let p = c.put_where.ensures.written in
+    let q = c.put_what.ensures.written in record {
       at_in_bounds = omega (
         arith,
         c.requires.in_bounds,
@@ -40,8 +37,5 @@ put_source-requires c =
 pub returns : goal.returns
 returns c =
     let s = c.args in
-    diagnosed s.file.now s.text.now s.number s.place c.place_in-p.ensures (told s.number c.number.ensures c.number-2.ensures ∙ c.if-number.false) c.put_where-what.ensures c.put_what-end.ensures
+    diagnosed s.file.now s.text.now s.number s.place c.place_in-p.ensures (told s.number c.number.ensures c.number-2.ensures ∙ c.if-number.false) c.put_where.ensures c.put_what.ensures
     c.put_source.ensures
-
-pub shape_of-buffer : goal.shape_of-buffer
-shape_of-buffer c = kept (returns c)

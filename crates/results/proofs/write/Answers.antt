@@ -27,10 +27,5 @@ write_line-requires c =
 
 pub returns : goal.returns
 returns c =
-    wrote _ _ _
-    (record {
-      room = c.if-buffer-lt-ROOM.false;
-      table = sym c.table_passes.ensures ∙ c.if-not-table_passes.false;
-      range = sym c.report_ok.ensures ∙ c.if-not-report_ok.false;
-    })
+    wrote _ _ _ c.if-buffer-lt-ROOM.false (sym c.table_passes.ensures ∙ c.if-not-table_passes.false) (sym c.report_ok.ensures ∙ c.if-not-report_ok.false)
     c.write_line.ensures

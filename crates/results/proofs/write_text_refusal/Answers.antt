@@ -1,8 +1,10 @@
 -- `results::write_text_refusal` meets its contract. Assumes nothing.
+use borrow.Author.Rules.{rules}
 use mathlib.Core.Path.{sym, ◌∙◌}
 use Prim.Native.Nat.{◌<◌}
 use native.Mathlib.Omega.{arith}
 use lib.ListN.{length}
+use Rattle.printing.proofs.Writers.{start_room, from_start}
 use Rattle.results.proofs.Assembled.{text_line_lem, text_no_space, text_no_kind, text_wrote}
 use Rattle.results.proofs.write_text_refusal.Goals as goal
 
@@ -11,8 +13,8 @@ returns-then-buffer-lt-ROOM c =
     let h : length c.args.buffer.now < 128 = omega (arith, c.if-buffer-lt-ROOM.true) in
     text_no_space _ _ _ h
 
-pub put_refused-space-requires : goal.put_refused-space-requires
-put_refused-space-requires c = omega (arith, c.if-buffer-lt-ROOM.false)
+pub put_refused-requires : goal.put_refused-requires
+put_refused-requires c = start_room c.new-out.ensures (omega (arith, c.if-buffer-lt-ROOM.false))
 
 pub returns-then-not-is_text_refusal : goal.returns-then-not-is_text_refusal
 returns-then-not-is_text_refusal c =
@@ -21,5 +23,7 @@ returns-then-not-is_text_refusal c =
 pub returns : goal.returns
 returns c =
     text_wrote _ _ _ c.if-buffer-lt-ROOM.false (sym c.is_text_refusal.ensures ∙ c.if-not-is_text_refusal.false)
-    (text_line_lem c.ranges.number.fits c.ranges.place.fits c.if-buffer-lt-ROOM.false c.put_refused-space.ensures c.put_byte-second.ensures c.put_number-end.ensures
-    c.put_byte.ensures)
+    (from_start c.new-out.ensures
+    (text_line_lem c.ranges.number.fits c.ranges.place.fits (start_room c.new-out.ensures c.if-buffer-lt-ROOM.false) c.put_refused.ensures
+    c.put_byte.ensures c.put_number.ensures c.put_byte-2.ensures)
+    c.used.ensures (search rules))

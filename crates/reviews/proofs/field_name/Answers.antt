@@ -1,4 +1,5 @@
 -- `reviews::field_name` meets its contract. Assumes nothing.
+use borrow.Author.Rules.{rules}
 use mathlib.Core.Path.{sym, ap, ◌∙◌}
 use Prim.Native.Nat.{◌<◌, ◌≤◌}
 use native.Mathlib.Omega.{arith}
@@ -26,8 +27,8 @@ returns-then-x-h c =
     let a = c.args in
     let counted = ap (λ (h : TableHead). h.fields) c.head-h.ensures in
     let within : a.x < word_at a.table.now 2 = omega (arith, counted, c.if-x-h.true) in
-    named_as a.table.now (sym c.table_passes.ensures ∙ c.if-table_passes.true) a.x a.buffer.now within (omega arith)
-    c.put_name.ensures
+    named_as a.table.now (sym c.table_passes.ensures ∙ c.if-table_passes.true) a.x within (omega arith) c.new-out.ensures
+    c.put_name.ensures c.used.ensures (search rules)
 
 pub returns-then-table_passes : goal.returns-then-table_passes
 returns-then-table_passes c =

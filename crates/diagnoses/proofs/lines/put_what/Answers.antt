@@ -5,5 +5,4 @@ use Rattle.diagnoses.proofs.lines.put_what.Goals as goal
 
 pub returns : goal.returns
 returns c =
-    what_made c.args.number (omega (arith, c.ranges.number.fits)) c.requires c.put_words-a.ensures c.put_bytes-b.ensures c.put_number-d.ensures
-    c.put_bytes.ensures
+    what_made c.args.number (omega (arith, c.ranges.number.fits)) c.requires c.put_words.ensures c.put_bytes.ensures c.put_number.ensures c.put_bytes-2.ensures

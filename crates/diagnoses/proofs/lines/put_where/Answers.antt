@@ -5,5 +5,5 @@ use Rattle.diagnoses.proofs.lines.put_where.Goals as goal
 
 pub returns : goal.returns
 returns c =
-    where_made c.args.file.now c.args.line c.args.column c.requires.file_len_bound c.ranges.line.fits c.ranges.column.fits (omega (arith, c.requires.in_bounds)) c.put_bytes-a.ensures
-    c.put_byte-b.ensures c.put_number-d.ensures c.put_byte-e.ensures c.put_number-f.ensures c.put_bytes.ensures
+    where_made c.args.file.now c.args.line c.args.column c.requires.file_len_bound c.ranges.line.fits c.ranges.column.fits (omega (arith, c.requires.in_bounds)) c.put_bytes.ensures
+    c.put_byte.ensures c.put_number.ensures c.put_byte-2.ensures c.put_number-2.ensures c.put_bytes-2.ensures

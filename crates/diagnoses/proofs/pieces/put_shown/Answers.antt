@@ -1,27 +1,21 @@
 -- `diagnoses::pieces::put_shown` meets its contract. Assumes nothing.
-use mathlib.Core.Path.{◌≡◌, ◌∙◌}
+use mathlib.Core.Path.{ap, ◌∙◌}
 use Prim.Native.Nat.{◌<◌, min}
-use native.Mathlib.Nat.{add-zero}
 use native.Mathlib.Omega.{arith}
-use lib.ListN.{length}
-use Rattle.printing.proofs.Puts.{stored}
-use Rattle.diagnoses.specs.Diagnoses.{shown_line}
-use Rattle.diagnoses.proofs.Shown.{shown_long, shown_next}
+use lib.ListN.{length, length-take}
+use lib.Seq.{get_or-take}
+use Rattle.diagnoses.specs.Diagnoses.{shown}
+use Rattle.diagnoses.proofs.Shown.{more_shown, all_shown}
 use Rattle.diagnoses.proofs.pieces.put_shown.Goals as goal
 
-pub loop-i-init : goal.loop-i-init
-loop-i-init c = rw add-zero
-
-pub loop-i-preserved : goal.loop-i-preserved
-loop-i-preserved c =
-    let a = c.args in
-    let k = c.loop-i in
-    let h : k.i < min 200 (length a.line.now) = omega (arith, c.loop-i-test.true, c.min-n.ensures) in
-    shown_next k.buffer a.line.now a.at k.i h c.show.ensures ∙ k.invariant
+pub loop-b-preserved : goal.loop-b-preserved
+loop-b-preserved c =
+    let line = c.args.line.now in
+    let n = c.min-n.result in
+    let i = c.loop-b.b-index in
+    let h : i < min 200 (length line) = omega (arith, c.loop-b-test.true, c.min-n.ensures, length-take n line) in
+    let k : i < n = omega (arith, c.min-n.ensures) in
+    more_shown c.loop-b.invariant c.requires h (c.show.ensures ∙ ap shown (get_or-take n line i 0 k)) c.put_byte.ensures
 
 pub returns : goal.returns
-returns c =
-    let line = c.args.line.now in
-    let k = c.loop-i in
-    let l : length (shown_line line) ≡ c.min-n.result = omega (arith, shown_long line, c.min-n.ensures) in
-    stored (shown_line line) c.args.at k.i c.min-n.result k.invariant (omega (arith, l, c.loop-i-test.false)) (omega (arith, l)) (omega (arith, shown_long line, c.requires))
+returns c = all_shown c.loop-b.invariant (omega (arith, c.loop-b-test.false, c.min-n.ensures, length-take c.min-n.result c.args.line.now))

@@ -1,12 +1,6 @@
--- `diagnoses::pieces::put_shown` meets its contract. The invariant of its loop: the stores that are left make the buffer what all of them make of the
--- one lent. Assumes nothing.
-use mathlib.Core.Path.{◌≡◌}
-use Prim.Native.Nat.{◌+◌}
-use lib.ListN.{drop}
-use lib.Seq.{sets}
-use Rattle.diagnoses.specs.Diagnoses.{shown_line}
+-- `diagnoses::pieces::put_shown` meets its contract. The invariant of its loop: the bytes before the one at hand are put. Assumes nothing.
+use Rattle.diagnoses.proofs.Shown.{Showing}
 use Rattle.diagnoses.proofs.pieces.put_shown.Given as goal
 
-abbrev pub invariant-loop-i : goal.invariant-loop-i
-invariant-loop-i l =
-    sets l.buffer (l.at + l.i) (drop l.i (shown_line l.line)) ≡ sets l.initial.buffer l.at (shown_line l.line)
+abbrev pub invariant-loop-b : goal.invariant-loop-b
+invariant-loop-b l = Showing l.line l.initial.out l.b-index l.out

@@ -5,7 +5,7 @@ use lib.ListN.{length, replicate}
 use lib.Seq.{length-sets}
 use Rattle.question_words.specs.Words.{words_of}
 use Rattle.question_words.proofs.WordLaws.{words_short}
-use Rattle.printing.proofs.Puts.{puts_as}
+use Rattle.printing.proofs.Writers.{puts_same}
 use Rattle.diagnoses.proofs.Shown.{front_stored}
 use Rattle.diagnoses.proofs.pieces.put_words.Goals as goal
 
@@ -25,4 +25,4 @@ pub returns : goal.returns
 returns c =
     let a = c.args in
     let w = c.words-n.ensures in
-    puts_as a.buffer.now a.at (front_stored (replicate 64 0) (words_of a.number) w.value w.buffer_after (words_short a.number)) c.put_bytes.ensures
+    puts_same (front_stored (replicate 64 0) (words_of a.number) w.value w.buffer_after (words_short a.number)) c.put_bytes.ensures

@@ -4,4 +4,4 @@ use Rattle.pages.proofs.lines.put_blank.Goals as goal
 
 pub returns : goal.returns
 returns c =
-    blank_line_lem c.requires c.put_spaces-end.ensures c.put_byte.ensures
+    blank_line_lem c.requires c.put_spaces.ensures c.put_byte.ensures

@@ -4,4 +4,4 @@ use Rattle.pages.proofs.lines.put_foot.Goals as goal
 
 pub returns : goal.returns
 returns c =
-    foot_line c.args.n c.requires.1 c.put_spaces-tens.ensures c.put_byte-ones.ensures c.put_byte-end.ensures c.put_byte.ensures
+    foot_line c.args.n c.requires.1 c.put_spaces.ensures c.put_byte.ensures c.put_byte-2.ensures c.put_byte-3.ensures

@@ -9,15 +9,15 @@ use Rattle.pages.specs.Page.{right, left}
 use Rattle.pages.proofs.Assembled.{room_first, third_room, four_pieces}
 use Rattle.pages.proofs.lines.put_payee.Goals as goal
 
-pub put_party-space-requires : goal.put_party-space-requires
-put_party-space-requires c =
-    record { table_value = c.requires.table_value; party_in_bounds = room_first c.args.at (left 32 (get_or (contract_of c.args.table.now).parties c.args.party [])) (bytes " " ++ (right 19 (decimal c.args.amount) ++ spelled line_end)) c.requires.line_end_in_bounds }
+pub put_party-requires : goal.put_party-requires
+put_party-requires c =
+    record { table_value = c.requires.table_value; party_in_bounds = room_first c.args.out.now (left 32 (get_or (contract_of c.args.table.now).parties c.args.party [])) (bytes " " ++ (right 19 (decimal c.args.amount) ++ spelled line_end)) c.requires.line_end_in_bounds }
 
-pub put_right-end-requires : goal.put_right-end-requires
-put_right-end-requires c =
-    third_room (left 32 (get_or (contract_of c.args.table.now).parties c.args.party [])) (bytes " ") (right 19 (decimal c.args.amount)) (spelled line_end) c.requires.line_end_in_bounds c.put_party-space.ensures c.put_byte-number.ensures
+pub put_right-requires : goal.put_right-requires
+put_right-requires c =
+    third_room (left 32 (get_or (contract_of c.args.table.now).parties c.args.party [])) (bytes " ") (right 19 (decimal c.args.amount)) (spelled line_end) c.requires.line_end_in_bounds c.put_party.ensures c.put_byte.ensures
 
 pub returns : goal.returns
 unfolding spelled
 returns c =
-    four_pieces (left 32 (get_or (contract_of c.args.table.now).parties c.args.party [])) (bytes " ") (right 19 (decimal c.args.amount)) (spelled line_end) c.requires.line_end_in_bounds c.put_party-space.ensures c.put_byte-number.ensures c.put_right-end.ensures c.put_byte.ensures
+    four_pieces (left 32 (get_or (contract_of c.args.table.now).parties c.args.party [])) (bytes " ") (right 19 (decimal c.args.amount)) (spelled line_end) c.requires.line_end_in_bounds c.put_party.ensures c.put_byte.ensures c.put_right.ensures c.put_byte-2.ensures

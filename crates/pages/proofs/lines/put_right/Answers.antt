@@ -4,4 +4,4 @@ use Rattle.pages.proofs.lines.put_right.Goals as goal
 
 pub returns : goal.returns
 returns c =
-    right_piece c.args.n c.requires c.digit_count.ensures c.saturating_sub.ensures c.put_spaces-first.ensures c.put_number.ensures
+    right_piece c.args.n c.requires c.digit_count.ensures c.saturating_sub.ensures c.put_spaces.ensures c.put_number.ensures

@@ -7,14 +7,14 @@ use Rattle.pages.specs.Page.{right, left}
 use Rattle.pages.proofs.Assembled.{room_first, third_room, four_pieces}
 use Rattle.pages.proofs.lines.put_step.Goals as goal
 
-pub put_right-space-requires : goal.put_right-space-requires
-put_right-space-requires c =
-    room_first c.args.at (right 19 (decimal c.args.clock)) (bytes " " ++ (left 11 (rule_name c.args.rule) ++ bytes " ")) c.requires.bytes_in_bounds
+pub put_right-requires : goal.put_right-requires
+put_right-requires c =
+    room_first c.args.out.now (right 19 (decimal c.args.clock)) (bytes " " ++ (left 11 (rule_name c.args.rule) ++ bytes " ")) c.requires.bytes_in_bounds
 
-pub put_rule-end-requires : goal.put_rule-end-requires
-put_rule-end-requires c =
-    record { rule_value = c.requires.rule_value; rule_in_bounds = third_room (right 19 (decimal c.args.clock)) (bytes " ") (left 11 (rule_name c.args.rule)) (bytes " ") c.requires.bytes_in_bounds c.put_right-space.ensures c.put_byte-name.ensures }
+pub put_rule-requires : goal.put_rule-requires
+put_rule-requires c =
+    record { rule_value = c.requires.rule_value; rule_in_bounds = third_room (right 19 (decimal c.args.clock)) (bytes " ") (left 11 (rule_name c.args.rule)) (bytes " ") c.requires.bytes_in_bounds c.put_right.ensures c.put_byte.ensures }
 
 pub returns : goal.returns
 returns c =
-    four_pieces (right 19 (decimal c.args.clock)) (bytes " ") (left 11 (rule_name c.args.rule)) (bytes " ") c.requires.bytes_in_bounds c.put_right-space.ensures c.put_byte-name.ensures c.put_rule-end.ensures c.put_byte.ensures
+    four_pieces (right 19 (decimal c.args.clock)) (bytes " ") (left 11 (rule_name c.args.rule)) (bytes " ") c.requires.bytes_in_bounds c.put_right.ensures c.put_byte.ensures c.put_rule.ensures c.put_byte-2.ensures

@@ -3,4 +3,4 @@ use Rattle.pages.proofs.Composed.{Blanked}
 use Rattle.pages.proofs.sheets.put_blanks.Given as goal
 
 abbrev pub invariant-loop-i : goal.invariant-loop-i
-invariant-loop-i l = Blanked l.n l.initial.buffer l.at l.i l.next l.buffer
+invariant-loop-i l = Blanked l.n l.initial.out l.i l.out

@@ -4,4 +4,4 @@ use Rattle.results.proofs.reports.put_refused.Goals as goal
 
 pub returns : goal.returns
 returns c =
-    refused_piece c.ranges.n.fits c.requires c.put_word-space.ensures c.put_byte-first.ensures c.put_number.ensures
+    refused_piece c.ranges.n.fits c.requires c.put_word.ensures c.put_byte.ensures c.put_number.ensures

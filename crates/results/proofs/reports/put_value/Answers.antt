@@ -19,9 +19,9 @@ overflow_add-row c =
 
 pub returns-then-kind-eq2 : goal.returns-then-kind-eq2
 returns-then-kind-eq2 c =
-    string_value c.if-kind-eq2.true (c.magnitude.ensures ∙ ap nat_abs (to_z-of_z c.ranges.value)) c.requires c.put_byte-string.ensures c.put_name-quote.ensures
-    c.put_byte.ensures
+    string_value c.if-kind-eq2.true (c.magnitude.ensures ∙ ap nat_abs (to_z-of_z c.ranges.value)) c.requires c.put_byte.ensures c.put_name.ensures
+    c.put_byte-then-kind-eq2.ensures
 
-pub returns : goal.returns
-returns c =
+pub returns-else-kind-eq2 : goal.returns-else-kind-eq2
+returns-else-kind-eq2 c =
     number_value c.args.table.now c.args.kind c.if-kind-eq2.false (to_z-of_z c.ranges.value) (again c.ranges.value) c.requires.room c.put_integer.ensures

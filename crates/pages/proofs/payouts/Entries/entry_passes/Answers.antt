@@ -1,0 +1,14 @@
+-- `pages::payouts::Entries::entry_passes` meets its contract. Assumes nothing.
+use native.Mathlib.Omega.{arith}
+use lib.ListN.{get_or}
+use lib.IntN.{pos}
+use mir.Syntax.{w64}
+use mir.Val.{SFits}
+use mir.Facts.{to_z-of_z}
+use Rattle.pages.proofs.Asking.{entry_asked}
+use Rattle.pages.proofs.payouts.Entries.entry_passes.Goals as goal
+
+pub returns : goal.returns
+returns c =
+    let f : SFits w64 (get_or c.args.self.now.values.now c.args.i (pos 0)) = record { sfits = omega arith } in
+    entry_asked _ _ _ c.args.i c.requires.0 c.requires.1 (to_z-of_z f) c.is_payout.ensures

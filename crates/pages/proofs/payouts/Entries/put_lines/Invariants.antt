@@ -1,0 +1,6 @@
+-- `pages::payouts::Entries::put_lines` meets its contract. The invariant of its loop: the lines before entry i stand first in the buffer. Assumes nothing.
+use Rattle.pages.proofs.Composed.{Going}
+use Rattle.pages.proofs.payouts.Entries.put_lines.Given as goal
+
+abbrev pub invariant-loop-i : goal.invariant-loop-i
+invariant-loop-i l = Going l.self.table.now l.self.numbers.now l.self.values.now l.from l.to l.initial.out l.i l.out

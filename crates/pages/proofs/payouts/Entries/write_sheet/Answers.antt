@@ -1,0 +1,21 @@
+-- `pages::payouts::Entries::write_sheet` meets its contract. Assumes nothing.
+use borrow.Author.Rules.{rules}
+use Rattle.pages.proofs.Composed.{lines_room, blanks_room, foot_room, page_put}
+use Rattle.pages.proofs.payouts.Entries.write_sheet.Goals as goal
+
+pub put_lines-requires : goal.put_lines-requires
+put_lines-requires c =
+    record { all_payable = c.requires.all_payable; to_in_bounds = lines_room c.requires.all_payable c.args.number c.first_of-first.ensures c.end_of-end.ensures c.requires.page_bytes_in_bounds c.new-out.ensures }
+
+pub put_blanks-requires : goal.put_blanks-requires
+put_blanks-requires c =
+    blanks_room c.requires.all_payable c.args.number c.first_of-first.ensures c.end_of-end.ensures c.requires.page_bytes_in_bounds c.new-out.ensures c.put_lines.ensures
+
+pub put_foot-requires : goal.put_foot-requires
+put_foot-requires c =
+    foot_room c.requires.all_payable c.args.number c.first_of-first.ensures c.end_of-end.ensures c.requires.page_bytes_in_bounds c.new-out.ensures c.put_lines.ensures c.put_blanks.ensures
+
+pub returns : goal.returns
+returns c =
+    page_put c.requires.all_payable c.args.number c.first_of-first.ensures c.end_of-end.ensures c.requires.page_bytes_in_bounds c.new-out.ensures c.put_lines.ensures c.put_blanks.ensures c.put_foot.ensures
+    (search rules)

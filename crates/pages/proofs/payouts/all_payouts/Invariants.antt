@@ -1,7 +1,0 @@
--- `pages::payouts::all_payouts` meets its contract. The invariant of its loop: the entries before i are payouts. Assumes nothing.
-use Rattle.contract.specs.Decode.{contract_of}
-use Rattle.pages.proofs.Asking.{Passed}
-use Rattle.pages.proofs.payouts.all_payouts.Given as goal
-
-abbrev pub invariant-loop-i : goal.invariant-loop-i
-invariant-loop-i l = Passed (contract_of l.table) l.numbers l.values l.i

@@ -1,0 +1,14 @@
+-- `results::reports::put_failed` meets its contract. Assumes nothing.
+use native.Mathlib.Omega.{arith}
+use Rattle.printing.proofs.Puts.{kept}
+use Rattle.results.proofs.Assembled.{rule_short, failed_line}
+use Rattle.results.proofs.reports.put_failed.Goals as goal
+
+pub put_refusal-requires : goal.put_refusal-requires
+put_refusal-requires c =
+    let p = c.put_rule.ensures.written in
+    omega (arith, p.place, kept p, rule_short 2, c.requires)
+
+pub returns : goal.returns
+returns c =
+    failed_line c.ranges.n.fits c.requires c.put_rule.ensures c.put_refusal.ensures

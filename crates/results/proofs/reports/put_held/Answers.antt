@@ -1,0 +1,14 @@
+-- `results::reports::put_held` meets its contract. Assumes nothing.
+use native.Mathlib.Omega.{arith}
+use Rattle.results.proofs.Assembled.{ready_asset, held_line}
+use Rattle.results.proofs.reports.put_held.Goals as goal
+
+pub overflow_mul-asset : goal.overflow_mul-asset
+overflow_mul-asset c = record { fits = omega (arith, (ready_asset c.requires).low) }
+
+pub overflow_add-asset : goal.overflow_add-asset
+overflow_add-asset c = record { fits = omega (arith, (ready_asset c.requires).low) }
+
+pub returns : goal.returns
+returns c =
+    held_line c.requires c.ranges.amount.fits c.put_name.ensures c.put_bytes.ensures c.put_number.ensures c.put_byte.ensures

@@ -1,0 +1,14 @@
+-- `results::reports::put_ruled` meets its contract. Assumes nothing.
+use native.Mathlib.Omega.{arith}
+use Rattle.results.proofs.Assembled.{ready_state, ruled_line}
+use Rattle.results.proofs.reports.put_ruled.Goals as goal
+
+pub overflow_mul-state : goal.overflow_mul-state
+overflow_mul-state c = record { fits = omega (arith, (ready_state c.requires).low) }
+
+pub overflow_add-state : goal.overflow_add-state
+overflow_add-state c = record { fits = omega (arith, (ready_state c.requires).low) }
+
+pub returns : goal.returns
+returns c =
+    ruled_line c.requires c.ranges.clock.fits c.put_rule.ensures c.put_name.ensures c.put_bytes.ensures c.put_number.ensures c.put_byte.ensures

@@ -1,0 +1,26 @@
+-- `results::reports::put_sent` meets its contract. Assumes nothing.
+use native.Mathlib.Omega.{arith}
+use mir.Facts.{to_z-of_z}
+use Rattle.numbers.proofs.Whole.{again}
+use Rattle.printing.proofs.Puts.{kept}
+use Rattle.results.proofs.Assembled.{ready_value, ready_party, value_short, sent_line}
+use Rattle.results.proofs.reports.put_sent.Goals as goal
+
+pub put_value-requires : goal.put_value-requires
+put_value-requires c = ready_value c.ranges.value c.requires
+
+pub put_arrow-requires : goal.put_arrow-requires
+put_arrow-requires c =
+    let p = c.put_value.ensures.written in
+    omega (arith, p.place, kept p, value_short (again c.ranges.value) (ready_value c.ranges.value c.requires), c.requires.room)
+
+pub overflow_mul-party : goal.overflow_mul-party
+overflow_mul-party c = record { fits = omega (arith, (ready_party c.requires).low) }
+
+pub overflow_add-party : goal.overflow_add-party
+overflow_add-party c = record { fits = omega (arith, (ready_party c.requires).low) }
+
+pub returns : goal.returns
+returns c =
+    sent_line (to_z-of_z c.ranges.value) c.ranges.value c.requires c.put_value.ensures c.put_arrow.ensures c.put_name.ensures
+    c.put_byte.ensures
