@@ -20,6 +20,7 @@ const WORD: usize = 8;
 const LINES: usize = 1024;
 
 // The most parts in which a session is played.
+// Kept: (d) these five are sizes of buffers and counts of parts, and no kinds of anything.
 const PARTS: u64 = 9223372036854775808;
 
 // A checksum with one number more.

@@ -8,6 +8,7 @@ use contract::Contract;
 use diagnoses::Diagnosis;
 use pages::{Gathered, Sheet};
 use question_words::Sentence;
+use reading::Refusal;
 use results::Report;
 use state::State;
 use std::io;
@@ -217,7 +218,8 @@ fn open_pages<'a, R: Files + Errors>(
 // ---- a session, line by line
 
 // The bytes of a session that are read and not yet taken: those from `at` up to `size`. The last byte stays free.
-// Kept: (a) the desk runs in fixed memory, however long a session is.
+// Kept: (d) a line may begin in one block and end in the next, so what is left of it moves to the front and the rest is read after it; a
+// `BufReader` is such an array and two places too, takes them from the heap, and has no place for the end that a last line may lack.
 #[derive(Drop)]
 struct Session {
     bytes: [u8; BLOCK],
@@ -341,9 +343,10 @@ fn refuse(
     rt: &(impl Print + Errors),
     name: &[u8],
     text: &[u8],
-    number: u8,
-    place: usize,
+    refusal: Refusal,
 ) -> Result<(), Said> {
+    let number = refusal.question.number();
+    let place = refusal.place;
     let mut line = [0u8; Report::ROOM];
     let written = results::write_text_refusal(number, place, &mut line);
     let printed = match written {
@@ -380,7 +383,7 @@ fn begin(
     let mut table = [0u64; Contract::TABLE];
     let answer = reader::read(text, &mut table);
     match answer {
-        Err(r) => refuse(rt, name, text, r.question.number(), r.place),
+        Err(refusal) => refuse(rt, name, text, refusal),
         Ok(()) => {
             if asked.review {
                 review(rt, &table)

@@ -10,6 +10,7 @@ use arguments::{Asked, Fault};
 use contract::Contract;
 use diagnoses::Diagnosis;
 use question_words::Sentence;
+use reading::Refusal;
 use results::Report;
 use std::rt::Files;
 use std::{fs, io};
@@ -29,7 +30,9 @@ fn argument(lines: &str, n: Option<usize>) -> Option<&str> {
 }
 
 // A refused text, as the desk tells it.
-fn refuse(rt: &impl Print, name: &str, text: &[u8], number: u8, place: usize) -> io::Result<()> {
+fn refuse(rt: &impl Print, name: &str, text: &[u8], refusal: Refusal) -> io::Result<()> {
+    let number = refusal.question.number();
+    let place = refusal.place;
     let mut line = [0u8; Report::ROOM];
     let written = results::write_text_refusal(number, place, &mut line);
     if let Ok(n) = written {
@@ -73,7 +76,7 @@ fn begin(
     let mut table = [0u64; Contract::TABLE];
     let answer = reader::read(text, &mut table);
     match answer {
-        Err(r) => refuse(rt, name, text, r.question.number(), r.place),
+        Err(refusal) => refuse(rt, name, text, refusal),
         Ok(()) => {
             if asked.review {
                 review(rt, &table)

@@ -9,7 +9,7 @@ use lines::{Agreement, Line, Request};
 use std::io;
 use std::io::Read;
 
-fn print_call(rt: &impl Print, line: &Line) -> io::Result<()> {
+fn print_call(rt: &impl Print, line: &Line, numbers: &[i64]) -> io::Result<()> {
     let Line {
         party_start,
         party_end,
@@ -18,9 +18,9 @@ fn print_call(rt: &impl Print, line: &Line) -> io::Result<()> {
         ..
     } = line;
     print!(rt; "call {party_start} {party_end} {function_start} {function_end} (")?;
-    print_integers(rt, &line.numbers, 0, line.values)?;
+    print_integers(rt, numbers, 0, line.values)?;
     print!(rt; " ) [")?;
-    print_integers(rt, &line.numbers, line.values, line.assets)?;
+    print_integers(rt, numbers, line.values, line.assets)?;
     println!(rt; " ]")
 }
 
@@ -55,12 +55,13 @@ fn print_agreement(rt: &impl Print, a: &Agreement) -> io::Result<()> {
 
 // What one line asks for.
 fn show(rt: &impl Print, text: &[u8]) -> io::Result<()> {
-    let line = lines::read(text);
+    let mut numbers = [0; Line::NUMBERS];
+    let line = lines::read(text, &mut numbers);
     match line.request {
         Request::Refused(question) => println!(rt; "refused {}", question.number()),
         Request::Tick => println!(rt; "tick"),
         Request::Jump(clock) => println!(rt; "jump {clock}"),
-        Request::Call => print_call(rt, &line),
+        Request::Call => print_call(rt, &line, &numbers),
         Request::Agreement => print_agreement(rt, &lines::agreement_of(text)),
     }
 }

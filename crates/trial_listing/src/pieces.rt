@@ -2,6 +2,7 @@
 ghost use Rattle.std.specs.Prelude.{◌≤◌};
 
 use contract::{Contract, Function};
+use printing::Writer;
 use std::alloc::AllocError;
 use tokens::Digits;
 
@@ -15,6 +16,7 @@ pub enum Section {
 }
 
 // Where a section stands.
+// Kept: (d) a place that a section has, and no number that it is: `usize::from(section)` would not say so.
 fn start_of(section: Section) -> usize
     ensures { result ≤ 1891 }
 {
@@ -80,7 +82,9 @@ impl Listing<'_> {
 
     pub(crate) fn put_number(&mut self, n: u64) -> Put {
         let mut digits = [0u8; Digits::MOST];
-        let many = printing::put_number(&mut digits, 0, n);
+        let mut out = Writer::new(&mut digits);
+        out.put_number(n);
+        let many = out.used();
         self.put_all(tokens::between(&digits, 0, many))
     }
 

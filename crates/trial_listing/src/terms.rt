@@ -46,7 +46,8 @@ fn first_of(table: &[u64], k: usize) -> usize
 // How tightly a kind of node binds: || least, then &&, ~, comparisons, + and -, * and /, and what has no parts most. The right part of an
 // operator must bind more than the operator, since those of one rank go left to right: its least rank is the odd number from the operator's on.
 // Of ~ in a row each may be the part of another.
-// Kept: (d) this and the next two say how each kind of node is printed; they turn no type into another.
+// Kept: (d) this and the next two say how a node of each kind is printed. Kinds and words are numbers of the crates `contract` and `words`, so
+// a `From` would be one from any number to a rank, a word or a section, and would not say which of them it is.
 fn rank_of(kind: u64) -> u8 {
     match kind {
         Node::OR => 2,
@@ -61,6 +62,8 @@ fn rank_of(kind: u64) -> u8 {
 
 const LEAF: u8 = 12;
 
+// The fixed word of a kind.
+// Kept: (d) the reason at `rank_of`.
 fn word_of(kind: u64) -> u8 {
     match kind {
         Node::NOW => words::NOW,
@@ -84,6 +87,7 @@ fn word_of(kind: u64) -> u8 {
 }
 
 // The section of the names of a kind.
+// Kept: (d) the reason at `rank_of`.
 fn section_of(kind: u64) -> Section {
     match kind {
         Node::FIELD => Section::Fields,

@@ -27,9 +27,8 @@ use outcomes::Stepped;
 use state::State;
 use std::alloc::{AllocError, Global};
 use std::io;
-use std::str::Split;
 use trial_states::{Part, Said};
-use trial_text::{number, store};
+use trial_text::{number, number_at, store};
 
 // One word more than a table has.
 const WORDS: usize = Contract::TABLE + 1;
@@ -46,12 +45,12 @@ struct Trial {
 // ---- the table and the state
 
 // Numbers that rise by the last of the words, at places so far apart.
-fn repeat(numbers: &mut [u64], mut words: Split<'_, char>) {
-    let mut at: usize = number(words.next());
-    let step = number(words.next());
-    let times = number(words.next());
-    let mut value: u64 = number(words.next());
-    let add = number(words.next());
+fn repeat(numbers: &mut [u64], words: &str) {
+    let mut at: usize = number_at(words, 0);
+    let step = number_at(words, 1);
+    let times = number_at(words, 2);
+    let mut value: u64 = number_at(words, 3);
+    let add = number_at(words, 4);
     for _ in 0..times {
         if let Some(place) = numbers.get_mut(at) {
             *place = value;
@@ -229,27 +228,20 @@ impl Trial {
         }
     }
 
-    // A part of the state.
-    fn set(&mut self, words: &str) {
-        if let Ok(part) = words.parse::<Part>() {
-            self.state = part.put(self.state);
-        }
-    }
-
     // What a line says of the table or the state.
     fn set_up(&mut self, kind: &str, rest: &str) -> Result<(), AllocError> {
-        let mut words = rest.split(' ');
         match kind {
             "w" => {
-                let at = number(words.next());
-                store(&mut self.all, at, words);
+                if let Some((at, numbers)) = rest.split_once(' ') {
+                    store(&mut self.all, number(Some(at)), numbers);
+                }
             }
-            "r" => repeat(&mut self.all, words),
-            "l" => self.words = number(words.next()),
+            "r" => repeat(&mut self.all, rest),
+            "l" => self.words = number_at(rest, 0),
             "k" => self.kept = self.all.clone()?,
             "b" => self.all = self.kept.clone()?,
-            "f" => self.state = State::fresh(number(words.next())),
-            "s" => self.set(rest),
+            "f" => self.state = State::fresh(number_at(rest, 0)),
+            "s" => self.state = Part::put_named(rest, self.state),
             _ => {}
         }
         Ok(())

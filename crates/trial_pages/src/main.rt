@@ -18,10 +18,9 @@
 use contract::Contract;
 use pages::{Gathered, Sheet};
 use questions::Question;
-use std::io;
 use std::rt::Files;
-use std::str::Split;
-use trial_text::number;
+use std::{array, io};
+use trial_text::{number_at, rest_word};
 
 // The entries that there is room for, and the bytes that there are for a buffer.
 const ENTRIES: usize = 130;
@@ -61,24 +60,16 @@ fn make_value(i: u64) -> i64 {
 
 // ---- pages
 
-fn show_rest(rt: &impl Print, buffer: &[u8], from: usize) -> io::Result<()> {
-    if trial_text::is_dotted(buffer, from) {
-        println!(rt; "kept")
-    } else {
-        println!(rt; "changed")
-    }
-}
-
 fn show(rt: &impl Print, answer: Result<(), Question>, buffer: &[u8]) -> io::Result<()> {
     match answer {
         Ok(()) => {
             println!(rt; "accepted")?;
             rt.write_all(tokens::between(buffer, 0, Sheet::BYTES))?;
-            show_rest(rt, buffer, Sheet::BYTES)
+            println!(rt; "{}", rest_word(buffer, Sheet::BYTES))
         }
         Err(question) => {
             println!(rt; "refused {}", question.number())?;
-            show_rest(rt, buffer, 0)
+            println!(rt; "{}", rest_word(buffer, 0))
         }
     }
 }
@@ -121,12 +112,9 @@ impl Trial {
     }
 
     // A result line, by its four numbers and its integer.
-    fn gather(&mut self, rt: &impl Print, mut words: Split<'_, char>) -> io::Result<()> {
-        let mut report = [0u64; 4];
-        for n in &mut report {
-            *n = number(words.next());
-        }
-        let integers = [number(words.next())];
+    fn gather(&mut self, rt: &impl Print, words: &str) -> io::Result<()> {
+        let report: [u64; 4] = array::from_fn(|k| number_at(words, k));
+        let integers = [number_at(words, 4)];
         self.gathered = pages::gather(
             self.gathered,
             &report,
@@ -156,22 +144,17 @@ impl Trial {
     }
 
     // A line with up to three numbers.
-    fn take_numbers(
-        &mut self,
-        rt: &impl Print,
-        kind: &str,
-        mut words: Split<'_, char>,
-    ) -> io::Result<()> {
-        let first = number(words.next());
+    fn take_numbers(&mut self, rt: &impl Print, kind: &str, words: &str) -> io::Result<()> {
+        let first = number_at(words, 0);
         match kind {
             "b" => self.size = first,
             "e" => self.make_entries(first),
-            "k" => self.change_number(first, number(words.next()), number(words.next())),
-            "v" => self.change_value(first, number(words.next())),
-            "m" => self.change_value(first, -1 - number::<i64>(words.next())),
+            "k" => self.change_number(first, number_at(words, 1), number_at(words, 2)),
+            "v" => self.change_value(first, number_at(words, 1)),
+            "m" => self.change_value(first, -1 - number_at::<i64>(words, 1)),
             "n" => {
                 self.numbers_given = first;
-                self.values_given = number(words.next());
+                self.values_given = number_at(words, 1);
             }
             "p" => self.ask(rt, first)?,
             _ => {}
@@ -182,7 +165,6 @@ impl Trial {
     fn take(&mut self, rt: &(impl Files + Print), line: &str) -> io::Result<()> {
         println!(rt; "{line}")?;
         let (kind, words) = line.split_once(' ').unwrap_or((line, ""));
-        let words = words.split(' ');
         match kind {
             "t" => self.read_terms(rt),
             "s" => self.gathered = Gathered::nothing(),

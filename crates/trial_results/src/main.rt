@@ -20,8 +20,7 @@ use contract::Contract;
 use questions::Question;
 use results::{Batch, Report};
 use std::io;
-use std::str::Split;
-use trial_text::{number, store};
+use trial_text::{number, number_at, rest_word, store};
 
 // The bytes that there are for a buffer, and the reports at once that there are numbers for.
 const ROOM: usize = 640;
@@ -37,24 +36,16 @@ struct Trial {
 
 // ---- what came of a report
 
-fn show_rest(rt: &impl Print, buffer: &[u8], from: usize) -> io::Result<()> {
-    if trial_text::is_dotted(buffer, from) {
-        println!(rt; "kept")
-    } else {
-        println!(rt; "changed")
-    }
-}
-
 fn show(rt: &impl Print, answer: Result<usize, Question>, buffer: &[u8]) -> io::Result<()> {
     match answer {
         Ok(n) => {
             print!(rt; "{n} bytes: ")?;
             rt.write_all(buffer.get(..n).unwrap_or(buffer))?;
-            show_rest(rt, buffer, n)
+            println!(rt; "{}", rest_word(buffer, n))
         }
         Err(question) => {
             println!(rt; "no: {}", question.number())?;
-            show_rest(rt, buffer, 0)
+            println!(rt; "{}", rest_word(buffer, 0))
         }
     }
 }
@@ -96,10 +87,12 @@ impl Trial {
         )
     }
 
-    fn write_batch(&self, rt: &impl Print, mut words: Split<'_, char>) -> io::Result<()> {
-        let many = number(words.next());
+    fn write_batch(&self, rt: &impl Print, words: &str) -> io::Result<()> {
+        let many = number_at(words, 0);
         let mut numbers = [0u64; MANY * Report::WORDS];
-        store(&mut numbers, 0, words);
+        if let Some((_, reports)) = words.split_once(' ') {
+            store(&mut numbers, 0, reports);
+        }
         let mut buffer = [b'.'; ROOM];
         let Some(part) = buffer.get_mut(..self.size) else {
             return Ok(());
@@ -109,47 +102,42 @@ impl Trial {
     }
 
     // A report of up to three numbers, or many at once.
-    fn report(&self, rt: &impl Print, kind: &str, mut words: Split<'_, char>) -> io::Result<()> {
+    fn report(&self, rt: &impl Print, kind: &str, words: &str) -> io::Result<()> {
         match kind {
-            "q" => self.write(rt, Report::Refused(number(words.next()))),
-            "f" => self.write(rt, Report::Failed(number(words.next()))),
-            "h" => self.write(rt, Report::Held(number(words.next()), number(words.next()))),
-            "t" => self.write_refusal(rt, number(words.next()), number(words.next())),
+            "q" => self.write(rt, Report::Refused(number_at(words, 0))),
+            "f" => self.write(rt, Report::Failed(number_at(words, 0))),
+            "h" => self.write(rt, Report::Held(number_at(words, 0), number_at(words, 1))),
+            "t" => self.write_refusal(rt, number_at(words, 0), number_at(words, 1)),
             "l" => self.write_batch(rt, words),
             _ => self.report_of_three(rt, kind, words),
         }
     }
 
-    fn report_of_three(
-        &self,
-        rt: &impl Print,
-        kind: &str,
-        mut words: Split<'_, char>,
-    ) -> io::Result<()> {
-        let first = number(words.next());
-        let second = number(words.next());
+    fn report_of_three(&self, rt: &impl Print, kind: &str, words: &str) -> io::Result<()> {
+        let first = number_at(words, 0);
+        let second = number_at(words, 1);
         match kind {
-            "r" => self.write(rt, Report::Ruled(first, second, number(words.next()))),
-            "s" => self.write(rt, Report::Sent(first, second, number(words.next()))),
-            "m" => self.write(
-                rt,
-                Report::Sent(first, second, -1 - number::<i64>(words.next())),
-            ),
+            "r" => self.write(rt, Report::Ruled(first, second, number_at(words, 2))),
+            "s" => self.write(rt, Report::Sent(first, second, number_at(words, 2))),
+            "m" => {
+                let value = -1 - number_at::<i64>(words, 2);
+                self.write(rt, Report::Sent(first, second, value))
+            }
             _ => Ok(()),
         }
     }
 
     fn take(&mut self, rt: &impl Print, line: &str) -> io::Result<()> {
         let (kind, words) = line.split_once(' ').unwrap_or((line, ""));
-        let mut words = words.split(' ');
         if kind == "w" {
-            let at = number(words.next());
-            store(&mut self.table, at, words);
+            if let Some((at, numbers)) = words.split_once(' ') {
+                store(&mut self.table, number(Some(at)), numbers);
+            }
             return Ok(());
         }
         println!(rt; "{line}")?;
         if kind == "b" {
-            self.size = number(words.next());
+            self.size = number_at(words, 0);
         }
         self.report(rt, kind, words)
     }

@@ -5,6 +5,7 @@
 #![tactic(auto)]
 
 use contract::Contract;
+use reading::Refusal;
 use results::Report;
 use state::State;
 use std::alloc::{AllocError, Global};
@@ -19,7 +20,9 @@ const LINES: usize = 1024;
 
 // ---- a session
 
-// Kept: (a) the desk's loop once more, since what reads and prints has no equation to give, and each function under the desk but those of `streams` has one.
+// Kept: (a) no crate can call into the desk, which is a program. A library for both would have a public function that reads, plays and prints a
+// whole session, and a library's function says here what comes of all that it is given; of this one that can't be said, since std's contract of
+// `write_all` leaves out which bytes were written before an error.
 
 // A session as it is played: its state, the bytes of its file that are read and not yet taken, and room for result lines.
 #[derive(Drop)]
@@ -114,9 +117,10 @@ impl<'a> Session<'a> {
 }
 
 // A refused text.
-fn refuse(rt: &impl Print, number: u8, place: usize) -> io::Result<()> {
+fn refuse(rt: &impl Print, refusal: Refusal) -> io::Result<()> {
+    let number = refusal.question.number();
     let mut out = [0u8; Report::ROOM];
-    match results::write_text_refusal(number, place, &mut out) {
+    match results::write_text_refusal(number, refusal.place, &mut out) {
         Ok(n) => rt.write_all(tokens::between(&out, 0, n)),
         Err(_) => Ok(()),
     }
@@ -126,7 +130,7 @@ fn refuse(rt: &impl Print, number: u8, place: usize) -> io::Result<()> {
 fn begin(rt: &(impl Print + AllocGlobal), text: &[u8], file: &mut impl Read) -> io::Result<()> {
     let mut table = [0; Contract::TABLE];
     match reader::read(text, &mut table) {
-        Err(refusal) => refuse(rt, refusal.question.number(), refusal.place),
+        Err(refusal) => refuse(rt, refusal),
         Ok(()) => Session::new(rt.alloc(), &table)?.run(rt, file),
     }
 }

@@ -1,9 +1,10 @@
 //! A part of a state, read from a case and set.
 ghost use Rattle.std.specs.Prelude.{◌≡◌};
+ghost use Rattle.trial_states.specs.Parts.{head_of, field_of, asset_of, event_of};
 
 use state::{Pending, State};
 use std::str::FromStr;
-use trial_text::number;
+use trial_text::number_at;
 
 /// A part of a state that a case sets, in range or not.
 #[derive(Clone, Copy)]
@@ -22,50 +23,67 @@ pub enum Part {
 #[derive(Clone, Copy)]
 pub struct NoPart;
 
+// A part of each kind, by the numbers of a text's words after the first.
+fn head_of(s: &str) -> Part
+    ensures { result ≡ head_of s.now }
+{
+    Part::Head(
+        number_at::<u64>(s, 1) != 0,
+        number_at(s, 2),
+        number_at(s, 3),
+        number_at(s, 4),
+    )
+}
+
+fn field_of(s: &str) -> Part
+    ensures { result ≡ field_of s.now }
+{
+    Part::Field(
+        number_at(s, 1),
+        number_at(s, 2),
+        number_at(s, 3),
+        number_at(s, 4),
+    )
+}
+
+fn asset_of(s: &str) -> Part
+    ensures { result ≡ asset_of s.now }
+{
+    Part::Asset(number_at(s, 1), number_at(s, 2))
+}
+
+fn event_of(s: &str) -> Part
+    ensures { result ≡ event_of s.now }
+{
+    let event = Pending {
+        function: number_at(s, 2),
+        event: number_at(s, 3),
+        time: number_at(s, 4),
+    };
+    Part::Event(number_at(s, 1), event)
+}
+
 impl FromStr for Part {
-    ghost use Rattle.trial_states.specs.Parts.{Reads};
+    ghost use Rattle.std.specs.Result.{result_ok};
+    ghost use Rattle.trial_states.specs.Parts.{part_of};
 
     type Err = NoPart;
 
-    ghost from_str_gives = { Reads };
+    ghost from_str_gives = { λ text r. result_ok r ≡ part_of text };
 
     fn from_str(s: &str) -> Result<Part, NoPart> {
-        let mut words = s.split(' ').skip(1);
         match s.as_bytes().first() {
-            Some(b'h') => Ok(Part::Head(
-                number::<u64>(words.next()) != 0,
-                number(words.next()),
-                number(words.next()),
-                number(words.next()),
-            )),
-            Some(b'v') => Ok(Part::Field(
-                number(words.next()),
-                number(words.next()),
-                number(words.next()),
-                number(words.next()),
-            )),
-            Some(b'a') => Ok(Part::Asset(number(words.next()), number(words.next()))),
-            Some(b'e') => {
-                let at = number(words.next());
-                let function = number(words.next());
-                let event = number(words.next());
-                let time = number(words.next());
-                Ok(Part::Event(
-                    at,
-                    Pending {
-                        function,
-                        event,
-                        time,
-                    },
-                ))
-            }
+            Some(b'h') => Ok(head_of(s)),
+            Some(b'v') => Ok(field_of(s)),
+            Some(b'a') => Ok(asset_of(s)),
+            Some(b'e') => Ok(event_of(s)),
             _ => Err(NoPart),
         }
     }
 }
 
 impl Part {
-    ghost use Rattle.trial_states.specs.Parts.{with_part};
+    ghost use Rattle.trial_states.specs.Parts.{with_part, with_named};
 
     /// The state with this part. A place past the slots changes nothing.
     pub fn put(self, s: State) -> State
@@ -98,5 +116,15 @@ impl Part {
             }
         }
         next
+    }
+
+    /// The state with the part that a text names. A text that names none changes nothing.
+    pub fn put_named(text: &str, s: State) -> State
+        ensures { result ≡ with_named text.now s }
+    {
+        match text.parse::<Part>() {
+            Ok(part) => part.put(s),
+            Err(NoPart) => s,
+        }
     }
 }

@@ -17,11 +17,10 @@
 use contract::Contract;
 use state::State;
 use statements::Label;
-use std::str::Split;
 use std::{array, io};
 use steps::Left;
 use trial_states::{Part, Said};
-use trial_text::{number, store};
+use trial_text::{number, number_at, store};
 
 // The entries that there are to lend.
 const ENTRIES: usize = 100;
@@ -32,8 +31,6 @@ struct Trial {
     table: Vec<u64>,
     state: State,
 }
-
-// ---- the table and the state
 
 // ---- entries
 
@@ -114,13 +111,6 @@ impl Trial {
         )
     }
 
-    // A part of the state.
-    fn set(&mut self, words: &str) {
-        if let Ok(part) = words.parse::<Part>() {
-            self.state = part.put(self.state);
-        }
-    }
-
     // Takes the state that a step left, if it is handed on.
     fn go_on(&mut self, rt: &impl Print, after: Option<State>, handed: u64) -> io::Result<()> {
         if let Some(state) = after
@@ -134,24 +124,24 @@ impl Trial {
 
     fn take(&mut self, rt: &impl Print, line: &str) -> io::Result<()> {
         let (kind, rest) = line.split_once(' ').unwrap_or((line, ""));
-        let mut words = rest.split(' ');
         match kind {
             "#" => println!(rt; "{line}")?,
             "w" => {
-                let at = number(words.next());
-                store(&mut self.table, at, words);
+                if let Some((at, numbers)) = rest.split_once(' ') {
+                    store(&mut self.table, number(Some(at)), numbers);
+                }
             }
-            "f" => self.state = State::fresh(number(words.next())),
-            "s" => self.set(rest),
+            "f" => self.state = State::fresh(number_at(rest, 0)),
+            "s" => self.state = Part::put_named(rest, self.state),
             "e" => {
                 print!(rt; "{line}")?;
-                let after = self.fire(rt, number(words.next()))?;
-                self.go_on(rt, after, number(words.next()))?;
+                let after = self.fire(rt, number_at(rest, 0))?;
+                self.go_on(rt, after, number_at(rest, 1))?;
             }
             "j" => {
                 print!(rt; "{line}")?;
-                let after = self.jump(rt, number(words.next()), number(words.next()))?;
-                self.go_on(rt, after, number(words.next()))?;
+                let after = self.jump(rt, number_at(rest, 0), number_at(rest, 1))?;
+                self.go_on(rt, after, number_at(rest, 2))?;
             }
             _ => {}
         }

@@ -1,6 +1,41 @@
-use Rattle.std.specs.Prelude.{ℕ, List, Result}
+use Rattle.std.specs.Prelude.{ℕ, ◌+◌, ◌^◌, Bool, ◌&&◌, if◌then◌else◌, List, [], ◌∷◌, length, nat_lt, nat_eq, slice_get, slice_set, Result, ℤ, pos}
+use Rattle.std.specs.List.{slice_split}
+use Rattle.std.specs.Option.{unwrap_or}
 use Rattle.std.specs.Result.{ResultUnwrapsOrElse}
+use Rattle.std.specs.Str.{all_ascii_digits}
+use Rattle.std.specs.Str.Parse.{digits_value, without_leading_plus, without_leading_sign, starts_with_minus, signed_digits_value}
 
 -- n is what a word stands for: the number that it is read as, or else the default
 abbrev pub StandsFor : {N E : Type 0} → (List ℕ → Result N E → Type 0) → (N → Type 0) → List ℕ → N → Type 0
 StandsFor {N} {E} reads default word n = (r : Result N E) × reads word r × ResultUnwrapsOrElse r default n
+
+-- the words of a text: what stands between its spaces
+abbrev pub words : List ℕ → List (List ℕ)
+words text = slice_split (λ b. nat_eq b 32) text
+
+-- one digit or more, whose number is below an end
+abbrev pub is_numeral_below : ℕ → List ℕ → Bool
+is_numeral_below end digits = (nat_lt 0 (length digits) && all_ascii_digits digits) && nat_lt (digits_value 10 digits) end
+
+-- the number of so many bits that a word stands for; 0 for one that stands for none
+abbrev pub natural : ℕ → List ℕ → ℕ
+natural bits word =
+    let digits = without_leading_plus word in
+    if is_numeral_below (2 ^ bits) digits then digits_value 10 digits else 0
+
+-- the same of a number with a sign, of 64 bits
+abbrev pub integer : List ℕ → ℤ
+integer word =
+    if is_numeral_below (if starts_with_minus word then 2 ^ 63 + 1 else 2 ^ 63) (without_leading_sign word) then signed_digits_value 10 word else pos 0
+
+-- the numbers that word k of a text stands for, the first being word 0; 0 where it has no such word
+abbrev pub natural_at : ℕ → List ℕ → ℕ → ℕ
+natural_at bits text k = natural bits (unwrap_or (slice_get (words text) k) [])
+
+abbrev pub integer_at : List ℕ → ℕ → ℤ
+integer_at text k = integer (unwrap_or (slice_get (words text) k) [])
+
+-- numbers with others written over them from a place on, as far as they reach
+abbrev pub overwritten : ℕ → List ℕ → List ℕ → List ℕ
+overwritten at [] numbers = numbers
+overwritten at (n ∷ more) numbers = overwritten (at + 1) more (slice_set numbers at n)

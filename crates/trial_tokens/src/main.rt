@@ -24,6 +24,8 @@ fn print_token(rt: &impl Print, text: &[u8], token: Token) -> io::Result<()> {
 }
 
 // Prints the tokens of one text.
+// Kept: (d) the next token starts where the last one ends, and what ends a text is printed too: an iterator over tokens would keep that place
+// itself and have to hand the end out as an item.
 fn show(rt: &impl Print, text: &[u8]) -> io::Result<()> {
     let mut at = 0;
     loop {

@@ -3,8 +3,5 @@ use Prim.Native.Nat.{◌-◌}
 use lib.ListN.{length}
 use Rattle.trial_tokens.proofs.show.Given as goal
 
-abbrev pub invariant-loop-token : goal.invariant-loop-token
-invariant-loop-token g l = Unit {0}
-
 abbrev pub decreases-loop-token : goal.decreases-loop-token
 decreases-loop-token g l = length l.text - l.at

@@ -1,0 +1,55 @@
+-- Numbers written over others, one place after the other. Assumes nothing.
+use Rattle.std.proofs.Common.{◌≡◌, ℕ, ◌+◌, ◌<◌, ◌≤◌, suc, List, [], ◌∷◌, length, map, drop, get_or, min, sym, ap, ◌∙◌, refl, arith, set, inl, inr}
+use Rattle.std.proofs.lemmas.Bool.Decides.{leb_tells}
+use Rattle.std.specs.List.{range_with_len, zip}
+use Rattle.std.proofs.Math.Seq.{drop-cons}
+use Rattle.std.proofs.lemmas.List.{length-map, get_or-map, set_past, drop_all}
+use Rattle.std.proofs.lemmas.List.FromFn.{get_or-range_with_len, length-range_with_len}
+use Rattle.std.proofs.lemmas.Slice.Zip.{length-zip, get_or-zip}
+use Rattle.trial_text.specs.Numbers.{natural, overwritten}
+
+-- nothing is written past the end
+past_end : (at : ℕ) (ns xs : List ℕ) → length xs ≤ at → overwritten at ns xs ≡ xs
+past_end at [] xs h = refl
+past_end at (n ∷ ns) xs h = let same = set_past xs at n h in rw same (past_end (at + 1) ns xs (omega arith))
+
+-- which place and which word come at a turn
+pub record Turn (from n k : ℕ) (ws : List (List ℕ)) (place : ℕ) (word : List ℕ) : Type 0 where
+  pub at : place ≡ from + k
+  pub room : k < n
+  pub more : k < length ws
+  pub is : word ≡ get_or ws k word
+
+pub turn : (from n k : ℕ) (ws : List (List ℕ)) (p : ℕ × List ℕ) → k < length (zip (range_with_len from n) ws) → p ≡ get_or (zip (range_with_len from n) ws) k p → Turn from n k ws p.0 p.1
+turn from n k ws p below is =
+    let places = range_with_len from n in
+    let size : length places ≡ n = length-range_with_len from n in
+    let least : length (zip places ws) ≡ min (length places) (length ws) = length-zip places ws in
+    let room : k < n = omega (arith, least, size) in
+    let more : k < length ws = omega (arith, least) in
+    let pair : get_or (zip places ws) k p ≡ (get_or places k p.0, get_or ws k p.1) = get_or-zip places ws k p (omega arith) more in
+    record { at = ap (λ q. q.0) (is ∙ pair) ∙ get_or-range_with_len from n k p.0 room; room = room; more = more; is = ap (λ q. q.1) (is ∙ pair) }
+
+-- the number of a word is written in its place
+pub written : (from n k : ℕ) (ws : List (List ℕ)) (place : ℕ) (word : List ℕ) (xs : List ℕ) (m : ℕ) → Turn from n k ws place word → m ≡ natural 64 word → overwritten (from + (k + 1)) (drop (k + 1) (map (natural 64) ws)) (set xs place m) ≡ overwritten (from + k) (drop k (map (natural 64) ws)) xs
+written from n k ws place word xs m t e =
+    let ns = map (natural 64) ws in
+    let more : k < length ns = omega (arith, length-map ws (natural 64), t.more) in
+    let first : get_or ns k 0 ≡ m = get_or-map (natural 64) ws k word 0 t.more ∙ ap (natural 64) (sym t.is) ∙ sym e in
+    let one : suc k ≡ k + 1 = omega arith in
+    let cut : drop k ns ≡ m ∷ drop (k + 1) ns = drop-cons ns k 0 more ∙ ap (λ v. v ∷ drop (suc k) ns) first ∙ ap (λ j. m ∷ drop j ns) one in
+    let next : from + k + 1 ≡ from + (k + 1) = omega arith in
+    sym (ap (λ l. overwritten (from + k) l xs) cut ∙ ap (λ j. overwritten j (drop (k + 1) ns) (set xs (from + k) m)) next ∙ ap (λ j. overwritten (from + (k + 1)) (drop (k + 1) ns) (set xs j m)) (sym t.at))
+
+-- where the places or the words end, all is written
+pub all_written : (from n k : ℕ) (ws : List (List ℕ)) (xs : List ℕ) → k ≡ length (zip (range_with_len from n) ws) → length xs ≤ from + n → overwritten (from + k) (drop k (map (natural 64) ws)) xs ≡ xs
+all_written from n k ws xs e size =
+    let ns = map (natural 64) ws in
+    let places = range_with_len from n in
+    let least : length (zip places ws) ≡ min (length places) (length ws) = length-zip places ws in
+    let room : length places ≡ n = length-range_with_len from n in
+    let some : length ns ≡ length ws = length-map ws (natural 64) in
+    elim (leb_tells n k) [
+      | inl h ↦ past_end (from + k) (drop k ns) xs (omega (arith, h.1))
+      | inr h ↦ ap (λ l. overwritten (from + k) l xs) (drop_all k ns (omega (arith, h.1, least, room, some)))
+    ]
