@@ -14,7 +14,7 @@ FN = re.compile(r'^(?P<in>[ ]*)(?P<vis>pub(?:\(crate\))? )?(?:const )?fn (?P<nam
 
 def sources():
     for top, _, files in sorted(os.walk('crates')):
-        if os.sep + 'src' in top:
+        if os.sep + 'src' in top and os.sep + 'out' not in top:
             for f in sorted(files):
                 if f.endswith('.rt'):
                     yield os.path.join(top, f)
