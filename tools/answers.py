@@ -29,7 +29,6 @@ def main():
                 files[p] = open(p).read()
                 os.remove(p)
     log = subprocess.run(['rt', 'check', '--allow-holes'], cwd=crate, stdout=subprocess.PIPE, stderr=subprocess.STDOUT).stdout.decode()
-    open('/tmp/answers-%s.log' % sys.argv[1], 'w').write(log)
     opened, at = {}, None
     for l in log.split('\n'):
         m = re.search(r'(?:write|to) \./(proofs/\S+/Answers\.antt)', l)
