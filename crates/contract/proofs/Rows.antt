@@ -29,8 +29,8 @@ pub row_within : (n width i : ℕ) → 0 < width → i < n / width → i * width
 row_within n width i p h = (le-div_iff_mul-le p).0 (le_of_lt h)
 
 -- the first word of a row
-pub row_first : (w : List ℕ) (start width i r : ℕ) → RowAt w start width i r → word_at w r ≡ word_at w (start + i * width + 0)
-row_first w start width i r a = ap (word_at w) (sym (add-zero r)) ∙ a.same 0
+pub row_first : (w : List ℕ) (start width i r : ℕ) → RowAt w start width i r → word_at w r ≡ word_at w (start + i * width)
+row_first w start width i r a = ap (word_at w) (sym (add-zero r)) ∙ a.same 0 ∙ ap (word_at w) (add-zero _)
 
 -- a shift by eight bits k times
 eight_bits : (k : ℕ) → 2 ^ (8 * k) ≡ 256 ^ k

@@ -8,7 +8,7 @@ use Rattle.numbers.specs.declared.Comparison.{Comparison}
 use Rattle.numbers.specs.declared.Comparison.TheVariants.{Equal, Unequal, Less, AtMost, Greater, AtLeast}
 use Rattle.contract.specs.Limits.{top, max_strings, max_name}
 use Rattle.contract.specs.Tree.{Word, Holder, asset, asset_parameter, Expression, constant, string, clock, field, value_parameter, held, apply, broken_expression, Condition, truth, compare, negation, both, either, broken_condition, Action}
-use Rattle.contract.specs.Tree.{assign, send, move, pay, move_all, pay_all, Block, none, perform, conditional, broken_block, Precondition, omitted, given, Event, Function, set, ok, Clause, Contract}
+use Rattle.contract.specs.Tree.{assign, send, move, pay, move_all, pay_all, Block, none, perform, conditional, broken_block, Precondition, omitted, given, Event, Function, Verb, set, ok, Clause, Contract}
 use Rattle.contract.specs.Table.{word_at, kind_at, argument_at, size_at, function_word, event_word, clause_word, name_words, string_words, clause_words, function_words, packed_words, values_of, parameters_of, name_start, parties_start, assets_start, fields_start, states_start, strings_start, clauses_start, functions_start, constant_kind, string_kind, now_kind, field_kind}
 use Rattle.contract.specs.Table.{asset_kind, value_kind, parameter_kind, plus_kind, minus_kind, times_kind, over_kind, true_kind, false_kind, equal_kind, unequal_kind, less_kind, at_most_kind, greater_kind, at_least_kind, not_kind, and_kind, or_kind, party_kind, value_move_kind, asset_move_kind, whole_move_kind, conditional_kind}
 
@@ -176,11 +176,15 @@ function_at w i =
       last = function_word w i 2;
     }
 
+-- 0 for SET, else OK
+abbrev pub verb_of : ℕ → Verb
+verb_of n = pick (eqb n 0) set ok
+
 unfoldable pub clause_at : List ℕ → ℕ → Clause
 clause_at w i =
     record {
       party = clause_word w i 0;
-      verb = pick (eqb (clause_word w i 1) 0) set ok;
+      verb = verb_of (clause_word w i 1);
       fields = take (clause_word w i 2) (drop (clauses_start + i * clause_words + 3) w);
     }
 

@@ -4,6 +4,9 @@ use Rattle.contract.specs.Table.{word_at, kind_at, argument_at, size_at, functio
 use Rattle.contract.specs.declared.TableHead.{TableHead}
 use Rattle.contract.specs.declared.Function.{Function}
 use Rattle.contract.specs.declared.Event.{Event}
+use Rattle.contract.specs.Tree as tree
+use Rattle.contract.specs.declared.Verb.{Verb}
+use Rattle.contract.specs.declared.Verb.TheVariants.{Set, Ok}
 use Rattle.contract.specs.declared.Clause.{Clause}
 use Rattle.contract.specs.declared.Node.{Node}
 
@@ -45,3 +48,8 @@ clause_row_of w i = record { party = clause_word w i 0; verb = clause_word w i 1
 
 abbrev pub node_of : List ℕ → ℕ → Node
 node_of w k = record { kind = kind_at w k; argument = argument_at w k; size = size_at w k }
+
+-- what a clause says
+abbrev pub said : Verb → tree.Verb
+said Set = tree.set
+said Ok = tree.ok

@@ -3,9 +3,9 @@
 
 ghost use Rattle.std.specs.Prelude.{◌≡◌, ◌+◌, ◌*◌, ◌≤◌, ◌<◌};
 ghost use Rattle.contract.specs.Table.{word_at, clause_word, parameters_start};
-ghost use Rattle.contract.specs.Decode.{packed_byte};
+ghost use Rattle.contract.specs.Decode.{packed_byte, word_of};
 ghost use Rattle.contract.specs.Rows.{head_of, function_row_of, event_row_of, clause_row_of, node_of};
-ghost use Rattle.contract.specs.Private.{RowAt, three_of};
+ghost use Rattle.contract.specs.Private.{RowAt};
 
 use tokens::Token;
 
@@ -62,7 +62,27 @@ pub struct TableHead {
     pub initial: usize,
 }
 
+// Kept: (d) no kinds but places: each constant says which of a head's words has which of the counts above.
 impl TableHead {
+    pub const PARTIES: usize = 0;
+
+    pub const ASSETS: usize = 1;
+
+    pub const FIELDS: usize = 2;
+
+    pub const STATES: usize = 3;
+
+    pub const STRINGS: usize = 4;
+
+    pub const CLAUSES: usize = 5;
+
+    pub const FUNCTIONS: usize = 6;
+
+    pub const EVENTS: usize = 7;
+
+    pub const NODES: usize = 8;
+
+    pub const INITIAL: usize = 9;
     // The words of a head.
     pub const WORDS: usize = 10;
 }
@@ -82,7 +102,27 @@ pub struct Function {
     pub events: usize,
 }
 
+// Kept: (d) no kinds but limits, and places: at which of a row's words each of the counts above stands.
 impl Function {
+    pub const STATE: usize = 0;
+
+    pub const PARTY: usize = 1;
+
+    pub const LAST: usize = 2;
+
+    pub const VALUE_COUNT: usize = 3;
+
+    pub const PARAMETER_COUNT: usize = 4;
+
+    pub const FIRST: usize = 5;
+
+    pub const PRECONDITION: usize = 6;
+
+    pub const BODY: usize = 7;
+
+    pub const EVENT: usize = 8;
+
+    pub const EVENT_COUNT: usize = 9;
     // Value parameters and asset parameters.
     pub const VALUES: usize = 8;
 
@@ -105,11 +145,40 @@ pub struct Event {
     pub node: usize,
 }
 
+// Kept: (d) no kinds but places.
 impl Event {
+    // At which of the words of a row its states and its node stand, and the words of a row.
+    pub const STATE: usize = 0;
+
+    pub const LAST: usize = 1;
+
+    pub const NODE: usize = 2;
+
     pub const WORDS: usize = 3;
 }
 
-// A clause's row: its party, its verb (0 SET, 1 OK), and how many fields it names.
+// What a clause does with its fields: sets their values, or agrees on them; a variant's number is its word in a table. The tree of specs/ has a
+// type of its own: a declared type that a file of specs/ passes on is not seen from other crates.
+#[derive(Clone, Copy, PartialEq, Eq)]
+pub enum Verb {
+    Set = 0,
+    Ok = 1,
+}
+
+// The verb that a word stands for; any that is no SET's stands for OK.
+impl From<usize> for Verb {
+    ghost use Rattle.contract.specs.Decode.{verb_of};
+    ghost use Rattle.contract.specs.Rows.{said};
+
+    ghost from_gives = { λ word verb. said verb ≡ verb_of word };
+
+    #[tactic(auto, unfolding(laws::specs::Choice::pick))]
+    fn from(word: usize) -> Verb {
+        if word == 0 { Verb::Set } else { Verb::Ok }
+    }
+}
+
+// A clause's row: its party, the word of its verb, and how many fields it names.
 #[derive(Clone, Copy)]
 pub struct Clause {
     pub party: usize,
@@ -117,8 +186,15 @@ pub struct Clause {
     pub fields: usize,
 }
 
+// Kept: (d) no kinds but places.
 impl Clause {
-    // At which of the words of a row its fields stand, and the words of a row.
+    // At which of the words of a row its party, its verb, the count of its fields and these stand, and the words of a row.
+    pub const PARTY: usize = 0;
+
+    pub const VERB: usize = 1;
+
+    pub const FIELD_COUNT: usize = 2;
+
     pub const FIELDS: usize = 3;
 
     pub const WORDS: usize = Clause::FIELDS + Contract::FIELDS;
@@ -228,10 +304,11 @@ pub const NODES: usize = EVENTS + Contract::EVENTS * Event::WORDS;
 pub const PARAMETERS: usize = NODES + Contract::NODES * Node::WORDS;
 
 // Word i of a table, and 0 past its end.
+// Kept: (d) `items::get_or` by a table's own word, which says at each of its uses that past the end a word is 0.
 pub fn word(table: &[u64], i: usize) -> u64
     ensures { result ≡ word_at table.now i }
 {
-    table.get(i).copied().unwrap_or(0)
+    items::get_or(table, i, 0)
 }
 
 // Word i of a table as a count or a place.
@@ -241,7 +318,17 @@ fn number(table: &[u64], i: usize) -> usize
     word(table, i) as usize
 }
 
+// The bytes of the word whose length stands at o, as many of them as the table has.
+pub fn bytes_at(table: &[u64], o: usize) -> &[u64]
+    ensures { result.now ≡ word_of table.now o }
+{
+    let rest = table.get(o.saturating_add(1)..).unwrap_or(&[]);
+    rest.get(..number(table, o)).unwrap_or(rest)
+}
+
 // Where row i of a section stands, or the table's end where the row is past it.
+// Kept: (d) a place in both cases: past the table's end every word reads as 0, as the row that is not there is to read; an Option would make each
+// reader say the row of zeros once more.
 fn row(table: &[u64], start: usize, width: usize, i: usize) -> usize
     requires { (0 < width) × (width ≤ start) × (start ≤ 20819) }
     ensures { RowAt table.now start width i result }
@@ -256,16 +343,16 @@ pub fn head(table: &[u64]) -> TableHead
     ensures { result ≡ head_of table.now }
 {
     TableHead {
-        parties: number(table, 0),
-        assets: number(table, 1),
-        fields: number(table, 2),
-        states: number(table, 3),
-        strings: number(table, 4),
-        clauses: number(table, 5),
-        functions: number(table, 6),
-        events: number(table, 7),
-        nodes: number(table, 8),
-        initial: number(table, 9),
+        parties: number(table, TableHead::PARTIES),
+        assets: number(table, TableHead::ASSETS),
+        fields: number(table, TableHead::FIELDS),
+        states: number(table, TableHead::STATES),
+        strings: number(table, TableHead::STRINGS),
+        clauses: number(table, TableHead::CLAUSES),
+        functions: number(table, TableHead::FUNCTIONS),
+        events: number(table, TableHead::EVENTS),
+        nodes: number(table, TableHead::NODES),
+        initial: number(table, TableHead::INITIAL),
     }
 }
 
@@ -274,51 +361,45 @@ pub fn function_at(table: &[u64], i: usize) -> Function
 {
     let at = row(table, FUNCTIONS, Function::WORDS, i);
     Function {
-        state: number(table, at),
-        party: number(table, at + 1),
-        last: number(table, at + 2),
-        values: number(table, at + 3),
-        parameters: number(table, at + 4),
-        first: number(table, at + 5),
-        precondition: number(table, at + 6),
-        body: number(table, at + 7),
-        event: number(table, at + 8),
-        events: number(table, at + 9),
+        state: number(table, at + Function::STATE),
+        party: number(table, at + Function::PARTY),
+        last: number(table, at + Function::LAST),
+        values: number(table, at + Function::VALUE_COUNT),
+        parameters: number(table, at + Function::PARAMETER_COUNT),
+        first: number(table, at + Function::FIRST),
+        precondition: number(table, at + Function::PRECONDITION),
+        body: number(table, at + Function::BODY),
+        event: number(table, at + Function::EVENT),
+        events: number(table, at + Function::EVENT_COUNT),
     }
 }
 
-// The first three words of row i of a section.
-fn three(table: &[u64], start: usize, width: usize, i: usize) -> (usize, usize, usize)
-    requires { (0 < width) × (width ≤ start) × (start ≤ 20819) }
-    ensures { result ≡ three_of table.now start width i }
-{
-    let at = row(table, start, width, i);
-    (
-        number(table, at),
-        number(table, at + 1),
-        number(table, at + 2),
-    )
-}
-
+// Kept: (d) here and in `clause_at` each field by its place in the row, as in `function_at`: one function for the three words of both would hand out
+// a triple, whose parts have no names.
 pub fn event_at(table: &[u64], i: usize) -> Event
     ensures { result ≡ event_row_of table.now i }
 {
-    let (state, last, node) = three(table, EVENTS, Event::WORDS, i);
-    Event { state, last, node }
-}
-
-pub fn clause_at(table: &[u64], i: usize) -> Clause
-    ensures { result ≡ clause_row_of table.now i }
-{
-    let (party, verb, fields) = three(table, CLAUSES, Clause::WORDS, i);
-    Clause {
-        party,
-        verb,
-        fields,
+    let at = row(table, EVENTS, Event::WORDS, i);
+    Event {
+        state: number(table, at + Event::STATE),
+        last: number(table, at + Event::LAST),
+        node: number(table, at + Event::NODE),
     }
 }
 
-// Field j of clause i.
+// Kept: (d) as `event_at`.
+pub fn clause_at(table: &[u64], i: usize) -> Clause
+    ensures { result ≡ clause_row_of table.now i }
+{
+    let at = row(table, CLAUSES, Clause::WORDS, i);
+    Clause {
+        party: number(table, at + Clause::PARTY),
+        verb: number(table, at + Clause::VERB),
+        fields: number(table, at + Clause::FIELD_COUNT),
+    }
+}
+
+// Field j of clause i. A j past the table's end is told first, so that the sum below is no more than a number can be.
 pub fn clause_field(table: &[u64], i: usize, j: usize) -> usize
     ensures { result ≡ clause_word table.now i (3 + j) }
 {
@@ -330,6 +411,7 @@ pub fn clause_field(table: &[u64], i: usize, j: usize) -> usize
 }
 
 // How many bytes row i of the parameters says that it has.
+#[tactic(auto, using(crate::proofs::Rows::row_first))]
 pub fn packed_length(table: &[u64], i: usize) -> u64
     ensures { result ≡ word_at table.now (parameters_start + i * 5) }
 {
@@ -337,6 +419,8 @@ pub fn packed_length(table: &[u64], i: usize) -> u64
 }
 
 // Byte j of row i of the parameters.
+// Kept: (d) by division and remainder, as the definition; `u64::from(eight.to_le_bytes()[j % 8])` is no shorter, and has the byte widened again.
+#[tactic(auto, using(crate::proofs::Rows::byte_is))]
 pub fn packed_byte(table: &[u64], i: usize, j: usize) -> u64
     ensures { result ≡ packed_byte table.now (parameters_start + i * 5) j }
 {
@@ -344,6 +428,7 @@ pub fn packed_byte(table: &[u64], i: usize, j: usize) -> u64
     (eight >> (8 * (j % 8))) % 256
 }
 
+#[tactic(auto, using(crate::proofs::Rows::row_first))]
 pub fn node_at(table: &[u64], k: usize) -> Node
     ensures { result ≡ node_of table.now k }
 {

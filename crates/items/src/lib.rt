@@ -2,6 +2,7 @@
 #![tactic(auto)]
 
 ghost use Rattle.std.specs.Prelude.{◌≡◌, get_or, set};
+ghost use Rattle.std.proofs.lemmas.List.Edits.{sets};
 
 // Item i; past the end `none`.
 pub fn get_or<T: Copy + Drop>(items: &[T], i: usize, none: T) -> T
@@ -18,5 +19,16 @@ pub fn set<T: Copy + Drop>(items: &mut [T], i: usize, item: T)
 {
     if i < items.len() {
         items[i] = item;
+    }
+}
+
+// Items from item i on become others; past the end nothing changes.
+// Kept: (d) a list and the place of one of its items, as `set`, which changes each of them here and leaves out those past the end.
+#[inline(always)]
+pub fn store_all<T: Copy + Drop>(items: &mut [T], i: usize, values: &[T])
+    ensures { items.new ≡ sets items.old i values.now }
+{
+    for (k, value) in values.iter().enumerate() {
+        set(items, i.saturating_add(k), *value);
     }
 }

@@ -27,7 +27,7 @@ inside z f = sym (pick_true _ _ _ (lt-ltb (mag z) (2 ^ 63) f.sfits))
 pub is_in : (z : ℤ) → SFits w64 z → Ok (Integer (to_z w64 (of_z w64 z))) ≡ in_range z
 is_in z f = ap (λ (y : ℤ). Ok (Integer y)) (to_z-of_z w64 z f) ∙ inside z f
 
-outside : (z : ℤ) → (SFits w64 z → ⊥) → Err ask.ResultRange ≡ in_range z
+pub outside : (z : ℤ) → (SFits w64 z → ⊥) → Err ask.ResultRange ≡ in_range z
 unfolding in_range pick
 outside z f = go (ltb (mag z) (2 ^ 63)) refl
   where

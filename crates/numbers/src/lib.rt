@@ -1,7 +1,7 @@
 // Values, and the checked arithmetic and comparisons on them. Each result is that of a definition over all integers.
 #![tactic(auto)]
 
-ghost use Rattle.std.specs.Prelude.{◌≡◌, pos, nat_abs, option_map, ok_or};
+ghost use Rattle.std.specs.Prelude.{◌≡◌, pos, nat_abs, option_map, ok_or, Ok};
 ghost use Rattle.questions.specs.declared.Question.TheVariants as ask;
 ghost use Rattle.numbers.specs.declared.Value.TheVariants.{Integer};
 ghost use Rattle.numbers.specs.Numbers.{in_range, divided, applied, integers, strings, compared};
@@ -17,10 +17,8 @@ pub enum Value {
 }
 
 impl Value {
-    // The greatest integer, and the least.
-    pub const TOP: i64 = 9223372036854775807;
-
-    pub const LEAST: i64 = -1 - Value::TOP;
+    // The greatest integer.
+    pub const TOP: i64 = i64::MAX;
     // 2 ^ 63: the magnitude of the least integer, and one past the top.
     pub const LIMIT: u64 = Value::TOP as u64 + 1;
 }
@@ -44,6 +42,7 @@ pub enum Comparison {
 }
 
 // The distance from zero.
+// Kept: (a) public, though its body is the library's function: callers and their edits name it.
 pub fn magnitude(a: i64) -> u64
     ensures { result ≡ nat_abs a }
 {
@@ -71,30 +70,19 @@ fn div(a: i64, b: i64) -> Result<Value, Question>
     if b == 0 {
         return Err(Question::Divisor);
     }
-    let minus_one = b == -1;
-    if minus_one {
-        return answer(a.checked_neg());
-    }
-    // rounded towards zero, which is down where the signs are alike
-    let q = a / b;
-    let alike = (a < 0) == (b < 0);
-    if alike {
-        return Ok(Value::Integer(q));
-    }
-    if a % b == 0 {
-        return Ok(Value::Integer(q));
-    }
-    Ok(Value::Integer(q - 1))
+    // rounded towards zero, which is down where the signs are alike or nothing is left over
+    let Some(q) = a.checked_div(b) else {
+        return Err(Question::ResultRange);
+    };
+    let down = (a < 0) == (b < 0) || a % b == 0;
+    Ok(Value::Integer(if down { q } else { q - 1 }))
 }
 
 // An operator on two values.
 pub fn apply(o: Operator, a: Value, b: Value) -> Result<Value, Question>
     ensures { result ≡ applied o a b }
 {
-    let Value::Integer(x) = a else {
-        return Err(Question::OperandKind);
-    };
-    let Value::Integer(y) = b else {
+    let (Value::Integer(x), Value::Integer(y)) = (a, b) else {
         return Err(Question::OperandKind);
     };
     match o {
@@ -105,16 +93,16 @@ pub fn apply(o: Operator, a: Value, b: Value) -> Result<Value, Question>
     }
 }
 
-fn compare_integers(c: Comparison, a: i64, b: i64) -> Result<bool, Question>
-    ensures { result ≡ integers c a b }
+fn compare_integers(c: Comparison, a: i64, b: i64) -> bool
+    ensures { Ok result ≡ integers c a b }
 {
     match c {
-        Comparison::Equal => Ok(a == b),
-        Comparison::Unequal => Ok(a != b),
-        Comparison::Less => Ok(a < b),
-        Comparison::AtMost => Ok(a <= b),
-        Comparison::Greater => Ok(a > b),
-        Comparison::AtLeast => Ok(a >= b),
+        Comparison::Equal => a == b,
+        Comparison::Unequal => a != b,
+        Comparison::Less => a < b,
+        Comparison::AtMost => a <= b,
+        Comparison::Greater => a > b,
+        Comparison::AtLeast => a >= b,
     }
 }
 
@@ -133,7 +121,7 @@ pub fn compare(c: Comparison, a: Value, b: Value) -> Result<bool, Question>
     ensures { result ≡ compared c a b }
 {
     match (a, b) {
-        (Value::Integer(x), Value::Integer(y)) => compare_integers(c, x, y),
+        (Value::Integer(x), Value::Integer(y)) => Ok(compare_integers(c, x, y)),
         (Value::Text(m), Value::Text(n)) => compare_strings(c, m, n),
         _ => Err(Question::OperandKind),
     }

@@ -1,7 +1,8 @@
 // Where a place lies in its text: its line, its column, and where that line starts and ends.
 #![tactic(auto)]
 
-ghost use Rattle.std.specs.Prelude.{◌≡◌, ◌+◌, ◌≤◌, length, drop, position};
+ghost use Rattle.std.specs.Prelude.{◌≡◌, ◌+◌, ◌≤◌, length, drop, reverse};
+ghost use Rattle.laws.specs.Lists.{keep};
 ghost use Rattle.tokens.specs.Classes.{run};
 ghost use Rattle.places.specs.Places.{is_line_feed, in_line, place_of};
 
@@ -14,20 +15,27 @@ pub struct Place {
     pub end: usize,
 }
 
-// Where the first LF stands.
-fn line_feed(bytes: &[u8]) -> Option<usize>
-    ensures { result ≡ position is_line_feed bytes.now }
-{
-    bytes.iter().position(|b| *b == b'\n')
-}
-
 // The next LF from `at` on, or the text's end.
+// Kept: (a) what the private `run_end` of `tokens` does: that requires what its closure answers, as no public function may.
 fn line_end(text: &[u8], at: usize) -> usize
     requires { at ≤ length text.now }
     ensures { result ≡ at + run in_line (drop at text.now) }
 {
-    let rest = &text[at..];
-    at + line_feed(rest).unwrap_or(rest.len())
+    at + text[at..].iter().take_while(|b| **b != b'\n').count()
+}
+
+// How many LFs there are.
+fn line_feeds(bytes: &[u8]) -> usize
+    ensures { result ≡ length (keep is_line_feed bytes.now) }
+{
+    bytes.iter().filter(|b| **b == b'\n').count()
+}
+
+// How many bytes stand after the last LF.
+fn since_line_feed(bytes: &[u8]) -> usize
+    ensures { result ≡ run in_line (reverse bytes.now) }
+{
+    bytes.iter().rev().take_while(|b| **b != b'\n').count()
 }
 
 // Where a place lies; past the text's end it is that end.
@@ -35,19 +43,12 @@ pub fn place_in(text: &[u8], at: usize) -> Place
     ensures { result ≡ place_of text.now at }
 {
     let stop = at.min(text.len());
-    let mut line: usize = 1;
-    let mut start: usize = 0;
-    for i in 0..stop {
-        if text[i] == b'\n' {
-            line += 1;
-            start = i + 1;
-        }
-    }
-    let end = line_end(text, start);
+    let before = &text[..stop];
+    let start = stop - since_line_feed(before);
     Place {
-        line,
+        line: line_feeds(before) + 1,
         column: stop - start + 1,
         start,
-        end,
+        end: line_end(text, start),
     }
 }

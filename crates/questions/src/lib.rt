@@ -162,6 +162,7 @@ impl Question {
     }
 
     // The question with a number; none for a number that no question has.
+    // Kept: (d) no `TryFrom`: a number that is no question's is no failure, and an error type for it would say no more than None.
     pub fn from_number(number: u8) -> Option<Question>
         ensures value { result ≡ question_of number }
         ensures only { IfSome result (λ q. number_of q ≡ number) }

@@ -1,38 +1,23 @@
--- Names as they stand in a table. Assumes nothing.
-use mathlib.Core.Path.{◌≡◌, refl, sym, ap, ◌∙◌}
-use mathlib.Core.Bool.{true, false}
-use mathlib.Core.List.{List, [], ◌∷◌}
-use Prim.Native.Nat.{ℕ, ◌+◌, ◌-◌, ◌<◌, ◌≤◌}
-use native.Mathlib.Omega.{arith}
-use lib.ListN.{length, get_or, take, drop, length-drop, drop_of_length-le, get_or-eq_default}
+-- Two lists of bytes compared place by place. Assumes nothing.
+use Rattle.std.proofs.Common.{◌≡◌, refl, sym, ap, ◌∙◌, ℕ, List, [], ◌∷◌, Bool, true, false, ◌&&◌, length, arith}
+use lib.ListN.{get_or}
 use lib.Dec.{eqb}
-use borrow.Author.Tests.{eq-eqb, ne_eqb}
 use Rattle.laws.specs.Choice.{pick}
 use Rattle.laws.specs.Bytes.{same_bytes}
-use Rattle.laws.proofs.Lists.{cons_at}
-use Rattle.contract.specs.Table.{word_at}
-use Rattle.contract.specs.Decode.{word_of}
+use Rattle.laws.specs.Lists.{all_below}
+use Rattle.laws.proofs.Ranges.{first_others}
 
--- ---- one turn of the comparison, and its end
-module _ (a b : List ℕ) (i : ℕ) where
-  pub same_more : i < length a → i < length b → get_or a i 0 ≡ get_or b i 0 → same_bytes (drop i a) (drop i b) ≡ same_bytes (drop (i + 1) a) (drop (i + 1) b)
-  unfolding same_bytes pick
-  same_more h k e = (λ j. same_bytes (cons_at a i h j) (cons_at b i k j)) ∙ rw (eq-eqb (get_or a i 0) (get_or b i 0) e)
+same_both : (a b : Bool) → pick a b false ≡ (a && b)
+unfolding pick
+same_both true b = refl
+same_both false b = refl
 
-  pub same_other : i < length a → i < length b → (get_or a i 0 ≡ get_or b i 0 → ⊥) → same_bytes (drop i a) (drop i b) ≡ false
-  unfolding same_bytes pick
-  same_other h k e = (λ j. same_bytes (cons_at a i h j) (cons_at b i k j)) ∙ rw (ne_eqb (get_or a i 0) (get_or b i 0) e)
-
-  pub same_all : length a ≤ i → length b ≤ i → same_bytes (drop i a) (drop i b) ≡ true
-  unfolding same_bytes
-  same_all h k = λ j. same_bytes (drop_of_length-le a h j) (drop_of_length-le b k j)
-
--- ---- the word whose length stands at o
-same_none : (name : List ℕ) → eqb (length name) 0 ≡ same_bytes name []
-unfolding same_bytes
-same_none [] = refl
-same_none (x ∷ xs) = ne_eqb (length (x ∷ xs)) 0 (λ e. omega arith)
-
-module _ (name w : List ℕ) (o : ℕ) where
-  pub past_word : length w ≤ o → eqb (length name) 0 ≡ same_bytes name (word_of w o)
-  past_word h = same_none name ∙ ap (λ (n : ℕ). same_bytes name (take n (drop (o + 1) w))) (sym (get_or-eq_default w 0 h))
+pub same_places : (a b : List ℕ) → length a ≡ length b → same_bytes a b ≡ all_below (length a) (λ i. eqb (get_or a i 0) (get_or b i 0))
+unfolding same_bytes all_below
+same_places [] [] e = refl
+same_places [] (y ∷ ys) e = absurd (omega arith)
+same_places (x ∷ xs) [] e = absurd (omega arith)
+same_places (x ∷ xs) (y ∷ ys) e =
+    same_both (eqb x y) (same_bytes xs ys)
+    ∙ ap (λ (t : Bool). eqb x y && t) (same_places xs ys (omega arith))
+    ∙ sym (first_others (λ i. eqb (get_or (x ∷ xs) i 0) (get_or (y ∷ ys) i 0)) (length xs))

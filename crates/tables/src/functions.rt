@@ -9,7 +9,7 @@ ghost use Rattle.laws.specs.Lists.{all_below};
 use crate::Table;
 use crate::names::{name_ok, packed_ok};
 use crate::nodes::{Scope, Sort, block_ok, is_sort};
-use contract::{Contract, Function, Node, event_at, function_at, node_at, word};
+use contract::{Contract, Function, Node, event_at, function_at, head, node_at};
 
 impl Scope<'_> {
     // A precondition in the n nodes from `first` on: none, or a condition that counts them all.
@@ -57,13 +57,12 @@ impl Scope<'_> {
     // An event whose guard starts at node `first`; its own node k stands after its guard and its handler.
     #[tactic(auto, unfolding(contract::specs::Check::event_nodes_ok, crate::specs::Private::guarded_ok))]
     fn event_nodes_ok(&self, first: usize, k: usize) -> bool
-        requires { word_at self.now.table.now 8 ≤ 4096 }
         ensures { result ≡ event_nodes_ok self.now.table.now (scope_at self.now.table.now self.now.values self.now.parameters) first k }
     {
         let table = self.table;
         let event = node_at(table, k);
         let handler = event.argument as usize;
-        k < word(table, 8) as usize
+        k < head(table).nodes
             && event.kind == Node::EVENT
             && first <= k + 1
             && event.size == k + 1 - first
@@ -74,12 +73,11 @@ impl Scope<'_> {
 
     #[tactic(auto, unfolding(contract::specs::Check::event_ok))]
     fn event_ok(&self, first: usize, i: usize) -> bool
-        requires { word_at self.now.table.now 8 ≤ 4096 }
         ensures { result ≡ event_ok self.now.table.now (scope_at self.now.table.now self.now.values self.now.parameters) first i }
     {
         let table = self.table;
         let event = event_at(table, i);
-        let states = word(table, 3) as usize;
+        let states = head(table).states;
         event.state < states && event.last < states && self.event_nodes_ok(first, event.node)
     }
 }
@@ -95,10 +93,10 @@ fn sizes_ok(f: Function) -> bool
 fn row_ok(table: &Table, f: Function) -> bool
     ensures { result ≡ row_ok table.now f }
 {
-    let states = word(table, 3) as usize;
-    f.state < states
-        && f.party < word(table, 0) as usize
-        && f.last < states
+    let h = head(table);
+    f.state < h.states
+        && f.party < h.parties
+        && f.last < h.states
         && f.values <= Function::VALUES
         && f.parameters <= Function::PARAMETERS
 }
@@ -110,12 +108,14 @@ struct FunctionAt<'a> {
     i: usize,
     row: Function,
     ghost read: { row ≡ function_row_of table.now i },
+    ghost room: { (i < 64) × (word_at table.now 8 ≤ 4096) },
 }
 
 impl<'a> FunctionAt<'a> {
     fn of(table: &'a Table, i: usize) -> FunctionAt<'a>
-        ensures table_value { result.table.now ≡ table.now }
-        ensures i_value { result.i ≡ i }
+        requires { (i < 64) × (word_at table.now 8 ≤ 4096) }
+        ensures same_table { result.table.now ≡ table.now }
+        ensures same_i { result.i ≡ i }
     {
         FunctionAt {
             table,
@@ -126,9 +126,9 @@ impl<'a> FunctionAt<'a> {
 
     // What its nodes may name.
     fn scope(&self) -> Scope<'a>
-        ensures table_value { result.table.now ≡ self.now.table.now }
-        ensures values_value { result.values ≡ self.now.row.values }
-        ensures parameters_value { result.parameters ≡ self.now.row.parameters }
+        ensures same_table { result.table.now ≡ self.now.table.now }
+        ensures same_values { result.values ≡ self.now.row.values }
+        ensures same_parameters { result.parameters ≡ self.now.row.parameters }
     {
         Scope {
             table: self.table,
@@ -138,11 +138,14 @@ impl<'a> FunctionAt<'a> {
     }
 }
 
+// Kept: (d) the bounds that the methods below require hold once a row's starts and sizes are tested, so they are no facts of the type.
 impl FunctionAt<'_> {
     // The events, one after the other.
+    // Kept: (d) here and in `functions_ok` the next place goes on beside the index, and what fails ends both: by `try_fold` the place stands in an
+    // Option, to be opened again.
     #[tactic(auto, using(laws::proofs::Members::all_more, contract::proofs::Tests::all_stop, crate::proofs::Events::events_first_lem, crate::proofs::Events::event_same, crate::proofs::Events::event_next, crate::proofs::Events::event_node), unfolding(laws::specs::Lists::all_below))]
     fn events_ok(&self) -> bool
-        requires { (word_at self.now.table.now 8 ≤ 4096) × (self.now.row.first + self.now.row.precondition + self.now.row.body ≤ 4096) × (self.now.row.event ≤ 4096) × (self.now.row.events ≤ 64) }
+        requires { (self.now.row.first + self.now.row.precondition + self.now.row.body ≤ 4096) × (self.now.row.event ≤ 4096) × (self.now.row.events ≤ 64) }
         ensures { result ≡ all_below self.now.row.events (event_passes self.now.table.now self.now.i) }
     {
         let table = self.table;
@@ -160,7 +163,7 @@ impl FunctionAt<'_> {
 
     #[tactic(auto, unfolding(contract::specs::Check::function_nodes_ok))]
     fn nodes_ok(&self) -> bool
-        requires { (word_at self.now.table.now 8 ≤ 4096) × (self.now.row.first ≤ 4096) × (self.now.row.event ≤ 4096) }
+        requires { (self.now.row.first ≤ 4096) × (self.now.row.event ≤ 4096) }
         ensures { result ≡ function_nodes_ok self.now.table.now (scope_at self.now.table.now (function_word self.now.table.now self.now.i 3) (function_word self.now.table.now self.now.i 4)) self.now.i }
     {
         let f = self.row;
@@ -170,7 +173,7 @@ impl FunctionAt<'_> {
         let table = self.table;
         let scope = self.scope();
         let body = f.first + f.precondition;
-        body + f.body <= word(table, 8) as usize
+        body + f.body <= head(table).nodes
             && scope.precondition_ok(f.first, f.precondition)
             && scope.body_ok(body, f.body)
             && self.events_ok()
@@ -179,7 +182,7 @@ impl FunctionAt<'_> {
     // Whether it passes where its nodes are to start at `node` and its events at `event`.
     #[tactic(auto, unfolding(contract::specs::Check::function_ok))]
     fn is_ok(&self, node: usize, event: usize) -> bool
-        requires bounds { (self.now.i < 64) × (word_at self.now.table.now 8 ≤ 4096) × (node ≤ 4096) × (event ≤ 4096) }
+        requires bounds { (node ≤ 4096) × (event ≤ 4096) }
         requires starts { (node ≡ first_node self.now.table.now self.now.i) × (event ≡ first_event self.now.table.now self.now.i) }
         ensures { result ≡ function_ok self.now.table.now self.now.i }
     {
@@ -211,10 +214,10 @@ pub(crate) fn functions_ok(table: &Table) -> bool
     requires { (word_at table.now 6 ≤ 64) × (word_at table.now 8 ≤ 4096) }
     ensures { result ≡ (all_below (word_at table.now 6) (function_ok table.now) && (eqb (first_node table.now (word_at table.now 6)) (word_at table.now 8) && eqb (first_event table.now (word_at table.now 6)) (word_at table.now 7))) }
 {
-    let count = word(table, 6) as usize;
+    let h = head(table);
     let mut node: usize = 0;
     let mut event: usize = 0;
-    for i in 0..count {
+    for i in 0..h.functions {
         let function = FunctionAt::of(table, i);
         if !function.is_ok(node, event) {
             return false;
@@ -222,7 +225,7 @@ pub(crate) fn functions_ok(table: &Table) -> bool
         node = function.end();
         event = function.row.event + function.row.events;
     }
-    node == word(table, 8) as usize && event == word(table, 7) as usize
+    node == h.nodes && event == h.events
 }
 
 // The names in the n rows of the parameters from row `first` on.
@@ -245,16 +248,9 @@ fn parameters_ok(table: &Table, i: usize) -> bool
 }
 
 // The names of all functions' parameters.
-#[tactic(auto, using(laws::proofs::Members::all_more, laws::proofs::Members::below_at, contract::proofs::Tests::all_stop), unfolding(laws::specs::Lists::all_below))]
 pub(crate) fn all_parameters_ok(table: &Table) -> bool
     requires { (word_at table.now 6 ≤ 64) × (all_below (word_at table.now 6) (function_ok table.now) ≡ true) }
     ensures { result ≡ all_below (word_at table.now 6) (parameters_ok table.now) }
 {
-    let count = word(table, 6) as usize;
-    for i in 0..count {
-        if !parameters_ok(table, i) {
-            return false;
-        }
-    }
-    true
+    (0..head(table).functions).all(|i| parameters_ok(table, i))
 }

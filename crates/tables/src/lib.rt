@@ -6,7 +6,7 @@ ghost use Rattle.contract.specs.Table.{word_at, clause_word};
 ghost use Rattle.contract.specs.Check.{head_ok, names_ok, clause_ok, clause_below, passes};
 ghost use Rattle.laws.specs.Lists.{all_below};
 
-use contract::{Contract, clause_at, clause_field, head, word};
+use contract::{Contract, Verb, clause_at, clause_field, head};
 
 // The words of a table.
 type Table = [u64; Contract::TABLE];
@@ -35,7 +35,7 @@ fn head_ok(table: &Table) -> bool
 fn clause_fields_ok(table: &Table, i: usize, n: usize) -> bool
     ensures { result ≡ all_below n (λ j. ltb (clause_word table.now i (3 + j)) (word_at table.now 2)) }
 {
-    let fields = word(table, 2) as usize;
+    let fields = head(table).fields;
     (0..n).all(|j| clause_field(table, i, j) < fields)
 }
 
@@ -44,8 +44,8 @@ fn clause_ok(table: &Table, i: usize) -> bool
     ensures { result ≡ clause_ok table.now i }
 {
     let c = clause_at(table, i);
-    c.party < word(table, 0) as usize
-        && c.verb <= 1
+    c.party < head(table).parties
+        && c.verb <= Verb::Ok as usize
         && c.fields <= Contract::FIELDS
         && clause_fields_ok(table, i, c.fields)
 }
@@ -89,8 +89,8 @@ fn words_ok(table: &Table) -> bool
 fn clauses_pass(table: &Table) -> bool
     ensures { result ≡ (all_below (word_at table.now 5) (clause_ok table.now) && all_below (word_at table.now 0) (clause_below table.now (word_at table.now 5))) }
 {
-    let clauses = word(table, 5) as usize;
-    clauses_ok(table, clauses) && parties_heard(table, word(table, 0) as usize, clauses)
+    let h = head(table);
+    clauses_ok(table, h.clauses) && parties_heard(table, h.parties, h.clauses)
 }
 
 // Whether a table of full length passes.
@@ -110,8 +110,5 @@ fn whole_passes(table: &Table) -> bool
 pub fn table_passes(table: &[u64]) -> bool
     ensures { result ≡ passes table.now }
 {
-    let Some(whole) = table.as_array() else {
-        return false;
-    };
-    whole_passes(whole)
+    table.as_array().is_some_and(whole_passes)
 }

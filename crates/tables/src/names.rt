@@ -3,39 +3,36 @@ ghost use Rattle.std.specs.Prelude.{◌≡◌, ◌+◌, ◌*◌, ◌≤◌};
 ghost use Rattle.tokens.specs.Classes.{is_letter, is_name_byte, is_string_byte};
 ghost use Rattle.contract.specs.Table.{word_at, parameters_start};
 ghost use Rattle.contract.specs.Decode.{packed_byte};
-ghost use Rattle.contract.specs.Check.{ranges, name_ok, string_ok, packed_ok};
+ghost use Rattle.contract.specs.Check.{name_ok, string_ok, packed_ok};
 ghost use Rattle.laws.specs.Lists.{all_below};
 
 use crate::Table;
 use contract::{Contract, packed_byte, packed_length, word};
 
-// Whether n is from lo to hi.
-#[tactic(auto, unfolding(contract::specs::Check::ranges))]
-pub(crate) fn ranges(lo: u64, n: u64, hi: u64) -> bool
-    ensures { result ≡ ranges lo n hi }
-{
-    lo <= n && n <= hi
-}
+// The longest name.
+const NAME: u64 = Contract::NAME as u64;
 
+// Kept: (d) here and below one line over a byte's test: one function for the three would take the test as a closure, and with it clauses on where that
+// may be called, on what it answers, and that a word above 255 fails it.
 #[tactic(auto, unfolding(tokens::specs::Classes::is_letter, tokens::specs::Classes::within, laws::specs::Choice::pick))]
 fn is_letter(w: u64) -> bool
     ensures { result ≡ is_letter w }
 {
-    u8::try_from(w).is_ok_and(|b| b.is_ascii_alphabetic())
+    u8::try_from(w).is_ok_and(tokens::is_letter)
 }
 
 #[tactic(auto, unfolding(tokens::specs::Classes::is_name_byte, tokens::specs::Classes::is_letter, tokens::specs::Classes::is_digit, tokens::specs::Classes::within, laws::specs::Choice::pick))]
 fn is_name_byte(w: u64) -> bool
     ensures { result ≡ is_name_byte w }
 {
-    u8::try_from(w).is_ok_and(|b| b.is_ascii_alphanumeric() || b == b'_')
+    u8::try_from(w).is_ok_and(tokens::is_name_byte)
 }
 
 #[tactic(auto, unfolding(tokens::specs::Classes::is_string_byte, tokens::specs::Classes::is_printable, tokens::specs::Classes::within, laws::specs::Choice::pick))]
 fn is_string_byte(w: u64) -> bool
     ensures { result ≡ is_string_byte w }
 {
-    u8::try_from(w).is_ok_and(|b| (b.is_ascii_graphic() || b == b' ') && b != b'"')
+    u8::try_from(w).is_ok_and(tokens::is_string_byte)
 }
 
 // A name of 1 to 32 bytes, its length at o.
@@ -45,18 +42,20 @@ pub(crate) fn name_ok(table: &Table, o: usize) -> bool
     ensures { result ≡ name_ok table.now o }
 {
     let n = word(table, o);
-    ranges(1, n, Contract::NAME as u64)
+    matches!(n, 1..=NAME)
         && is_letter(word(table, o + 1))
         && (0..n as usize - 1).all(|j| is_name_byte(table[o + 2 + j]))
 }
 
 // A name of 1 to 32 bytes in row i of the parameters.
+// Kept: (d) the same three tests as of `name_ok`: one function for both would take the reader of byte j as a closure, and with it clauses on where
+// that may be called and on what it answers.
 #[tactic(auto, using(crate::proofs::Packed::packed_is), unfolding(contract::specs::Check::ranges))]
 pub(crate) fn packed_ok(table: &Table, i: usize) -> bool
     ensures { result ≡ packed_ok table.now (parameters_start + i * 5) }
 {
     let n = packed_length(table, i);
-    ranges(1, n, Contract::NAME as u64)
+    matches!(n, 1..=NAME)
         && is_letter(packed_byte(table, i, 0))
         && (0..n as usize - 1).all(|j| is_name_byte(packed_byte(table, i, 1 + j)))
 }

@@ -3,11 +3,11 @@ ghost use Rattle.std.specs.Prelude.{◌≡◌, ◌||◌, [], ◌∷◌, suc, ◌
 ghost use Rattle.laws.specs.Choice.{pick};
 ghost use Rattle.contract.specs.Check.{ranges, is_sort, statement, expression, holder, asset_target, part_start, parts_start, whole_from, statement_from, block_ok, conditional_start, leaf_ok, whole_ok, is_leaf, node_ok, nodes_ok, scope_at};
 ghost use Rattle.contract.specs.Rows.{node_of};
+ghost use Rattle.contract.specs.Table.{word_at};
 ghost use Rattle.tables.specs.Private.{sort_of, start_of, StartsBy, statements_before, statement_start};
 
 use crate::Table;
-use crate::names::ranges;
-use contract::{Contract, Function, Node, node_at, word};
+use contract::{Contract, Function, Node, TableHead, node_at, word};
 
 // What a part of a node may be.
 #[derive(Clone, Copy)]
@@ -23,38 +23,45 @@ pub(crate) enum Sort {
     ValueTarget,
 }
 
-#[tactic(auto, unfolding(contract::specs::Check::is_sort))]
+#[tactic(auto, unfolding(contract::specs::Check::is_sort, contract::specs::Check::ranges))]
 pub(crate) fn is_sort(sort: Sort, kind: u64) -> bool
     ensures { result ≡ is_sort (sort_of sort) kind }
 {
     match sort {
-        Sort::Expression => ranges(Node::CONSTANT, kind, Node::OVER),
-        Sort::Condition => ranges(Node::TRUE, kind, Node::OR),
-        Sort::Statement => ranges(Node::VALUE_MOVE, kind, Node::CONDITIONAL),
-        Sort::Holder => kind == Node::ASSET || kind == Node::PARAMETER,
-        Sort::AssetTarget => {
-            kind == Node::PARTY || kind == Node::ASSET || kind == Node::PARAMETER
-        }
-        Sort::ValueTarget => kind == Node::PARTY || kind == Node::FIELD,
+        Sort::Expression => matches!(kind, Node::CONSTANT..=Node::OVER),
+        Sort::Condition => matches!(kind, Node::TRUE..=Node::OR),
+        Sort::Statement => matches!(kind, Node::VALUE_MOVE..=Node::CONDITIONAL),
+        Sort::Holder => matches!(kind, Node::ASSET | Node::PARAMETER),
+        Sort::AssetTarget => matches!(kind, Node::PARTY | Node::ASSET | Node::PARAMETER),
+        Sort::ValueTarget => matches!(kind, Node::PARTY | Node::FIELD),
     }
 }
 
 // Whether nodes of a kind have no parts.
-#[tactic(auto, unfolding(contract::specs::Check::is_leaf))]
+#[tactic(auto, unfolding(contract::specs::Check::is_leaf, contract::specs::Check::ranges))]
 fn is_leaf(kind: u64) -> bool
     ensures { result ≡ is_leaf kind }
 {
-    ranges(Node::CONSTANT, kind, Node::PARAMETER)
-        || kind == Node::TRUE
-        || kind == Node::FALSE
-        || kind == Node::PARTY
+    matches!(
+        kind,
+        Node::CONSTANT..=Node::PARAMETER | Node::TRUE | Node::FALSE | Node::PARTY
+    )
 }
 
 // Whether the parts of nodes of a kind are two expressions.
+#[tactic(auto, unfolding(contract::specs::Check::ranges))]
 fn takes_expressions(kind: u64) -> bool
     ensures { result ≡ (ranges 8 kind 11 || ranges 14 kind 19) }
 {
-    ranges(Node::PLUS, kind, Node::OVER) || ranges(Node::EQUAL, kind, Node::AT_LEAST)
+    matches!(kind, Node::PLUS..=Node::OVER | Node::EQUAL..=Node::AT_LEAST)
+}
+
+// Whether the parts of nodes of a kind are two conditions.
+#[tactic(auto, unfolding(contract::specs::Check::ranges))]
+fn takes_conditions(kind: u64) -> bool
+    ensures { result ≡ ranges 21 kind 22 }
+{
+    matches!(kind, Node::AND | Node::OR)
 }
 
 // Whether there is a block in the n nodes before `end`: none, or its last statement counts them all.
@@ -76,6 +83,7 @@ pub(crate) struct Scope<'a> {
     pub(crate) table: &'a Table,
     pub(crate) values: usize,
     pub(crate) parameters: usize,
+    ghost room: { word_at table.now 8 ≤ 4096 },
 }
 
 impl Scope<'_> {
@@ -91,13 +99,13 @@ impl Scope<'_> {
         } = *self;
         match kind {
             Node::CONSTANT => n <= Contract::TOP,
-            Node::STRING => n < word(table, 4),
-            Node::FIELD => n < word(table, 2),
-            Node::ASSET => n < word(table, 1),
+            Node::STRING => n < word(table, TableHead::STRINGS),
+            Node::FIELD => n < word(table, TableHead::FIELDS),
+            Node::ASSET => n < word(table, TableHead::ASSETS),
             Node::VALUE => n < values as u64,
             Node::PARAMETER => n < parameters as u64,
-            Node::PARTY => n < word(table, 0),
-            _ => kind == Node::NOW || kind == Node::TRUE || kind == Node::FALSE,
+            Node::PARTY => n < word(table, TableHead::PARTIES),
+            _ => matches!(kind, Node::NOW | Node::TRUE | Node::FALSE),
         }
     }
 }
@@ -116,9 +124,9 @@ struct NodeAt<'a> {
 impl<'a> NodeAt<'a> {
     fn of(scope: Scope<'a>, from: usize, k: usize) -> NodeAt<'a>
         requires { (from ≤ k) × (k < 4096) }
-        ensures scope_value { result.scope ≡ scope.entry }
-        ensures from_value { result.from ≡ from }
-        ensures k_value { result.k ≡ k }
+        ensures same_scope { result.scope ≡ scope.entry }
+        ensures same_from { result.from ≡ from }
+        ensures same_k { result.k ≡ k }
     {
         let table = scope.table;
         NodeAt {
@@ -194,6 +202,7 @@ impl NodeAt<'_> {
     }
 
     // Whether an expression or a condition counts its parts, which start there, and itself.
+    // Kept: (d) here and in `counts_block`: `is_some_and` in one line wants a lemma and an answer on what its closure says, these lines none.
     fn counts(&self, start: Option<usize>) -> bool
         requires { StartsBy (start_of start) self.now.k }
         ensures { result ≡ whole_from self.now.scope.table.now self.now.k (start_of start) }
@@ -244,7 +253,7 @@ impl NodeAt<'_> {
         if kind == Node::NOT {
             return self.counts(self.part_start(Sort::Condition, self.k));
         }
-        if ranges(Node::AND, kind, Node::OR) {
+        if takes_conditions(kind) {
             let start = self.pair_start(Sort::Condition, Sort::Condition, self.k);
             return self.counts(start);
         }
@@ -279,6 +288,7 @@ impl NodeAt<'_> {
 
 impl Scope<'_> {
     // The n nodes from `from` on, each with its parts among them, and not too many statements.
+    // Kept: (d) a count goes on beside the index, and a node that fails ends both: by `try_fold` the count stands in an Option, to be opened again.
     pub(crate) fn nodes_ok(&self, from: usize, n: usize) -> bool
         requires { from + n ≤ 4096 }
         ensures { result ≡ nodes_ok self.now.table.now (scope_at self.now.table.now self.now.values self.now.parameters) from n }

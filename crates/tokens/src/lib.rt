@@ -44,7 +44,7 @@ impl Token {
 
 // What stands at a place of a text: a token, the question that refuses with its place, or the text's end.
 // Kept: (d) three cases of one rank; whoever reads a Result<Option<Token>, (u8, usize)> has to match the same three, each one level deeper. The
-// question stands as its number, as the cursor that it goes into holds it.
+// question stands as its number, as in the definitions of reading, which compare it, and in the cursor that it goes into.
 #[derive(Clone, Copy)]
 pub enum Lexed {
     Found(Token),
@@ -68,7 +68,7 @@ pub fn is_digit(b: u8) -> bool
 }
 
 #[tactic(auto, unfolding(crate::specs::Classes::is_name_byte, laws::specs::Choice::pick))]
-fn is_name_byte(b: u8) -> bool
+pub fn is_name_byte(b: u8) -> bool
     ensures { result ≡ is_name_byte b }
 {
     is_letter(b) || is_digit(b) || b == b'_'
@@ -81,6 +81,8 @@ fn is_printable(b: u8) -> bool
     matches!(b, b' '..=b'~')
 }
 
+// Kept: (b) by `matches!` a reading of accepted_limit_nodes_4096_shape_0 takes 2.1 per cent more instructions than by this, counted in unproved
+// builds; the bar, 1.5 times a plain program's count, leaves less than this, `name_end` and `read_digits` would take together (docs/TIMES.md).
 #[tactic(auto, unfolding(crate::specs::Classes::is_blank, laws::specs::Choice::pick))]
 fn is_blank(b: u8) -> bool
     ensures { result ≡ is_blank b }
@@ -104,17 +106,18 @@ fn is_comment_byte(b: u8) -> bool
 }
 
 #[tactic(auto, unfolding(crate::specs::Classes::is_string_byte, laws::specs::Choice::pick))]
-fn is_string_byte(b: u8) -> bool
+pub fn is_string_byte(b: u8) -> bool
     ensures { result ≡ is_string_byte b }
 {
     b != b'"' && is_printable(b)
 }
 
 // The byte at i, and 0 past the end.
+// Kept: (d) `items::get_or` by a text's own word, which says at each of its uses that past the end a byte is 0.
 pub fn byte_at(text: &[u8], i: usize) -> u8
     ensures { result ≡ get_or text.now i 0 }
 {
-    text.get(i).copied().unwrap_or(0)
+    items::get_or(text, i, 0)
 }
 
 // The text from a place on.
@@ -147,8 +150,8 @@ fn comment_end(text: &[u8], at: usize) -> usize
 }
 
 // The end of the name bytes that start at `at`.
-// Kept: (b) `for i in at..text.len()` takes 1,241,508 instructions to read nodes_4096_shape_0 where this loop takes 1,237,356 (callgrind, memset
-// left out), and 15,319 where it takes 15,273 to read name_32_everywhere; texts of many nodes are above their bar of speed already.
+// Kept: (b) by `run_end` a reading of accepted_limit_nodes_4096_shape_0 takes 1.6 per cent more instructions than by this loop, and one of
+// accepted_name_32_everywhere 4.5 per cent more, counted in unproved builds; by `for i in at..text.len()` both take more too.
 pub fn name_end(text: &[u8], at: usize) -> usize
     ensures { result ≡ at + run is_name_byte (drop at text.now) }
 {
@@ -181,6 +184,7 @@ impl Digits {
     // The most digits of a number of 64 bits.
     pub const MOST: usize = 20;
     // The number after 2 ^ 63.
+    // Kept: (a) a number for "too great", since `Digits` and its value are public; each reader's own limit judges it, as any other number.
     const ABOVE: u64 = Value::LIMIT + 1;
 }
 
@@ -193,6 +197,8 @@ fn push(v: u64, digit: u8) -> u64
 }
 
 // The digits that start at `at`, gone over once.
+// Kept: (b) by `run_end`, and `fold` over the digits after it, a reading of accepted_limit_nodes_4096_shape_0 takes 0.8 per cent more instructions
+// than by this loop, counted in unproved builds.
 pub fn read_digits(text: &[u8], at: usize) -> Digits
     ensures { result ≡ digits_at text.now at }
 {
@@ -249,6 +255,9 @@ fn word_or_name(name: &[u8], word: u8) -> u8
 }
 
 // The kind of a name: the reserved word that it is, told by its length first, or NAME.
+// Kept: (a) no byte strings as arms: how the fixed words are spelled stands in `words` alone; (b) by `find` over the reserved words a reading of
+// accepted_limit_nodes_4096_shape_0 takes 0.3 per cent more instructions, counted in unproved builds, which the bar does not leave beside the others
+// (`is_blank`).
 fn name_kind(name: &[u8]) -> u8
     ensures { result ≡ kind_among reserved name.now }
 {

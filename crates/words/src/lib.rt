@@ -182,6 +182,8 @@ pub fn word_length(which: u8) -> usize
 }
 
 // Whether a text goes on with a word at a place, byte by byte.
+// Kept: (b) by `text.get(from..).unwrap_or(&[]).starts_with(word)` a reading of accepted_limit_nodes_4096_shape_0 takes 3.2 per cent more
+// instructions than by this loop, counted in unproved builds; the bar, 1.5 times a plain program's count, leaves less (docs/TIMES.md).
 #[tactic(auto, using(crate::proofs::Comparing::word_ends, crate::proofs::Comparing::text_ends, crate::proofs::Comparing::differs, crate::proofs::Comparing::goes_on))]
 fn goes_on(text: &[u8], from: usize, word: &[u8]) -> bool
     ensures { result ≡ starts_with (drop from text.now) word.now }
@@ -204,6 +206,7 @@ pub fn continues(text: &[u8], at: usize, which: u8) -> bool
 }
 
 // Whether a part of a text is the fixed word.
+// Kept: (b) by `part == spelling(which)` the same reading takes 2.7 per cent more instructions than by this length and `goes_on`.
 #[tactic(auto, using(crate::proofs::Comparing::same_starts, laws::proofs::Bytes::same_length))]
 pub fn is_word(part: &[u8], which: u8) -> bool
     ensures { result ≡ same_bytes part.now (spelled which) }

@@ -1,6 +1,7 @@
 -- `numbers::apply` meets its contract. Assumes nothing.
 use mathlib.Core.Path.{◌≡◌, sym, ◌∙◌}
 use Prim.Native.Nat.{◌^◌, ◌<◌}
+use native.Mathlib.Omega.{arith}
 use lib.IntN.{ℤ}
 use lib.Signed.{mag}
 use mir.Syntax.{w64}
@@ -21,18 +22,15 @@ known p eo ea eb fx fy e = e ∙ back (arithmetic p) (record { sfits = fx }) (re
 
 pub returns-in-Plus : goal.returns-in-Plus
 returns-in-Plus c =
-    let k = c in
-    known Plus c.in-Plus.is k.in-Integer.is k.in-Integer-b.is
-    k.in-Integer.known_told-1-own.given.0.1 k.in-Integer-b.known_told-in-Integer-b-1-own.given.0.1 (c.answer.ensures ∙ answered _ _ c.checked_add.ensures)
+    let k = c.in-Integer-Integer in
+    known Plus c.in-Plus.is k.is-0 k.is-1 (omega arith) (omega arith) (c.answer.ensures ∙ answered _ _ c.checked_add.ensures)
 
 pub returns-in-Minus : goal.returns-in-Minus
 returns-in-Minus c =
-    let k = c in
-    known Minus c.in-Minus.is k.in-Integer.is k.in-Integer-b.is
-    k.in-Integer.known_told-1-own.given.0.1 k.in-Integer-b.known_told-in-Integer-b-1-own.given.0.1 (c.answer-in-Minus.ensures ∙ answered _ _ c.checked_sub.ensures)
+    let k = c.in-Integer-Integer in
+    known Minus c.in-Minus.is k.is-0 k.is-1 (omega arith) (omega arith) (c.answer-in-Minus.ensures ∙ answered _ _ c.checked_sub.ensures)
 
 pub returns-in-Times : goal.returns-in-Times
 returns-in-Times c =
-    let k = c in
-    known Times c.in-Times.is k.in-Integer.is k.in-Integer-b.is
-    k.in-Integer.known_told-1-own.given.0.1 k.in-Integer-b.known_told-in-Integer-b-1-own.given.0.1 (c.answer-in-Times.ensures ∙ answered _ _ c.checked_mul.ensures)
+    let k = c.in-Integer-Integer in
+    known Times c.in-Times.is k.is-0 k.is-1 (omega arith) (omega arith) (c.answer-in-Times.ensures ∙ answered _ _ c.checked_mul.ensures)

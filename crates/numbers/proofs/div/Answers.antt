@@ -1,21 +1,25 @@
--- `numbers::div` meets its contract. The code's a / b is rounded towards zero: one too many where the signs differ and something is left over. Only the least integer by -1 leaves the range, and dividing by -1 is taking from 0. Assumes nothing.
-use borrow.Author.Tests.{ne_eqb}
+-- `numbers::div` meets its contract. The code's a / b is rounded towards zero: one too many where the signs differ and something is left over. Only the least integer by -1 leaves the range. Assumes nothing.
+use borrow.Author.Tests.{ne_eqb, eqb-true, eqb-false}
 use mathlib.Core.Path.{◌≡◌, refl, sym, ap, subst, ◌∙◌}
 use mathlib.Core.Bool.{true, false}
-use Prim.Native.Nat.{ℕ, zero, suc, ◌+◌, ◌-◌, ◌/◌, ◌%◌, ◌^◌, ◌<◌, ◌≤◌}
-use native.Mathlib.Nat.{zero-div, zero-mod, mod-one, div-zero, div-one, div-le_self, div-lt_self, pos_of_ne-zero, mul-suc, suc-mul, div-add-mod', div-mul-le_self, lt-div-mul-add, le-div_iff_mul-le, div-lt_iff_lt-mul}
+use Prim.Native.Nat.{ℕ, zero, suc, ◌+◌, ◌/◌, ◌%◌, ◌^◌, ◌<◌, ◌≤◌}
+use native.Mathlib.Nat.{zero-div, zero-mod, mod-one, div-zero, div-le_self, pos_of_ne-zero, mul-suc, suc-mul, div-add-mod', div-mul-le_self, lt-div-mul-add, le-div_iff_mul-le, div-lt_iff_lt-mul}
 use native.Mathlib.Omega.{arith}
 use lib.IntN.{ℤ, pos, negsuc, neg_ℤ, nat_abs, ◌-ℤ◌}
 use lib.Signed.{quot_z, rem_z, mag_rem}
 use mir.Syntax.{w64}
 use mir.Val.{SFits, to_z, of_z}
 use mir.Facts.{to_z-of_z}
+use Rattle.std.specs.Prelude.{Ok, Err}
+use Rattle.std.specs.Int.{CanDivide}
+use Rattle.questions.specs.declared.Question.TheVariants as ask
 use Rattle.laws.specs.Choice.{pick}
 use Rattle.laws.proofs.Choice.{pick_false, true_false}
-use Rattle.numbers.specs.Numbers.{Answer, in_range, eq_z, rounded_down, quotient, divided}
+use Rattle.numbers.specs.Numbers.{Answer, in_range, eq_z, quotient, divided}
 use Rattle.numbers.proofs.Whole.{up, down, alike, both_above, above_below, below_above, up_neg, down_neg, diff, fits_of, same_of, back}
-use Rattle.numbers.proofs.Range.{is_in, answered, neg_fits}
-use Rattle.numbers.proofs.div.Goals.{Else-alike, Else-minus_one}
+use Rattle.numbers.proofs.Range.{is_in, outside, neg_fits}
+use Rattle.numbers.specs.declared.Value.TheVariants.{Integer}
+use Rattle.numbers.proofs.div.Goals.{then-a-b, else-a-b}
 use Rattle.numbers.proofs.div.Goals as goal
 
 -- ---- the divisor's bits
@@ -23,10 +27,6 @@ use Rattle.numbers.proofs.div.Goals as goal
 zero_of : (b : ℤ) → SFits w64 b → of_z w64 b ≡ 0 → b ≡ pos 0
 zero_of (pos n) f e = ap pos e
 zero_of (negsuc n) f e = absurd (omega (arith, f.sfits))
-
-minus_of : (b : ℤ) → SFits w64 b → of_z w64 b ≡ 2 ^ 64 - 1 → b ≡ negsuc 0
-minus_of (pos n) f e = absurd (omega (arith, f.sfits))
-minus_of (negsuc n) f e = ap negsuc (omega (arith, f.sfits))
 
 -- ---- n + 1 and n by d: one apart where d divides n + 1, else the same
 
@@ -44,13 +44,6 @@ inexact n d h s =
     omega arith
 
 -- ---- the quotient, and the code's, which is truncated
-
-by_one : (z : ℤ) → rounded_down z 1 ≡ z
-by_one (pos n) = ap pos (div-one n)
-by_one (negsuc n) = ap negsuc (div-one n)
-
-by_minus_one : (a : ℤ) → quotient a (negsuc 0) ≡ neg_ℤ a
-by_minus_one a = by_one (neg_ℤ a)
 
 -- -(n + 1) by d: with nothing left over, and with something
 below_exact : (n d : ℕ) → 0 < d → suc n % d ≡ 0 → neg_ℤ (pos (suc n / d)) ≡ negsuc (n / d)
@@ -84,13 +77,12 @@ one_less (negsuc a) (negsuc b) s t r = true_false t
 
 -- ---- the range
 
-truncated_fits : (a b : ℤ) → SFits w64 a → (b ≡ negsuc 0 → ⊥) → SFits w64 (quot_z a b)
-truncated_fits (pos a) (pos b) f t = record { sfits = omega (arith, div-le_self a b, f.sfits) }
-truncated_fits (pos a) (negsuc b) f t = neg_fits (a / suc b) (omega (arith, div-le_self a (suc b), f.sfits))
-truncated_fits (negsuc a) (pos b) f t = neg_fits (suc a / b) (omega (arith, div-le_self (suc a) b, f.sfits))
-truncated_fits (negsuc a) (negsuc zero) f t = absurd (t refl)
-truncated_fits (negsuc a) (negsuc (suc b)) f t =
-    record { sfits = omega (arith, div-lt_self {n = suc a} {k = suc (suc b)} (omega arith) (omega arith), f.sfits) }
+-- where rounding down fits, the truncated quotient does
+truncated_fits : (a b : ℤ) → SFits w64 a → SFits w64 (quotient a b) → SFits w64 (quot_z a b)
+truncated_fits (pos a) (pos b) f g = g
+truncated_fits (pos a) (negsuc b) f g = neg_fits (a / suc b) (omega (arith, div-le_self a (suc b), f.sfits))
+truncated_fits (negsuc a) (pos b) f g = neg_fits (suc a / b) (omega (arith, div-le_self (suc a) b, f.sfits))
+truncated_fits (negsuc a) (negsuc b) f g = g
 
 -- with something left over the divisor is not 1 or -1, so the truncated quotient is at most half of a, and one less fits
 half : (n d : ℕ) → (n % d ≡ 0 → ⊥) → n / d + n / d ≤ n
@@ -120,80 +112,63 @@ module _ (a b : ℤ) (fa : SFits w64 a) (fb : SFits w64 b) (some : of_z w64 b �
       none (pos n) s = ne_eqb n 0 s
       none (negsuc n) s = refl
 
-  abbrev truncated : ℤ
-  truncated = quot_z (to_z w64 (of_z w64 a)) (to_z w64 (of_z w64 b))
-
-  truncated_in : (of_z w64 b ≡ 2 ^ 64 - 1 → ⊥) → SFits w64 truncated
-  truncated_in t = subst (SFits w64) (sym (back quot_z fa fb)) (truncated_fits a b fa (λ e. t (ap (of_z w64) e)))
-
   -- the remainder's bits
   rest : of_z w64 (rem_z (to_z w64 (of_z w64 a)) (to_z w64 (of_z w64 b))) ≡ of_z w64 (rem_z a b)
   rest = back (λ (x y : ℤ). of_z w64 (rem_z x y)) fa fb
 
-  left_over : (of_z w64 (rem_z (to_z w64 (of_z w64 a)) (to_z w64 (of_z w64 b))) ≡ 0 → ⊥) → rem_z a b ≡ pos 0 → ⊥
-  left_over s e = s (rest ∙ ap (of_z w64) e)
+  none_left : of_z w64 (rem_z (to_z w64 (of_z w64 a)) (to_z w64 (of_z w64 b))) ≡ 0 → rem_z a b ≡ pos 0
+  none_left e = zero_of (rem_z a b) (record { sfits = omega (arith, mag_rem a b, fa.sfits) }) (sym rest ∙ e)
 
-  like : alike (to_z w64 (of_z w64 a)) (to_z w64 (of_z w64 b)) ≡ true → truncated ≡ quotient a b
-  like t = back quot_z fa fb ∙ same_signs a b (sym (back alike fa fb) ∙ t)
+  past : (CanDivide w64 (to_z w64 (of_z w64 a)) (to_z w64 (of_z w64 b)) → ⊥) → Err ask.ResultRange ≡ divided a b
+  past h =
+      kept _ (outside (quotient a b) λ f.
+      h (
+        subst (λ (z : ℤ). 0 < of_z w64 z) (sym (to_z-of_z fb)) (pos_of_ne-zero some),
+        subst (SFits w64) (sym (back quot_z fa fb)) (truncated_fits a b fa f),
+      ))
 
-  exact : of_z w64 (rem_z (to_z w64 (of_z w64 a)) (to_z w64 (of_z w64 b))) ≡ 0 → truncated ≡ quotient a b
-  exact e =
-      back quot_z fa fb
-      ∙ nothing_left a b nonzero (zero_of (rem_z a b) (record { sfits = omega (arith, mag_rem a b, fa.sfits) }) (sym rest ∙ e))
+  -- the library's quotient, and one less
+  module _ (q : ℤ) (f : SFits w64 q) (e : q ≡ quot_z (to_z w64 (of_z w64 a)) (to_z w64 (of_z w64 b))) where
+    truncated : quot_z a b ≡ quotient a b → Ok (Integer (to_z w64 (of_z w64 q))) ≡ divided a b
+    truncated d = kept _ (is_in q f ∙ ap in_range (e ∙ back quot_z fa fb ∙ d))
 
-  less_in : SFits w64 truncated → (rem_z a b ≡ pos 0 → ⊥) → SFits w64 (to_z w64 (of_z w64 truncated) -ℤ pos 1)
-  less_in f s = subst (λ (z : ℤ). SFits w64 (z -ℤ pos 1)) (sym (to_z-of_z f ∙ back quot_z fa fb)) (less_fits a b fa s)
+    like : alike (to_z w64 (of_z w64 a)) (to_z w64 (of_z w64 b)) ≡ true → Ok (Integer (to_z w64 (of_z w64 q))) ≡ divided a b
+    like t = truncated (same_signs a b (sym (back alike fa fb) ∙ t))
 
-  less : SFits w64 truncated → alike (to_z w64 (of_z w64 a)) (to_z w64 (of_z w64 b)) ≡ false → (rem_z a b ≡ pos 0 → ⊥)
-      → to_z w64 (of_z w64 truncated) -ℤ pos 1 ≡ quotient a b
-  less f t s = ap (λ (z : ℤ). z -ℤ pos 1) (to_z-of_z f ∙ back quot_z fa fb) ∙ one_less a b nonzero (sym (back alike fa fb) ∙ t) s
+    exact : of_z w64 (rem_z (to_z w64 (of_z w64 a)) (to_z w64 (of_z w64 b))) ≡ 0 → Ok (Integer (to_z w64 (of_z w64 q))) ≡ divided a b
+    exact r = truncated (nothing_left a b nonzero (none_left r))
+
+    less : alike (to_z w64 (of_z w64 a)) (to_z w64 (of_z w64 b)) ≡ false
+        → (of_z w64 (rem_z (to_z w64 (of_z w64 a)) (to_z w64 (of_z w64 b))) ≡ 0 → ⊥)
+        → Ok (Integer (to_z w64 (of_z w64 (to_z w64 (of_z w64 q) -ℤ pos 1)))) ≡ divided a b
+    less t r =
+        let s : rem_z a b ≡ pos 0 → ⊥ = λ z. r (rest ∙ ap (of_z w64) z) in
+        let z : to_z w64 (of_z w64 q) -ℤ pos 1 ≡ quot_z a b -ℤ pos 1 = ap (λ (z : ℤ). z -ℤ pos 1) (to_z-of_z f ∙ e ∙ back quot_z fa fb) in
+        kept _ (is_in _ (subst (SFits w64) (sym z) (less_fits a b fa s)) ∙ ap in_range (z ∙ one_less a b nonzero (sym (back alike fa fb) ∙ t) s))
 
 -- ---- the needs
 pub returns-then-b-eq0 : goal.returns-then-b-eq0
 unfolding divided pick
 returns-then-b-eq0 c = rw (zero_of _ c.ranges.b c.if-b-eq0.true)
 
-pub returns-then-minus_one : goal.returns-then-minus_one
-returns-then-minus_one c =
-    let s = c in
-    kept _ _ s.ranges.a s.ranges.b c.if-b-eq0.false _
-    (c.answer.ensures
-    ∙ answered _ _ c.checked_neg.ensures
-    ∙ ap (λ (z : ℤ). in_range (neg_ℤ z)) (to_z-of_z s.ranges.a)
-    ∙ ap in_range (sym (by_minus_one s.args.a) ∙ ap (quotient s.args.a) (sym (minus_of _ s.ranges.b c.if-minus_one.true))))
+pub returns-in_default : goal.returns-in_default
+returns-in_default c = past _ _ c.ranges.a c.ranges.b c.if-b-eq0.false c.in_default.ensures
 
-pub nonzero_div-q : goal.nonzero_div-q
-nonzero_div-q c =
-    let s = c in
+pub returns-then-down : goal.returns-then-down
+returns-then-down c =
     let some = c.if-b-eq0.false in
-    (pos_of_ne-zero some, truncated_in _ _ s.ranges.a s.ranges.b some c.if-minus_one.false)
+    let k = c.in-Some.ensures in
+    elim c.if-a-b.branch [
+      | then-a-b w ↦ like _ _ c.ranges.a c.ranges.b some _ (record { sfits = omega arith }) k.1 w.if-a-b.true
+      | else-a-b w ↦ exact _ _ c.ranges.a c.ranges.b some _ (record { sfits = omega arith }) k.1 (eqb-true _ _ (sym w.down-is ∙ c.if-down.true))
+    ]
 
-pub returns-then-alike : goal.returns-then-alike
-returns-then-alike c =
-    let s = c in
+pub returns-else-down : goal.returns-else-down
+returns-else-down c =
     let some = c.if-b-eq0.false in
-    kept _ _ s.ranges.a s.ranges.b some _ (is_in _ (nonzero_div-q (goal.at.returns-then-alike c).Else-minus_one).1 ∙ ap in_range (like _ _ s.ranges.a s.ranges.b some c.if-alike.true))
-
-pub nonzero_rem-a : goal.nonzero_rem-a
-nonzero_rem-a c = nonzero_div-q (goal.at.nonzero_rem-a c).Else-minus_one
-
-pub returns-then-a-b-eq0 : goal.returns-then-a-b-eq0
-returns-then-a-b-eq0 c =
-    let s = c in
-    let some = c.if-b-eq0.false in
-    kept _ _ s.ranges.a s.ranges.b some _ (is_in _ (nonzero_rem-a (goal.at.returns-then-a-b-eq0 c).Else-alike).1 ∙ ap in_range (exact _ _ s.ranges.a s.ranges.b some c.if-a-b-eq0.true))
-
-pub overflow_sub-result : goal.overflow_sub-result
-overflow_sub-result c =
-    let s = c in
-    let some = c.if-b-eq0.false in
-    less_in _ _ s.ranges.a s.ranges.b some (nonzero_rem-a (goal.at.overflow_sub-result c).Else-alike).1 (left_over _ _ s.ranges.a s.ranges.b some c.if-a-b-eq0.false)
-
-pub returns : goal.returns
-returns c =
-    let s = c in
-    let some = c.if-b-eq0.false in
-    kept _ _ s.ranges.a s.ranges.b some _
-    (is_in _ (overflow_sub-result c)
-    ∙ ap in_range
-    (less _ _ s.ranges.a s.ranges.b some (nonzero_rem-a (goal.at.returns c).Else-alike).1 c.if-alike.false (left_over _ _ s.ranges.a s.ranges.b some c.if-a-b-eq0.false)))
+    let k = c.in-Some.ensures in
+    elim c.if-a-b.branch [
+      | then-a-b w ↦ true_false (sym w.if-a-b.true ∙ sym w.down-is ∙ c.if-down.false)
+      | else-a-b w ↦
+          less _ _ c.ranges.a c.ranges.b some _ (record { sfits = omega arith }) k.1 w.if-a-b.false (eqb-false _ _ (sym w.down-is ∙ c.if-down.false))
+    ]

@@ -1,20 +1,15 @@
--- `places::place_in` meets its contract. Assumes nothing.
 use native.Mathlib.Omega.{arith}
-use Rattle.places.proofs.PlaceLaws.{at_first, at_line_feed, at_byte, reached_as, placed}
+use mathlib.Core.Path.{refl}
+use lib.ListN.{take, length-take}
+use Rattle.places.specs.Places.{is_line_feed}
+use Rattle.places.proofs.PlaceLaws.{since_start, few_kept, placed}
 use Rattle.places.proofs.place_in.Goals as goal
-use Rattle.places.proofs.place_in.Goals.{then-text-i-eq10, else-text-i-eq10}
 
-pub loop-i-init : goal.loop-i-init
-loop-i-init c = at_first _
+pub overflow_sub-start : goal.overflow_sub-start
+overflow_sub-start c = omega (arith, c.since_line_feed.ensures, since_start c.args.text.now c.min-stop.result (omega (arith, c.min-stop.ensures)))
 
-pub loop-i-preserved : goal.loop-i-preserved
-loop-i-preserved c =
-    elim c.if-text-i-eq10.branch [
-      | then-text-i-eq10 w ↦ reached_as w.line-is w.start-is (at_line_feed _ c.loop-i.invariant (omega (arith, c.loop-i-test.true, c.min-stop.ensures)) w.if-text-i-eq10.true)
-      | else-text-i-eq10 w ↦ reached_as w.line-is w.start-is (at_byte _ c.loop-i.invariant (omega (arith, c.loop-i-test.true, c.min-stop.ensures)) w.if-text-i-eq10.false)
-    ]
+pub overflow_add-result : goal.overflow_add-result
+overflow_add-result c = record { fits = omega (arith, c.line_feeds.ensures, few_kept is_line_feed (take c.min-stop.result c.args.text.now), length-take c.min-stop.result c.args.text.now, c.min-stop.ensures) }
 
 pub returns : goal.returns
-returns c =
-    let l = c.loop-i in
-    placed _ _ l.invariant c.min-stop.ensures (omega (arith, c.loop-i-test.false)) c.line_end-end.ensures (omega (arith, c.loop-i-test.false))
+returns c = placed c.args.text.now c.args.at c.min-stop.ensures (omega (arith, c.line_feeds.ensures)) c.since_line_feed.ensures refl c.line_end.ensures refl

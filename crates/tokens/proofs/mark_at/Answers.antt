@@ -91,18 +91,6 @@ returns-in-126 c =
     let a = c.args in
     c.found-in-126.ensures ∙ sym (single a.text.now a.i c.requires 126 not_mark (λ t. refl) c.in-126.is)
 
-pub returns-in-45 : goal.returns-in-45
-returns-in-45 c =
-    c.minus_at.ensures
-
-pub returns-in-61 : goal.returns-in-61
-returns-in-61 c =
-    c.equals_at.ensures
-
-pub returns-in-124 : goal.returns-in-124
-returns-in-124 c =
-    c.bar_at.ensures
-
 pub returns-in-60 : goal.returns-in-60
 returns-in-60 c =
     let a = c.args in

@@ -14,6 +14,6 @@ returns-then-not-event_ok c =
     let s = c.scope-scope.ensures in
     let e : c.event_ok.result ≡ event_passes a.table.now a.i c.loop-j.j =
     c.event_ok.ensures
-    ∙ (λ t. event_ok (s.table_value t) (scope_at (s.table_value t) (s.values_value t) (s.parameters_value t)) c.loop-j.first (a.row.event + c.loop-j.j))
+    ∙ (λ t. event_ok (s.same_table t) (scope_at (s.same_table t) (s.same_values t) (s.same_parameters t)) c.loop-j.first (a.row.event + c.loop-j.j))
     ∙ event_same a.table.now a.i a.row a.read c.loop-j.first c.loop-j.j c.loop-j.invariant.0 in
     all_stop _ _ _ (omega arith) (sym e ∙ c.if-not-event_ok.true)

@@ -39,20 +39,20 @@ returns-then-kind-eq-NOT c =
     ∙ sym (pick_false _ _ _ (or_first (ranges 8 kind 11) (ranges 14 kind 19) z) ∙ pick_false _ _ _ (or_second (ranges 8 kind 11) (ranges 14 kind 19) z)
     ∙ pick_true _ _ _ (eq-eqb _ _ c.if-kind-eq-NOT.true))
 
-pub counts-requires-then-ranges : goal.counts-requires-then-ranges
-counts-requires-then-ranges c =
+pub counts-requires-then-takes_conditions : goal.counts-requires-then-takes_conditions
+counts-requires-then-takes_conditions c =
     let a = c.args.self.now in
-    subst (λ (x : Start). StartsBy x a.k) (sym c.pair_start-start-then-ranges.ensures) (parts_by a.scope.table.now a.from (condition ∷ condition ∷ []) a.k)
+    subst (λ (x : Start). StartsBy x a.k) (sym c.pair_start-start-then-takes_conditions.ensures) (parts_by a.scope.table.now a.from (condition ∷ condition ∷ []) a.k)
 
-pub returns-then-ranges : goal.returns-then-ranges
+pub returns-then-takes_conditions : goal.returns-then-takes_conditions
 unfolding whole_ok
-returns-then-ranges c =
+returns-then-takes_conditions c =
     let a = c.args.self.now in
     let kind = a.node.kind in
     let z = sym c.takes_expressions.ensures ∙ c.if-takes_expressions.false in
-    c.counts-then-ranges.ensures ∙ ap (whole_from a.scope.table.now a.k) c.pair_start-start-then-ranges.ensures
+    c.counts-then-takes_conditions.ensures ∙ ap (whole_from a.scope.table.now a.k) c.pair_start-start-then-takes_conditions.ensures
     ∙ sym (pick_false _ _ _ (or_first (ranges 8 kind 11) (ranges 14 kind 19) z) ∙ pick_false _ _ _ (or_second (ranges 8 kind 11) (ranges 14 kind 19) z)
-    ∙ pick_false _ _ _ (ne_eqb _ _ c.if-kind-eq-NOT.false) ∙ pick_true _ _ _ (sym c.ranges-2.ensures ∙ c.if-ranges.true))
+    ∙ pick_false _ _ _ (ne_eqb _ _ c.if-kind-eq-NOT.false) ∙ pick_true _ _ _ (sym c.takes_conditions.ensures ∙ c.if-takes_conditions.true))
 
 pub counts_block-requires : goal.counts_block-requires
 counts_block-requires c =
@@ -68,4 +68,4 @@ returns c =
     let z = sym c.takes_expressions.ensures ∙ c.if-takes_expressions.false in
     c.counts_block.ensures ∙ ap (statement_from w a.from a.k) c.statement_start.ensures ∙ statement_is w a.from a.k kind
     ∙ sym (pick_false _ _ _ (or_first (ranges 8 kind 11) (ranges 14 kind 19) z) ∙ pick_false _ _ _ (or_second (ranges 8 kind 11) (ranges 14 kind 19) z)
-    ∙ pick_false _ _ _ (ne_eqb _ _ c.if-kind-eq-NOT.false) ∙ pick_false _ _ _ (sym c.ranges-2.ensures ∙ c.if-ranges.false))
+    ∙ pick_false _ _ _ (ne_eqb _ _ c.if-kind-eq-NOT.false) ∙ pick_false _ _ _ (sym c.takes_conditions.ensures ∙ c.if-takes_conditions.false))

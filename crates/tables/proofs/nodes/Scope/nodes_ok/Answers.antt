@@ -24,12 +24,12 @@ loop-j-preserved c =
     let here = c.of-here in
     let e = here.ensures in
     let kind : here.result.node.kind ≡ kind_at s.table.now (c.args.from + c.loop-j.j) =
-    ap (λ (n : Node). n.kind) here.result.read ∙ λ t. kind_at (e.scope_value t).table.now (e.k_value t) in
+    ap (λ (n : Node). n.kind) here.result.read ∙ λ t. kind_at (e.same_scope t).table.now (e.same_k t) in
     let count : c.counted-count.result ≡ pick (is_sort a-statement (kind_at s.table.now (c.args.from + c.loop-j.j))) (suc c.loop-j.count) c.loop-j.count =
     c.counted-count.ensures ∙ ap (λ (n : ℕ). pick (is_sort a-statement n) (suc c.loop-j.count) c.loop-j.count) kind in (
       omega (arith, counted_most (is_sort a-statement (kind_at s.table.now (c.args.from + c.loop-j.j))) c.loop-j.count count),
       statements_more s.table.now c.args.from c.loop-j.j c.loop-j.count c.loop-j.invariant.1 count,
-      all_more _ _ c.loop-j.invariant.2 (sym (c.is_ok.ensures ∙ λ t. node_ok (e.scope_value t).table.now (scope_at (e.scope_value t).table.now (e.scope_value t).values (e.scope_value t).parameters) (e.from_value t) (e.k_value t)) ∙ c.if-not-is_ok.false),
+      all_more _ _ c.loop-j.invariant.2 (sym (c.is_ok.ensures ∙ λ t. node_ok (e.same_scope t).table.now (scope_at (e.same_scope t).table.now (e.same_scope t).values (e.same_scope t).parameters) (e.same_from t) (e.same_k t)) ∙ c.if-not-is_ok.false),
     )
 
 pub returns-then-not-is_ok : goal.returns-then-not-is_ok
@@ -38,7 +38,7 @@ returns-then-not-is_ok c =
     let s = c.args.self.now in
     let e = c.of-here.ensures in
     let here : c.is_ok.result ≡ node_ok s.table.now (scope_at s.table.now s.values s.parameters) c.args.from (c.args.from + c.loop-j.j) =
-    c.is_ok.ensures ∙ λ t. node_ok (e.scope_value t).table.now (scope_at (e.scope_value t).table.now (e.scope_value t).values (e.scope_value t).parameters) (e.from_value t) (e.k_value t) in
+    c.is_ok.ensures ∙ λ t. node_ok (e.same_scope t).table.now (scope_at (e.same_scope t).table.now (e.same_scope t).values (e.same_scope t).parameters) (e.same_from t) (e.same_k t) in
     λ i. all_stop (λ j. node_ok s.table.now (scope_at s.table.now s.values s.parameters) c.args.from (c.args.from + j)) c.loop-j.j c.args.n (omega arith) (sym here ∙ c.if-not-is_ok.true) i && leb (statements_in s.table.now c.args.from c.args.n) 64
 
 pub returns : goal.returns
