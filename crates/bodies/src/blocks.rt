@@ -12,6 +12,7 @@ use questions::Question;
 use tokens::Token;
 
 // A statement: its first token, its block's first node, and whether it is in a handler.
+// Kept: (d) a text that is short, here and in `Block`, as in `Lists` of clauses.
 #[derive(Clone, Copy)]
 pub(crate) struct Statement<'a> {
     pub(crate) text: &'a [u8],
@@ -23,9 +24,9 @@ pub(crate) struct Statement<'a> {
 }
 
 impl Statement<'_> {
-    // E -> t, at t. `first` is the statement's first token, `from` its block's first node.
-    // Kept: (d) that c is no stop, here and below: as a type that says so a cursor is `c.bits` at each use, and each answer, a cursor or a stop
-    // in one number, is wrapped again (49 lines more for lists of names and clauses).
+    // E -> t, at t.
+    // Kept: (d) that c is no stop, here and below: with a type that says so crate clauses had 49 lines more, since a parser's answer is a cursor or a
+    // stop in one number, and is wrapped again before the next parser takes it.
     fn sends(&self, lent: &mut Lent, c: u64) -> u64
         requires { is_stop c ≡ false }
         ensures value { Follows self.now.text.now (walk.sends self.now.text.now (cursor_in self.now.text.now self.now.first) self.now.from (cursor_in self.now.text.now c)) result lent.old lent.new }
@@ -134,15 +135,14 @@ impl Statement<'_> {
         ensures value { Follows self.now.text.now (walk.action self.now.text.now self.now.handler (cursor_in self.now.text.now self.now.first) self.now.from (cursor_in self.now.text.now c)) result lent.old lent.new }
         ensures same_lists { SameLists lent.old lent.new }
     {
-        let kind = cursors::kind_of(c);
-        if kind == words::VALUE_ARROW {
-            return self.sends(lent, cursors::lex(self.text, cursors::end_of(c)));
+        match cursors::kind_of(c) {
+            words::VALUE_ARROW => self.sends(lent, cursors::lex(self.text, cursors::end_of(c))),
+            words::ASSET_ARROW => {
+                let alone = is_alone(self.first, c);
+                self.asset_move(lent, alone, cursors::lex(self.text, cursors::end_of(c)))
+            }
+            _ => cursors::unfit(self.text, c),
         }
-        if kind == words::ASSET_ARROW {
-            let alone = is_alone(self.first, c);
-            return self.asset_move(lent, alone, cursors::lex(self.text, cursors::end_of(c)));
-        }
-        cursors::unfit(self.text, c)
     }
 }
 
@@ -150,11 +150,7 @@ impl Statement<'_> {
 fn is_alone(first: u64, c: u64) -> bool
     ensures { result ≡ walk.is_alone [] (cursor_in [] first) (cursor_in [] c) }
 {
-    if cursors::kind_of(first) == Token::NAME {
-        cursors::at_of(c) == cursors::end_of(first)
-    } else {
-        false
-    }
+    cursors::kind_of(first) == Token::NAME && cursors::at_of(c) == cursors::end_of(first)
 }
 
 // Whether a token may start a statement or an event.
@@ -168,6 +164,7 @@ pub(crate) fn is_start(kind: u8) -> bool
 }
 
 // Where statements stand: how many levels are left, whether in a handler, and the first node of their block.
+// Kept: (d) a text that is short, as in `Statement`.
 #[derive(Clone, Copy)]
 pub(crate) struct Block<'a> {
     pub(crate) text: &'a [u8],
@@ -188,7 +185,7 @@ impl Block<'_> {
             return self.conditional(lent, c);
         }
         entries::count(lent.notes, entries::NODE, cursors::start_of(c));
-        let r = expressions::expression(
+        let after = expressions::expression(
             self.text,
             lent.table,
             lent.notes,
@@ -196,21 +193,22 @@ impl Block<'_> {
             self.levels,
             self.handler,
         );
-        if cursors::stops(r) {
-            return r;
+        if cursors::stops(after) {
+            return after;
         }
-        let d = r;
         let statement = Statement {
             text: self.text,
             handler: self.handler,
             first: c,
             from: self.from,
         };
-        statement.action(lent, d)
+        statement.action(lent, after)
     }
 
     // The statements of a block.
-    // Kept: (d) a loop of a few lines over a parser of its own: over two closures, what begins one and what reads it, it would be no shorter.
+    // Kept: (d) a loop of a few lines over a parser of its own: over two closures, what begins one and what reads it, it would be no shorter;
+    // as many turns as the definition counts (its fuel is the text's length); with a `while` over the token's kind a proof would first have to
+    // show that each turn goes on in the text, which nothing else asks.
     #[cycle(blocks)]
     fn statements(&self, lent: &mut Lent, c: u64) -> u64
         requires { is_stop c ≡ false }
@@ -222,12 +220,11 @@ impl Block<'_> {
             if !is_start(cursors::kind_of(here)) {
                 return here;
             }
-            let r = self.statement(lent, here);
-            if cursors::stops(r) {
-                return r;
+            let next = self.statement(lent, here);
+            if cursors::stops(next) {
+                return next;
             }
-            let d = r;
-            here = d;
+            here = next;
         }
         here
     }
@@ -240,26 +237,25 @@ impl Block<'_> {
         ensures same_lists { SameLists lent.old lent.new }
     {
         let from = lent.nodes();
-        let a = cursors::token(self.text, c, words::OPEN_BRACE);
-        if cursors::stops(a) {
-            return a;
+        let opened = cursors::token(self.text, c, words::OPEN_BRACE);
+        if cursors::stops(opened) {
+            return opened;
         }
-        let d = a;
+        // Kept: (c) every field, here and in `conditional`: `..*self` is refused for a struct with a ghost field.
         let inside = Block {
             text: self.text,
             levels: self.levels,
             handler: self.handler,
             from,
         };
-        let r = inside.statements(lent, d);
-        if cursors::stops(r) {
-            return r;
+        let after = inside.statements(lent, opened);
+        if cursors::stops(after) {
+            return after;
         }
-        let e = r;
-        cursors::token(self.text, e, words::CLOSE_BRACE)
+        cursors::token(self.text, after, words::CLOSE_BRACE)
     }
 
-    // (B) { S }, with so many levels left for it.
+    // (B) { S }
     #[cycle(blocks)]
     pub(crate) fn conditional(&self, lent: &mut Lent, c: u64) -> u64
         requires { is_stop c ≡ false }
@@ -270,9 +266,9 @@ impl Block<'_> {
         if self.levels == 0 {
             return cursors::stop(Question::Levels as u8, place);
         }
-        let a = cursors::token(self.text, c, words::OPEN_PAREN);
-        if cursors::stops(a) {
-            return a;
+        let opened = cursors::token(self.text, c, words::OPEN_PAREN);
+        if cursors::stops(opened) {
+            return opened;
         }
         entries::count(lent.notes, entries::NODE, place);
         entries::count(lent.notes, entries::STATEMENT, place);
@@ -280,13 +276,13 @@ impl Block<'_> {
             self.text,
             lent.table,
             lent.notes,
-            a,
+            opened,
             self.levels - 1,
             self.handler,
         );
-        let b = cursors::close(self.text, inner);
-        if cursors::stops(b) {
-            return b;
+        let closed = cursors::close(self.text, inner);
+        if cursors::stops(closed) {
+            return closed;
         }
         let before = lent.nodes();
         let deeper = Block {
@@ -295,12 +291,12 @@ impl Block<'_> {
             handler: self.handler,
             from: before,
         };
-        let r = deeper.braces(lent, b);
-        if cursors::stops(r) {
-            return r;
+        let after = deeper.braces(lent, closed);
+        if cursors::stops(after) {
+            return after;
         }
         let block = lent.nodes_since(before) as u64;
         entries::put(lent.table, lent.notes, Node::CONDITIONAL, block, self.from);
-        r
+        after
     }
 }

@@ -17,7 +17,7 @@ mod parts;
 // { S W }
 // Kept: (a) as `cursors::leave` says: one function over the public parsers would be public, and require that its closure may be called.
 pub fn body(text: &[u8], table: &mut [u64], notes: &mut [u64], c: u64) -> u64
-    ensures result_value { step_in text.now result ≡ step_after (entered text.now (walk.body text.now (cursor_in text.now c) (draft table.old notes.old))) }
+    ensures value { step_in text.now result ≡ step_after (entered text.now (walk.body text.now (cursor_in text.now c) (draft table.old notes.old))) }
     ensures table_after { table.new ≡ table_after table.old (entered text.now (walk.body text.now (cursor_in text.now c) (draft table.old notes.old))) }
     ensures notes_after { notes.new ≡ notes_after notes.old (entered text.now (walk.body text.now (cursor_in text.now c) (draft table.old notes.old))) }
 {

@@ -11,7 +11,7 @@ use crate::blocks::{Block, Statement};
 use contract::{Contract, Node};
 use entries::{Lent, Notes};
 
-// One more event of the function at hand.
+// One more event of the function at hand. Each has a node of its own, so that there are no more than nodes.
 fn one_more(notes: &mut [u64])
     ensures { notes.new ≡ walk.one_more_event [] notes.old }
 {
@@ -22,6 +22,7 @@ fn one_more(notes: &mut [u64])
 }
 
 // A text with bodies, short enough for cursors.
+// Kept: (d) a text that is short, here and in `Body`, as in `Lists` of clauses.
 #[derive(Clone, Copy)]
 pub(crate) struct Bodies<'a> {
     pub(crate) text: &'a [u8],
@@ -43,22 +44,20 @@ impl Bodies<'_> {
         ensures value { Follows self.now.text.now (walk.event_end self.now.text.now i state before from (cursor_in self.now.text.now c)) result lent.old lent.new }
         ensures same_lists { SameLists lent.old lent.new }
     {
-        let a = cursors::token(self.text, c, words::STATE_ARROW);
-        if cursors::stops(a) {
-            return a;
+        let mark = cursors::token(self.text, c, words::STATE_ARROW);
+        if cursors::stops(mark) {
+            return mark;
         }
-        let d = a;
-        let b = cursors::state_at(self.text, d);
-        if cursors::stops(b) {
-            return b;
+        let name = cursors::state_at(self.text, mark);
+        if cursors::stops(name) {
+            return name;
         }
-        let l = b;
         let handler = lent.nodes_since(from);
-        let last = cursors::mention_state(self.text, lent.table, lent.notes, l);
+        let last = cursors::mention_state(self.text, lent.table, lent.notes, name);
         let node = lent.nodes();
         entries::put(lent.table, lent.notes, Node::EVENT, handler as u64, before);
         entries::event_row(lent.table, i, state, last, node);
-        cursors::lex(self.text, cursors::end_of(l))
+        cursors::lex(self.text, cursors::end_of(name))
     }
 
     // >> @Q { S } => @Q' after a guard at `place` whose first node is `before`.
@@ -67,20 +66,18 @@ impl Bodies<'_> {
         ensures value { Follows self.now.text.now (walk.event self.now.text.now place before (cursor_in self.now.text.now c)) result lent.old lent.new }
         ensures same_lists { SameLists lent.old lent.new }
     {
-        let a = cursors::token(self.text, c, words::EVENT_MARK);
-        if cursors::stops(a) {
-            return a;
+        let mark = cursors::token(self.text, c, words::EVENT_MARK);
+        if cursors::stops(mark) {
+            return mark;
         }
-        let d = a;
-        let b = cursors::state_at(self.text, d);
-        if cursors::stops(b) {
-            return b;
+        let name = cursors::state_at(self.text, mark);
+        if cursors::stops(name) {
+            return name;
         }
-        let q = b;
         let i = lent.note(entries::EVENT) as usize;
         let from = lent.nodes();
         entries::count(lent.notes, entries::EVENT, place);
-        let state = cursors::mention_state(self.text, lent.table, lent.notes, q);
+        let state = cursors::mention_state(self.text, lent.table, lent.notes, name);
         items::set(lent.notes, entries::STATEMENT, 0);
         let block = Block {
             text: self.text,
@@ -88,12 +85,11 @@ impl Bodies<'_> {
             handler: true,
             from,
         };
-        let r = block.braces(lent, cursors::lex(self.text, cursors::end_of(q)));
-        if cursors::stops(r) {
-            return r;
+        let after = block.braces(lent, cursors::lex(self.text, cursors::end_of(name)));
+        if cursors::stops(after) {
+            return after;
         }
-        let e = r;
-        self.event_end(lent, e, i, state, before, from)
+        self.event_end(lent, after, i, state, before, from)
     }
 
     // { S W }
@@ -103,11 +99,10 @@ impl Bodies<'_> {
         ensures same_lists { SameLists lent.old lent.new }
     {
         let from = lent.nodes();
-        let a = cursors::token(self.text, c, words::OPEN_BRACE);
-        if cursors::stops(a) {
-            return a;
+        let opened = cursors::token(self.text, c, words::OPEN_BRACE);
+        if cursors::stops(opened) {
+            return opened;
         }
-        let d = a;
         items::set(lent.notes, entries::STATEMENT, 0);
         items::set(lent.notes, Notes::BODY, 0);
         items::set(lent.notes, Notes::HERE, 0);
@@ -115,12 +110,11 @@ impl Bodies<'_> {
             text: self.text,
             from,
         };
-        let r = body.body_items(lent, d);
-        if cursors::stops(r) {
-            return r;
+        let after = body.body_items(lent, opened);
+        if cursors::stops(after) {
+            return after;
         }
-        let e = r;
-        cursors::token(self.text, e, words::CLOSE_BRACE)
+        cursors::token(self.text, after, words::CLOSE_BRACE)
     }
 }
 
@@ -134,11 +128,12 @@ struct Body<'a> {
 
 impl Body<'_> {
     // The nodes of the body from `from` on.
+    // Kept: (d) the notes alone, though `Lent::nodes_since` counts so: with both lists a clause would have to say that the table stays.
     fn grow(&self, notes: &mut [u64])
         ensures { notes.new ≡ set notes.old 604 (note notes.old 14 - self.now.from) }
     {
-        let many = cursors::nodes_since(notes, self.from);
-        items::set(notes, Notes::BODY, many as u64);
+        let written = contract::word(notes, entries::WRITTEN) as usize;
+        items::set(notes, Notes::BODY, written.saturating_sub(self.from) as u64);
     }
 
     // A statement or an event, after its expression.
@@ -149,13 +144,12 @@ impl Body<'_> {
     {
         if cursors::kind_of(c) == words::EVENT_MARK {
             let bodies = Bodies { text: self.text };
-            let r = bodies.event(lent, c, cursors::start_of(first), before);
-            if cursors::stops(r) {
-                return r;
+            let after = bodies.event(lent, c, cursors::start_of(first), before);
+            if cursors::stops(after) {
+                return after;
             }
-            let d = r;
             one_more(lent.notes);
-            return d;
+            return after;
         }
         if lent.note(Notes::HERE) != 0 {
             return cursors::unfit(self.text, c);
@@ -166,13 +160,12 @@ impl Body<'_> {
             first,
             from: self.from,
         };
-        let r = statement.action(lent, c);
-        if cursors::stops(r) {
-            return r;
+        let after = statement.action(lent, c);
+        if cursors::stops(after) {
+            return after;
         }
-        let d = r;
         self.grow(lent.notes);
-        d
+        after
     }
 
     // A conditional of a body; none after an event.
@@ -190,13 +183,12 @@ impl Body<'_> {
             handler: false,
             from: self.from,
         };
-        let r = block.conditional(lent, c);
-        if cursors::stops(r) {
-            return r;
+        let after = block.conditional(lent, c);
+        if cursors::stops(after) {
+            return after;
         }
-        let d = r;
         self.grow(lent.notes);
-        d
+        after
     }
 
     // The next statement or event of a body.
@@ -210,7 +202,7 @@ impl Body<'_> {
         }
         let before = lent.nodes();
         entries::count(lent.notes, entries::NODE, cursors::start_of(c));
-        let r = expressions::expression(
+        let after = expressions::expression(
             self.text,
             lent.table,
             lent.notes,
@@ -218,15 +210,15 @@ impl Body<'_> {
             Contract::LEVELS,
             false,
         );
-        if cursors::stops(r) {
-            return r;
+        if cursors::stops(after) {
+            return after;
         }
-        let d = r;
-        self.body_rest(lent, d, c, before)
+        self.body_rest(lent, after, c, before)
     }
 
     // The statements and events of a body.
-    // Kept: (d) a loop of a few lines over a parser of its own: over two closures, what begins one and what reads it, it would be no shorter.
+    // Kept: (d) a loop of a few lines over a parser of its own: over two closures, what begins one and what reads it, it would be no shorter; as
+    // many turns as the definition counts, as in `statements`.
     fn body_items(&self, lent: &mut Lent, c: u64) -> u64
         requires { is_stop c ≡ false }
         ensures value { Follows self.now.text.now (walk.body_items self.now.text.now self.now.from (length self.now.text.now) (cursor_in self.now.text.now c)) result lent.old lent.new }
@@ -237,12 +229,11 @@ impl Body<'_> {
             if !blocks::is_start(cursors::kind_of(here)) {
                 return here;
             }
-            let r = self.body_item(lent, here);
-            if cursors::stops(r) {
-                return r;
+            let next = self.body_item(lent, here);
+            if cursors::stops(next) {
+                return next;
             }
-            let d = r;
-            here = d;
+            here = next;
         }
         here
     }

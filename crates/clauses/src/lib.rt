@@ -16,7 +16,7 @@ mod lists;
 // Declared names of a kind.
 // Kept: (a) a public parser takes any text and lists; what they have in common, `Lists` and `Lent`, holds facts of them.
 pub fn names(text: &[u8], table: &mut [u64], notes: &mut [u64], c: u64, kind: usize) -> u64
-    ensures result_value { step_in text.now result ≡ step_after (entered text.now (walk.names text.now kind (cursor_in text.now c) (draft table.old notes.old))) }
+    ensures value { step_in text.now result ≡ step_after (entered text.now (walk.names text.now kind (cursor_in text.now c) (draft table.old notes.old))) }
     ensures table_after { table.new ≡ table_after table.old (entered text.now (walk.names text.now kind (cursor_in text.now c) (draft table.old notes.old))) }
     ensures notes_after { notes.new ≡ notes_after notes.old (entered text.now (walk.names text.now kind (cursor_in text.now c) (draft table.old notes.old))) }
 {
@@ -29,8 +29,9 @@ pub fn names(text: &[u8], table: &mut [u64], notes: &mut [u64], c: u64, kind: us
 }
 
 // A line of names that a word begins; omitted if empty.
+// Kept: (a) as `names`.
 pub fn line(text: &[u8], table: &mut [u64], notes: &mut [u64], c: u64, word: u8, kind: usize) -> u64
-    ensures result_value { step_in text.now result ≡ step_after (entered text.now (walk.line text.now word kind (cursor_in text.now c) (draft table.old notes.old))) }
+    ensures value { step_in text.now result ≡ step_after (entered text.now (walk.line text.now word kind (cursor_in text.now c) (draft table.old notes.old))) }
     ensures table_after { table.new ≡ table_after table.old (entered text.now (walk.line text.now word kind (cursor_in text.now c) (draft table.old notes.old))) }
     ensures notes_after { notes.new ≡ notes_after notes.old (entered text.now (walk.line text.now word kind (cursor_in text.now c) (draft table.old notes.old))) }
 {
@@ -45,7 +46,7 @@ pub fn line(text: &[u8], table: &mut [u64], notes: &mut [u64], c: u64, word: u8,
 // The clauses of the agreement.
 // Kept: (a) as `cursors::leave` says: one function over the public parsers would be public, and require that its closure may be called.
 pub fn clauses(text: &[u8], table: &mut [u64], notes: &mut [u64], c: u64) -> u64
-    ensures result_value { step_in text.now result ≡ step_after (entered text.now (walk.clauses text.now (length text.now) (cursor_in text.now c) (draft table.old notes.old))) }
+    ensures value { step_in text.now result ≡ step_after (entered text.now (walk.clauses text.now (length text.now) (cursor_in text.now c) (draft table.old notes.old))) }
     ensures table_after { table.new ≡ table_after table.old (entered text.now (walk.clauses text.now (length text.now) (cursor_in text.now c) (draft table.old notes.old))) }
     ensures notes_after { notes.new ≡ notes_after notes.old (entered text.now (walk.clauses text.now (length text.now) (cursor_in text.now c) (draft table.old notes.old))) }
 {

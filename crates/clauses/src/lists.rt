@@ -6,6 +6,7 @@ ghost use Rattle.cursors.specs.Following.{Follows};
 ghost use Rattle.clauses.specs.Private.{entered, one_listed, list_of};
 ghost use Rattle.reading_laws.specs.Walk as walk;
 
+use contract::Verb;
 use entries::Lent;
 use tokens::Token;
 
@@ -18,6 +19,9 @@ pub(crate) enum Listed {
 }
 
 // A text with lists of names, short enough for cursors.
+// Kept: (d) one such struct in each of the parsers' crates, since a type of another crate takes methods by a trait alone, which would declare each
+// parser twice: a `cursors::Text` would be a field of each, and each of the uses of `self.text` a `self.text.bytes`, with the test of its length no
+// line shorter.
 #[derive(Clone, Copy)]
 pub(crate) struct Lists<'a> {
     pub(crate) text: &'a [u8],
@@ -39,8 +43,8 @@ impl Lists<'_> {
     }
 
     // One name of a list.
-    // Kept: (d) that c is no stop, here and below: as a type that says so a cursor is `c.bits` at each use, and each answer, a cursor or a stop
-    // in one number, is wrapped again (49 lines more for lists of names and clauses).
+    // Kept: (d) that c is no stop, here and below: with a type that says so crate clauses had 49 lines more, since a parser's answer is a cursor or a
+    // stop in one number, and is wrapped again before the next parser takes it.
     fn one(&self, lent: &mut Lent, c: u64, listed: Listed) -> u64
         requires { is_stop c ≡ false }
         ensures value { Follows self.now.text.now (one_listed self.now.text.now listed (cursor_in self.now.text.now c)) result lent.old lent.new }
@@ -54,6 +58,8 @@ impl Lists<'_> {
     }
 
     // Names with commas between them.
+    // Kept: (d) as many turns as the definition counts (its fuel is the text's length); with a `while` over the token's kind a proof would first have to
+    // show that each turn goes on in the text, which nothing else asks.
     fn list(&self, lent: &mut Lent, c: u64, listed: Listed) -> u64
         requires { is_stop c ≡ false }
         ensures value { Follows self.now.text.now (list_of self.now.text.now listed (cursor_in self.now.text.now c)) result lent.old lent.new }
@@ -68,11 +74,11 @@ impl Lists<'_> {
             if cursors::kind_of(here) != words::COMMA {
                 return here;
             }
-            let r = self.one(lent, cursors::lex(self.text, cursors::end_of(here)), listed);
-            if cursors::stops(r) {
-                return r;
+            let next = self.one(lent, cursors::lex(self.text, cursors::end_of(here)), listed);
+            if cursors::stops(next) {
+                return next;
             }
-            here = r;
+            here = next;
         }
         here
     }
@@ -117,13 +123,12 @@ impl Lists<'_> {
             entries::clause_end(lent.notes);
             return cursors::lex(self.text, cursors::end_of(c));
         }
-        let r = self.fields(lent, c);
-        if cursors::stops(r) {
-            return r;
+        let after = self.fields(lent, c);
+        if cursors::stops(after) {
+            return after;
         }
-        let d = r;
         entries::clause_end(lent.notes);
-        d
+        after
     }
 
     // A clause from its verb on.
@@ -132,18 +137,15 @@ impl Lists<'_> {
         ensures value { Follows self.now.text.now (walk.clause_from self.now.text.now (cursor_in self.now.text.now c)) result lent.old lent.new }
         ensures same_lists { SameLists lent.old lent.new }
     {
-        let kind = cursors::kind_of(c);
-        if kind == words::SET_ARROW {
-            let notes = &mut *lent.notes;
-            entries::clause_verb(lent.table, notes, 0);
-            return self.clause_rest(lent, cursors::lex(self.text, cursors::end_of(c)));
-        }
-        if kind == words::OK_ARROW {
-            let notes = &mut *lent.notes;
-            entries::clause_verb(lent.table, notes, 1);
-            return self.clause_rest(lent, cursors::lex(self.text, cursors::end_of(c)));
-        }
-        cursors::unfit(self.text, c)
+        let verb = match cursors::kind_of(c) {
+            words::SET_ARROW => Verb::Set,
+            words::OK_ARROW => Verb::Ok,
+            _ => return cursors::unfit(self.text, c),
+        };
+        // Lent by a name of its own: a place behind a loan can't yet be lent to be read beside one that is written.
+        let notes = &mut *lent.notes;
+        entries::clause_verb(lent.table, notes, verb as u64);
+        self.clause_rest(lent, cursors::lex(self.text, cursors::end_of(c)))
     }
 
     fn clause(&self, lent: &mut Lent, c: u64) -> u64
@@ -165,7 +167,8 @@ impl Lists<'_> {
     }
 
     // The clauses of the agreement.
-    // Kept: (d) a loop of a few lines over a parser of its own: over two closures, what begins one and what reads it, it would be no shorter.
+    // Kept: (d) a loop of a few lines over a parser of its own: over two closures, what begins one and what reads it, it would be no shorter; as
+    // many turns as the definition counts, as in `list`.
     pub(crate) fn clauses(&self, lent: &mut Lent, c: u64) -> u64
         requires { is_stop c ≡ false }
         ensures value { Follows self.now.text.now (walk.clauses self.now.text.now (length self.now.text.now) (cursor_in self.now.text.now c)) result lent.old lent.new }
@@ -176,12 +179,11 @@ impl Lists<'_> {
             if cursors::kind_of(here) != Token::NAME {
                 return here;
             }
-            let r = self.clause(lent, here);
-            if cursors::stops(r) {
-                return r;
+            let next = self.clause(lent, here);
+            if cursors::stops(next) {
+                return next;
             }
-            let d = r;
-            here = d;
+            here = next;
         }
         here
     }

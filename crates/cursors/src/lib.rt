@@ -1,13 +1,14 @@
 // A cursor, and a parser's answer, as one number, which goes through registers: specs/Packed.antt tells its parts. And what
 // all parsers share.
-// Kept: (b) as one number a token of a row takes 30 instructions; a `Result` of two such numbers takes 35, one of structs 50 (callgrind).
+// Kept: (b) of small programs that read a row of ten tokens, one with a number for both takes 30 instructions a token, one with a `Result` of two
+// such numbers 35, one with structs of parts 50 to 65 (callgrind). A struct of the one number was not measured: (a) the public parsers take any
+// number for a cursor, so that it would be wrapped at each.
 #![tactic(auto)]
 
-ghost use Rattle.std.specs.Prelude.{◌≡◌, true, false, ◌-◌, ◌%◌, []};
+ghost use Rattle.std.specs.Prelude.{◌≡◌, true, false, ◌%◌, []};
 ghost use Rattle.cursors.specs.Packed.{kind_in, start_in, end_in, at_in, question_in, is_stop, cursor_in, step_in};
 ghost use Rattle.cursors.specs.Packed.{clipped, clipped_step, left_after};
 ghost use Rattle.reading_laws.specs.Walk as walk;
-ghost use Rattle.entries.specs.Draft.{note};
 ghost use Rattle.reading_laws.specs.Walk.{Stop, draft};
 
 use questions::Question;
@@ -19,20 +20,21 @@ const NO_TOKEN: u8 = 203;
 pub const TEXT_END: u8 = 204;
 
 // What each part is counted in, and how many values it has.
-const START: u64 = 256;
+const START: u64 = 1 << 8;
 
-const END: u64 = 8388608;
+const END: u64 = 1 << 23;
 
-const AT: u64 = 274877906944;
+const AT: u64 = 1 << 38;
 
-const QUESTION: u64 = 9007199254740992;
+const QUESTION: u64 = 1 << 53;
 
-const STOP: u64 = 2305843009213693952;
+const STOP: u64 = 1 << 61;
 
-const BYTES: u64 = 256;
+const BYTES: u64 = 1 << 8;
 
-// Kept: (d) these are weights in a number and counts of values, no kinds; the two kinds above are such beside those of tokens.
-const PLACES: u64 = 32768;
+// Kept: (d) no enum: the numbers here are the parts' weights and how many values a part has; the two kinds of a cursor without a token go on from
+// the tokens' kinds, which are numbers of words.
+const PLACES: u64 = 1 << 15;
 
 // ---- Parts.
 
@@ -90,16 +92,17 @@ fn pack(kind: u8, question: u8, start: usize, end: usize, at: usize) -> u64
 }
 
 // A refusal by a question at a place.
+// Kept: (a) the question is a number, here and in `pack`: a public function takes any, and so may a cursor's number hold any.
 pub fn stop(question: u8, place: usize) -> u64
-    ensures result_value { step_in [] result ≡ Stop question (place % 32768) }
-    ensures result_value_2 { is_stop result ≡ true }
+    ensures value { step_in [] result ≡ Stop question (place % 32768) }
+    ensures stops { is_stop result ≡ true }
 {
     question as u64 + START * (place as u64 % PLACES) + STOP
 }
 
 // The cursor at the next token from a place on.
 pub fn lex(text: &[u8], at: usize) -> u64
-    ensures cursor_in { cursor_in text.now result ≡ clipped text.now (walk.cursor_at text.now at) }
+    ensures value { cursor_in text.now result ≡ clipped text.now (walk.cursor_at text.now at) }
     ensures goes { is_stop result ≡ false }
 {
     let found = tokens::next(text, at);
@@ -118,8 +121,8 @@ pub fn lex(text: &[u8], at: usize) -> u64
 
 // The token at the cursor does not fit.
 pub fn unfit(text: &[u8], c: u64) -> u64
-    ensures result_value { step_in text.now result ≡ walk.unfit_at text.now (cursor_in text.now c) }
-    ensures result_value_2 { is_stop result ≡ true }
+    ensures value { step_in text.now result ≡ walk.unfit_at text.now (cursor_in text.now c) }
+    ensures stops { is_stop result ≡ true }
 {
     stop(question_of(c), start_of(c))
 }
@@ -172,20 +175,6 @@ pub fn mention_state(text: &[u8], table: &mut [u64], notes: &mut [u64], c: u64) 
     entries::mention(text, table, notes, entries::STATE, start, end, start)
 }
 
-// How many nodes are written.
-pub fn nodes(notes: &[u64]) -> usize
-    ensures { result ≡ note notes.now 14 }
-{
-    contract::word(notes, entries::WRITTEN) as usize
-}
-
-// How many nodes are written from `before` on.
-pub fn nodes_since(notes: &[u64], before: usize) -> usize
-    ensures { result ≡ note notes.now 14 - before }
-{
-    nodes(notes).saturating_sub(before)
-}
-
 // Past the closing parenthesis.
 pub fn close(text: &[u8], r: u64) -> u64
     ensures { step_in text.now result ≡ clipped_step text.now (walk.closed_by text.now (step_in text.now r)) }
@@ -193,13 +182,12 @@ pub fn close(text: &[u8], r: u64) -> u64
     if stops(r) {
         return r;
     }
-    let d = r;
-    token(text, d, words::CLOSE_PAREN)
+    token(text, r, words::CLOSE_PAREN)
 }
 
 // What a parser leaves behind: after a refusal, zeros.
 // Kept: (a) each public parser of four crates asks the text's length and ends here; a function over them all would be public too, and
-// require that its closure may be called.
+// require that its closure may be called. The refusal of a long text, one line in each, is no function: it would be public, too.
 pub fn leave(table: &mut [u64], notes: &mut [u64], r: u64) -> u64
     ensures value { result ≡ r }
     ensures table_after { table.new ≡ left_after r table.old }

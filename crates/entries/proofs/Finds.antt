@@ -1,7 +1,8 @@
 -- The first slot that has a word. Assumes nothing.
 use mathlib.Core.Path.{◌≡◌, refl, sym, ap, subst, ◌∙◌}
-use mathlib.Core.Bool.{Bool, true, false}
-use mathlib.Core.List.{List, [], ◌∷◌}
+use mathlib.Core.Bool.{Bool, true, false, ◌||◌}
+use Rattle.std.specs.List.{list_any, range_with_len}
+use mathlib.Core.List.{List}
 use Prim.Native.Nat.{ℕ, zero, suc, ◌+◌, ◌-◌, ◌*◌, ◌<◌, ◌≤◌}
 use native.Mathlib.Omega.{arith}
 use lib.ListN.{length, get_or, drop, drop_of_length-le}
@@ -13,11 +14,6 @@ use Rattle.laws.proofs.Choice.{pick_true, pick_false}
 use Rattle.laws.proofs.Lists.{cons_at}
 use Rattle.tokens.specs.Tokens.{between}
 use Rattle.entries.specs.Draft.{slot_is, find_from, Skips, number_in, among_in, is_declared, mark_of, slot_of, known_count}
-
--- whether a word is among those of one of these kinds
-abbrev pub among_any : List ℕ → List ℕ → List ℕ → List ℕ → Bool
-among_any s n w [] = false
-among_any s n w (k ∷ ks) = pick (among_in s n k w) true (among_any s n w ks)
 
 -- ---- one turn of the comparison, and its end
 module _ (a b : List ℕ) (i : ℕ) where
@@ -73,32 +69,17 @@ module _ (s n w : List ℕ) where
   among_is k x y e f = λ i. ltb (e i) (f i)
 
   -- a declared name, by the kinds asked one after the other
-  pub declared_none : is_declared s n w ≡ among_any s n w (0 ∷ 1 ∷ 2 ∷ 3 ∷ 4 ∷ [])
+  pub declared_any : list_any (λ k. among_in s n k w) (range_with_len 0 5) ≡ is_declared s n w
   unfolding is_declared pick
-  declared_none = ap (λ (t : Bool). pick (among_in s n 0 w) true (pick (among_in s n 1 w) true (pick (among_in s n 2 w) true (pick (among_in s n 3 w) true t)))) (go (among_in s n 4 w))
+  declared_any = go (among_in s n 0 w) (among_in s n 1 w) (among_in s n 2 w) (among_in s n 3 w) (among_in s n 4 w)
     where
-      go : (t : Bool) → t ≡ pick t true false
-      go true = refl
-      go false = refl
-
-  declared_turn : (i : ℕ) → i < 5
-      → among_any s n w (drop i (0 ∷ 1 ∷ 2 ∷ 3 ∷ 4 ∷ [])) ≡ pick (among_in s n i w) true (among_any s n w (drop (i + 1) (0 ∷ 1 ∷ 2 ∷ 3 ∷ 4 ∷ [])))
-  declared_turn zero h = refl
-  declared_turn (suc zero) h = refl
-  declared_turn (suc (suc zero)) h = refl
-  declared_turn (suc (suc (suc zero))) h = refl
-  declared_turn (suc (suc (suc (suc zero)))) h = refl
-  declared_turn (suc (suc (suc (suc (suc i))))) h = absurd (omega arith)
-
-  pub declared_hit : (i : ℕ) → i < 5 → among_in s n i w ≡ true → among_any s n w (drop i (0 ∷ 1 ∷ 2 ∷ 3 ∷ 4 ∷ [])) ≡ true
-  declared_hit i h e = declared_turn i h ∙ pick_true _ _ _ e
-
-  pub declared_more : (i : ℕ) → i < 5 → among_in s n i w ≡ false
-      → among_any s n w (drop i (0 ∷ 1 ∷ 2 ∷ 3 ∷ 4 ∷ [])) ≡ among_any s n w (drop (i + 1) (0 ∷ 1 ∷ 2 ∷ 3 ∷ 4 ∷ []))
-  declared_more i h e = declared_turn i h ∙ pick_false _ _ _ e
-
-  pub declared_end : (i : ℕ) → 5 ≤ i → among_any s n w (drop i (0 ∷ 1 ∷ 2 ∷ 3 ∷ 4 ∷ [])) ≡ false
-  declared_end i h = ap (among_any s n w) (drop_of_length-le (0 ∷ 1 ∷ 2 ∷ 3 ∷ 4 ∷ []) h)
+      go : (a b c d e : Bool) → (a || (b || (c || (d || (e || false))))) ≡ pick a true (pick b true (pick c true (pick d true e)))
+      go true b c d e = refl
+      go false true c d e = refl
+      go false false true d e = refl
+      go false false false true e = refl
+      go false false false false true = refl
+      go false false false false false = refl
 
 -- ---- one slot
 module _ (s n : List ℕ) (j m x : ℕ) (w : List ℕ) (f : x ≡ get_or n (16 + 3 * j) 0) where
@@ -132,15 +113,6 @@ module _ (n : List ℕ) (m j many : ℕ) where
   unfolding Skips
   skip_one i h l d =
       (omega (arith, l), λ s w. h.1 s w ∙ find_more s n m w j i many l (sym (slot_other s n (j + i) m (get_or n (16 + 3 * (j + i)) 0) w refl d)))
-
-  pub skip_two :
-      (i : ℕ) → Skips n m j 0 many i → i + 1 < many → (get_or n (16 + 3 * (j + i)) 0 ≡ m → ⊥) → (get_or n (16 + 3 * (j + i) + 3) 0 ≡ m → ⊥) →
-      Skips n m j 0 many (i + 2)
-  skip_two i h l d e =
-      let k : i < many = omega (arith, l) in
-      let p : 16 + 3 * (j + i) + 3 ≡ 16 + 3 * (j + (i + 1)) = omega arith in
-      let q : i + 1 + 1 ≡ i + 2 = omega arith in
-      subst (Skips n m j 0 many) q (skip_one (i + 1) (skip_one i h k d) l (λ f. e (ap (λ (x : ℕ). get_or n x 0) p ∙ f)))
 
   pub skip_end : (i : ℕ) → Skips n m j 0 many i → many ≤ i → Skips n m j 0 many many
   skip_end i h l =

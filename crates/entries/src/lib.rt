@@ -99,6 +99,8 @@ pub struct Known {
 }
 
 // The two lent lists that a pass writes.
+// Kept: (d) that they are the same two lists after a call (`SameLists`) is a clause of each function that takes them by `&mut`, here and in the
+// parsers: it relates the struct before the call and after it, which no field or invariant of one value can say.
 #[derive(Drop)]
 pub struct Lent<'a> {
     pub table: &'a mut [u64],
@@ -128,21 +130,11 @@ impl Lent<'_> {
     }
 }
 
-// Words from word i on.
-// Kept: (d) the words and where they go: past the end of a short list nothing is written, and there may be no slice from there on.
-#[inline(always)]
-fn store_all(words: &mut [u64], i: usize, values: &[u64])
-    requires { i ≤ 300000 }
-    ensures { words.new ≡ sets words.old i values.now }
-{
-    for (k, value) in values.iter().enumerate() {
-        items::set(words, i + k, *value);
-    }
-}
-
 // ---- Findings and counts.
 
 // The least finding after one more: earliest place, then lowest number.
+// Kept: (a) the question is a number, as the lent notes hold it, 0 where nothing is found: a public function takes any, and notes of a caller
+// may hold any; (d) one test of `|` and `&`: with `||` it is three, each a case of its own.
 pub fn find(notes: &mut [u64], question: u8, place: usize)
     ensures { notes.new ≡ draft.found question place notes.old }
 {
@@ -167,6 +159,8 @@ fn ask(notes: &mut [u64], yes: bool, question: Question, place: usize)
 }
 
 // The most of each kind.
+// Kept: (d) a table of limits and one of slots: of the ten rows of one table three kinds would have no slot, since they are no names, and five no
+// section.
 const LIMITS: [usize; 10] = [
     Contract::PARTIES,
     Contract::ASSETS,
@@ -183,7 +177,7 @@ const LIMITS: [usize; 10] = [
 fn limit(kind: usize) -> usize
     ensures { result ≡ draft.limit kind }
 {
-    LIMITS.get(kind).copied().unwrap_or(0)
+    items::get_or(&LIMITS, kind, 0)
 }
 
 // One more of a kind, within its limit; else question 11.
@@ -235,10 +229,10 @@ struct NameAt<'a> {
 
 impl<'a> NameAt<'a> {
     fn of(text: &'a [u8], start: usize, end: usize) -> NameAt<'a>
-        ensures text_value { result.text.now ≡ text.now }
-        ensures word_value { result.word.now ≡ between text.now start end }
-        ensures start_value { result.start ≡ start }
-        ensures end_value { result.end ≡ end }
+        ensures text { result.text.now ≡ text.now }
+        ensures word { result.word.now ≡ between text.now start end }
+        ensures start { result.start ≡ start }
+        ensures end { result.end ≡ end }
     {
         let word = tokens::between(text, start, end);
         NameAt {
@@ -251,7 +245,9 @@ impl<'a> NameAt<'a> {
     }
 }
 
-// Kept: (b) with `==` of slices a reading of 4,096 nodes takes 4 % more instructions, since most names are short.
+// Kept: (b) with `==` of slices a reading of the two texts of 4,096 nodes (nodes_4096_shape_0 and nodes_4096_shape_4 of trial_reading) takes 7.4 and
+// 5.3 per cent more instructions (unproved builds that differ in this alone), since most names are short. The bar is 1.5 times a plain program's
+// count, 942,780 and 1,009,398; docs/TIMES.md has what the proved program takes.
 fn same_bytes(a: &[u8], b: &[u8]) -> bool
     ensures { result ≡ same_bytes a.now b.now }
 {
@@ -281,7 +277,8 @@ fn slot_is(text: &[u8], notes: &[u64], slot: usize, mark: u64, word: &[u8]) -> b
 }
 
 // A slot before which none has this mark: the first that has it, or `many`; the first of all in short notes.
-// Kept: (b) two slots a turn, since with a `for` of one a turn a text of 64 functions takes 5 % more instructions.
+// Kept: (d) a `for` that returns, the same loop as that of `find_from`, which calls it and is one for its speed. With `find` of the range a reading of
+// the two texts of `same_bytes` takes 0.9 and 2.0 per cent more instructions (unproved builds).
 fn find_mark(notes: &[u64], mark: u64, slot: usize, many: usize) -> usize
     requires { (slot ≤ 132) × (many ≤ 4096) }
     ensures { draft.Skips notes.now mark slot 0 many result }
@@ -289,19 +286,7 @@ fn find_mark(notes: &[u64], mark: u64, slot: usize, many: usize) -> usize
     if notes.len() < Notes::SLOTS + Notes::SLOT * (slot + many) {
         return 0;
     }
-    let last = many.saturating_sub(1);
-    let mut i: usize = 0;
-    while i < last {
-        let at = Notes::SLOTS + Notes::SLOT * (slot + i);
-        if notes[at] == mark {
-            return i;
-        }
-        if notes[at + Notes::SLOT] == mark {
-            return i + 1;
-        }
-        i += 2;
-    }
-    if i < many {
+    for i in 0..many {
         if notes[Notes::SLOTS + Notes::SLOT * (slot + i)] == mark {
             return i;
         }
@@ -310,7 +295,10 @@ fn find_mark(notes: &[u64], mark: u64, slot: usize, many: usize) -> usize
 }
 
 // The first of so many slots that has this mark and these bytes.
-// Inlined, as what looks a name up by it: else an answer goes through memory, and a reading of 4,096 nodes takes a tenth more.
+// Inlined, as what looks a name up by it and `put_name`: else an answer goes through memory. In proved builds a reading of the two texts of
+// `same_bytes` takes 13.0 and 12.2 per cent more instructions without the mark of `find_from`, 24.9 and 17.3 without that of `number`, 30.2 and 18.6
+// of `seek`, 5.6 and 1.9 of `stored`, 0.4 and 2.3 of `holder`, 1.2 and 2.7 of `put_name`.
+// Kept: (b) a `for` that returns: with `find` of the range these readings take 28.3 and 20.3 per cent more (unproved builds), which misses the bar.
 #[inline(always)]
 fn find_from(text: &[u8], notes: &[u64], mark: u64, word: &[u8], slot: usize, many: usize) -> usize
     requires { (slot ≤ 132) × (many ≤ 4096) }
@@ -348,7 +336,7 @@ fn slot_of(kind: usize) -> usize
     ensures value { result ≡ draft.slot_of kind }
     ensures upper_bound { result ≤ 132 }
 {
-    SLOTS.get(kind).copied().unwrap_or(Notes::FUNCTIONS)
+    items::get_or(&SLOTS, kind, Notes::FUNCTIONS)
 }
 
 impl NameAt<'_> {
@@ -374,12 +362,7 @@ impl NameAt<'_> {
     fn is_declared(&self, notes: &[u64]) -> bool
         ensures { result ≡ draft.is_declared self.now.text.now notes.now self.now.word.now }
     {
-        for kind in PARTY..STATE {
-            if self.is_among(notes, kind) {
-                return true;
-            }
-        }
-        false
+        (PARTY..STATE).any(|kind| self.is_among(notes, kind))
     }
 
     // What it stands for among those of a kind.
@@ -405,19 +388,19 @@ fn write_row(table: &mut [u64], at: usize, word: &[u8])
     ensures { table.new ≡ draft.rowed table.old at word.now }
 {
     items::set(table, at, word.len() as u64);
-    for i in 0..word.len() {
-        items::set(table, at + 1 + i, word[i] as u64);
+    for (i, byte) in word.iter().enumerate() {
+        items::set(table, at + 1 + i, u64::from(*byte));
     }
 }
 
 // A mark and a name's place at a slot.
-// Kept: (d) the notes and a slot's number.
+// Kept: (d) no list with its length: the notes are any lent words, and `slot` is the number of one slot of them.
 fn write_slot(notes: &mut [u64], slot: usize, mark: u64, name: &NameAt)
     requires { slot ≤ 5000 }
     ensures { notes.new ≡ draft.slotted notes.old slot mark name.now.start name.now.end }
 {
     let at = Notes::SLOTS + Notes::SLOT * slot;
-    store_all(notes, at, &[mark, name.start as u64, name.end as u64]);
+    items::store_all(notes, at, &[mark, name.start as u64, name.end as u64]);
 }
 
 // Where the rows of a kind of names stand, if it has any.
@@ -435,6 +418,7 @@ fn section_of(kind: usize) -> Option<usize>
 }
 
 // How many words a row of a kind of names has.
+// Kept: (d) one of two constants by a kind: a function of the two and a truth would be `if` under another name.
 fn width_of(kind: usize) -> usize
     ensures value { result ≡ draft.width_of kind }
     ensures upper_bound { result ≤ 65 }
@@ -468,7 +452,7 @@ fn write_packed(table: &mut [u64], at: usize, word: &[u8])
     let b = eight_bytes(word, 8);
     let c = eight_bytes(word, 16);
     let d = eight_bytes(word, 24);
-    store_all(table, at, &[word.len() as u64, a, b, c, d]);
+    items::store_all(table, at, &[word.len() as u64, a, b, c, d]);
 }
 
 // The first row of a kind of parameters among those of a function.
@@ -476,12 +460,16 @@ fn first_row(kind: usize) -> usize
     ensures value { result ≡ pick (eqb kind 4) 8 0 }
     ensures upper_bound { result ≤ 8 }
 {
-    let value = kind == PARAMETER;
-    if value { Function::VALUES } else { 0 }
+    if kind == PARAMETER {
+        Function::VALUES
+    } else {
+        0
+    }
 }
 
 // Parameter i of a kind, of the last of so many functions.
-// Kept: (d) the table and how many functions there are, no place; the bound of i is that of a count, which the three that enter a name hand on.
+// Kept: (d) no list with its length: `functions` is how many are counted, in a table of any length; the bound of i is that of a count, which the
+// three that enter a name hand on.
 fn enter_parameter(table: &mut [u64], functions: usize, kind: usize, i: usize, word: &[u8])
     requires { i < 4096 }
     ensures { table.new ≡ draft.parameter_put functions kind i word.now table.old }
@@ -499,7 +487,7 @@ fn enter_parameter(table: &mut [u64], functions: usize, kind: usize, i: usize, w
 }
 
 // Row i of a kind, of a parameter for the last of so many functions.
-// Kept: (d) the table and how many functions there are, no place.
+// Kept: (d) no list with its length, as in `enter_parameter`.
 fn enter_row(table: &mut [u64], functions: usize, kind: usize, i: usize, word: &[u8])
     requires { i < 4096 }
     ensures { table.new ≡ pick (eqb (draft.section_of kind) 0) (draft.parameter_put functions kind i word.now table.old) (draft.rowed table.old (draft.section_of kind + draft.width_of kind * i) word.now) }
@@ -560,7 +548,7 @@ pub fn declare(
     start: usize,
     end: usize,
 )
-    ensures table_value { table.exit.now ≡ (draft.declare text.now kind start end (record { table = table.entry.now; notes = notes.old })).table }
+    ensures table_after { table.exit.now ≡ (draft.declare text.now kind start end (record { table = table.entry.now; notes = notes.old })).table }
     ensures notes_after { notes.new ≡ (draft.declare text.now kind start end (record { table = table.entry.now; notes = notes.old })).notes }
 {
     let name = NameAt::of(text, start, end);
@@ -584,7 +572,7 @@ pub fn mention(
     place: usize,
 ) -> usize
     ensures value { result ≡ draft.number_in text.now notes.old kind (between text.now start end) }
-    ensures table_value { table.exit.now ≡ (draft.mention text.now kind start end place (record { table = table.entry.now; notes = notes.old })).table }
+    ensures table_after { table.exit.now ≡ (draft.mention text.now kind start end place (record { table = table.entry.now; notes = notes.old })).table }
     ensures notes_after { notes.new ≡ (draft.mention text.now kind start end place (record { table = table.entry.now; notes = notes.old })).notes }
 {
     let name = NameAt::of(text, start, end);
@@ -606,6 +594,7 @@ fn unknown() -> Known
 
 impl NameAt<'_> {
     // An asset, or outside handlers an asset parameter.
+    #[inline(always)]
     fn holder(&self, notes: &[u64], handler: bool) -> Known
         ensures { result ≡ draft.holder_in self.now.text.now notes.now handler self.now.word.now }
     {
@@ -639,6 +628,7 @@ pub fn holder(text: &[u8], notes: &[u64], handler: bool, start: usize, end: usiz
 }
 
 // What an expression names.
+// Kept: (a) as `declare`.
 pub fn name(text: &[u8], notes: &[u64], handler: bool, start: usize, end: usize) -> Known
     ensures { result ≡ draft.name_in text.now notes.now handler (between text.now start end) }
 {
@@ -656,6 +646,7 @@ pub fn name(text: &[u8], notes: &[u64], handler: bool, start: usize, end: usize)
 }
 
 // What `->` goes to.
+// Kept: (a) as `declare`.
 pub fn value_target(text: &[u8], notes: &[u64], start: usize, end: usize) -> Known
     ensures { result ≡ draft.value_target text.now notes.now (between text.now start end) }
 {
@@ -667,6 +658,7 @@ pub fn value_target(text: &[u8], notes: &[u64], start: usize, end: usize) -> Kno
 }
 
 // What `-o` goes to.
+// Kept: (a) as `declare`.
 pub fn asset_target(text: &[u8], notes: &[u64], handler: bool, start: usize, end: usize) -> Known
     ensures { result ≡ draft.asset_target text.now notes.now handler (between text.now start end) }
 {
@@ -687,22 +679,25 @@ pub fn want(notes: &mut [u64], name: Known, place: usize)
 // ---- Nodes.
 
 // One more node; its size counts the nodes from `before` on.
+// Kept: (a) as `declare`.
 pub fn put(table: &mut [u64], notes: &mut [u64], kind: u64, argument: u64, before: usize)
-    ensures table_value { table.exit.now ≡ (draft.put kind argument before (record { table = table.entry.now; notes = notes.old })).table }
+    ensures table_after { table.exit.now ≡ (draft.put kind argument before (record { table = table.entry.now; notes = notes.old })).table }
     ensures notes_after { notes.new ≡ (draft.put kind argument before (record { table = table.entry.now; notes = notes.old })).notes }
 {
     let n = contract::word(notes, WRITTEN) as usize;
     if n < Contract::NODES {
         let at = contract::NODES + Node::WORDS * n;
         let size = n.saturating_sub(before) + 1;
-        store_all(table, at, &[kind, argument, size as u64]);
+        items::store_all(table, at, &[kind, argument, size as u64]);
         items::set(notes, WRITTEN, n as u64 + 1);
     }
 }
 
 // A name's node.
+// Kept: (a) as `declare`.
+#[inline(always)]
 pub fn put_name(table: &mut [u64], notes: &mut [u64], name: Known, place: usize)
-    ensures table_value { table.exit.now ≡ (draft.put_name name place (record { table = table.entry.now; notes = notes.old })).table }
+    ensures table_after { table.exit.now ≡ (draft.put_name name place (record { table = table.entry.now; notes = notes.old })).table }
     ensures notes_after { notes.new ≡ (draft.put_name name place (record { table = table.entry.now; notes = notes.old })).notes }
 {
     let before = contract::word(notes, WRITTEN) as usize;
@@ -712,8 +707,9 @@ pub fn put_name(table: &mut [u64], notes: &mut [u64], name: Known, place: usize)
 }
 
 // A node without parts that is no name.
+// Kept: (a) as `declare`.
 pub fn put_leaf(table: &mut [u64], notes: &mut [u64], kind: u64, argument: u64, place: usize)
-    ensures table_value { table.exit.now ≡ (draft.put_leaf kind argument place (record { table = table.entry.now; notes = notes.old })).table }
+    ensures table_after { table.exit.now ≡ (draft.put_leaf kind argument place (record { table = table.entry.now; notes = notes.old })).table }
     ensures notes_after { notes.new ≡ (draft.put_leaf kind argument place (record { table = table.entry.now; notes = notes.old })).notes }
 {
     let before = contract::word(notes, WRITTEN) as usize;
@@ -735,10 +731,15 @@ fn use_name(name: &NameAt, notes: &mut [u64], kind: usize) -> usize
     number
 }
 
+// Words of a clause's row, after its party: its verb, and how many fields it names.
+const CLAUSE_VERB: usize = 1;
+
+const CLAUSE_MANY: usize = 2;
+
 // The party of the clause at hand.
 // Kept: (a) as `declare`; the places are those of a name in the text.
 pub fn clause_party(text: &[u8], table: &mut [u64], notes: &mut [u64], start: usize, end: usize)
-    ensures table_value { table.exit.now ≡ (draft.clause_party text.now start end (record { table = table.entry.now; notes = notes.old })).table }
+    ensures table_after { table.exit.now ≡ (draft.clause_party text.now start end (record { table = table.entry.now; notes = notes.old })).table }
     ensures notes_after { notes.new ≡ (draft.clause_party text.now start end (record { table = table.entry.now; notes = notes.old })).notes }
 {
     let row = contract::word(notes, CLAUSES) as usize;
@@ -758,12 +759,17 @@ pub fn use_party(text: &[u8], notes: &mut [u64], start: usize, end: usize) -> us
 }
 
 // Its verb: 0 for SET, 1 for OK.
+// Kept: (a) as `declare`.
 pub fn clause_verb(table: &mut [u64], notes: &[u64], verb: u64)
     ensures { table.exit.now ≡ (draft.clause_verb verb (record { table = table.entry.now; notes = notes.now })).table }
 {
     let row = contract::word(notes, CLAUSES) as usize;
     if row < Contract::CLAUSES {
-        items::set(table, contract::CLAUSES + Clause::WORDS * row + 1, verb);
+        items::set(
+            table,
+            contract::CLAUSES + Clause::WORDS * row + CLAUSE_VERB,
+            verb,
+        );
     }
 }
 
@@ -776,7 +782,7 @@ impl Lent<'_> {
     {
         if j < Contract::FIELDS as u64 {
             items::set(self.table, at + Clause::FIELDS + j as usize, field as u64);
-            items::set(self.table, at + 2, j + 1);
+            items::set(self.table, at + CLAUSE_MANY, j + 1);
         } else {
             items::set(self.notes, EXCESS, 1);
         }
@@ -786,14 +792,14 @@ impl Lent<'_> {
 // One more field of it.
 // Kept: (a) as `declare`; the places are those of a name in the text.
 pub fn clause_field(text: &[u8], table: &mut [u64], notes: &mut [u64], start: usize, end: usize)
-    ensures table_value { table.exit.now ≡ (draft.clause_field text.now start end (record { table = table.entry.now; notes = notes.old })).table }
+    ensures table_after { table.exit.now ≡ (draft.clause_field text.now start end (record { table = table.entry.now; notes = notes.old })).table }
     ensures notes_after { notes.new ≡ (draft.clause_field text.now start end (record { table = table.entry.now; notes = notes.old })).notes }
 {
     let row = contract::word(notes, CLAUSES) as usize;
     let field = use_name(&NameAt::of(text, start, end), notes, FIELD);
     if row < Contract::CLAUSES {
         let at = contract::CLAUSES + Clause::WORDS * row;
-        let j = contract::word(table, at + 2);
+        let j = contract::word(table, at + CLAUSE_MANY);
         let mut lent = Lent { table, notes };
         lent.field_at(at, j, field);
     }
@@ -827,7 +833,7 @@ fn is_headed(name: &NameAt, notes: &[u64], state: usize, party: usize) -> bool
 }
 
 // Questions 11 and 15 of a function's head.
-// Kept: (d) a place in the text beside the notes, and none to write at.
+// Kept: (d) no list with a place in it: `place` is one of the text, and the notes are any lent words.
 fn head_notes(name: &NameAt, notes: &mut [u64], place: usize, state: usize, party: usize)
     ensures { notes.new ≡ draft.head_notes name.now.text.now place state party name.now.start name.now.end notes.old }
 {
@@ -844,33 +850,23 @@ impl Lent<'_> {
         ensures same_lists { SameLists self.old self.new }
     {
         let at = contract::FUNCTIONS + Function::WORDS * i;
-        store_all(self.table, at, &[state as u64, party as u64]);
+        items::store_all(self.table, at, &[state as u64, party as u64]);
         write_row(self.table, at + Function::NAME, name.word);
         let mark = head_mark(state, party, name);
         write_slot(self.notes, Notes::FUNCTIONS + i, mark, name);
         items::set(self.notes, FUNCTIONS, i as u64 + 1);
     }
-}
 
-// One more head, within the limit; questions 11 and 15.
-// Kept: (b) the two lists apart, since in a struct the compiler loses the notes' length, and a reading of 4,096 nodes takes 2 % more
-// instructions.
-fn enter_head(
-    name: &NameAt,
-    table: &mut [u64],
-    notes: &mut [u64],
-    place: usize,
-    state: usize,
-    party: usize,
-)
-    ensures table_value { table.exit.now ≡ (draft.head_entered name.now.text.now place state party name.now.start name.now.end (record { table = table.entry.now; notes = notes.old })).table }
-    ensures notes_after { notes.new ≡ (draft.head_entered name.now.text.now place state party name.now.start name.now.end (record { table = table.entry.now; notes = notes.old })).notes }
-{
-    let n = contract::word(notes, FUNCTIONS) as usize;
-    head_notes(name, notes, place, state, party);
-    if n < Contract::FUNCTIONS {
-        let mut lent = Lent { table, notes };
-        lent.write_head(name, n, state, party);
+    // One more head, within the limit; questions 11 and 15.
+    fn enter_head(&mut self, name: &NameAt, place: usize, state: usize, party: usize)
+        ensures value { draft_in self.new ≡ draft.head_entered name.now.text.now place state party name.now.start name.now.end (draft_in self.old) }
+        ensures same_lists { SameLists self.old self.new }
+    {
+        let n = self.note(FUNCTIONS) as usize;
+        head_notes(name, self.notes, place, state, party);
+        if n < Contract::FUNCTIONS {
+            self.write_head(name, n, state, party);
+        }
     }
 }
 
@@ -886,14 +882,18 @@ pub fn head(
     start: usize,
     end: usize,
 )
-    ensures table_value { table.exit.now ≡ (draft.head text.now place state party start end (record { table = table.entry.now; notes = notes.old })).table }
+    ensures table_after { table.exit.now ≡ (draft.head text.now place state party start end (record { table = table.entry.now; notes = notes.old })).table }
     ensures notes_after { notes.new ≡ (draft.head text.now place state party start end (record { table = table.entry.now; notes = notes.old })).notes }
 {
     let name = NameAt::of(text, start, end);
-    enter_head(&name, table, notes, place, state, party);
-    items::set(notes, VALUE, 0);
-    items::set(notes, PARAMETER, 0);
+    let mut lent = Lent { table, notes };
+    lent.enter_head(&name, place, state, party);
+    items::set(lent.notes, VALUE, 0);
+    items::set(lent.notes, PARAMETER, 0);
 }
+
+// Where the rest of a function's row starts: after its state and its party.
+const FUNCTION_REST: usize = 2;
 
 // The rest of a function's row.
 #[derive(Clone, Copy)]
@@ -906,11 +906,12 @@ pub struct Rest {
     pub events: usize,
 }
 
+// Kept: (a) as `declare`.
 pub fn function_rest(table: &mut [u64], notes: &[u64], i: usize, rest: Rest)
     ensures { table.exit.now ≡ (draft.function_rest i rest.last rest.first rest.precondition rest.body rest.event rest.events (record { table = table.entry.now; notes = notes.now })).table }
 {
     if i < Contract::FUNCTIONS {
-        let at = contract::FUNCTIONS + Function::WORDS * i + 2;
+        let at = contract::FUNCTIONS + Function::WORDS * i + FUNCTION_REST;
         let values = contract::word(notes, VALUE);
         let parameters = contract::word(notes, PARAMETER);
         let row = [
@@ -923,18 +924,18 @@ pub fn function_rest(table: &mut [u64], notes: &[u64], i: usize, rest: Rest)
             rest.event as u64,
             rest.events as u64,
         ];
-        store_all(table, at, &row);
+        items::store_all(table, at, &row);
     }
 }
 
 // An event's row.
-// Kept: (d) the table and an event's number, no place.
+// Kept: (d) no list with its length: `i` is an event's number, in a table of any length.
 pub fn event_row(table: &mut [u64], i: usize, state: usize, last: usize, node: usize)
     ensures { table.new ≡ draft.event_row i state last node table.old }
 {
     if i < Contract::EVENTS {
         let at = contract::EVENTS + Event::WORDS * i;
-        store_all(table, at, &[state as u64, last as u64, node as u64]);
+        items::store_all(table, at, &[state as u64, last as u64, node as u64]);
     }
 }
 
@@ -947,6 +948,7 @@ pub fn title(text: &[u8], table: &mut [u64], start: usize, end: usize)
 }
 
 // How many there are of each, and the initial state.
+// Kept: (a) as `declare`.
 pub fn write_counts(table: &mut [u64], notes: &[u64], initial: usize)
     ensures { table.new ≡ draft.counts initial notes.now table.old }
 {
@@ -962,15 +964,15 @@ pub fn write_counts(table: &mut [u64], notes: &[u64], initial: usize)
         contract::word(notes, WRITTEN),
         initial as u64,
     ];
-    store_all(table, 0, &counts);
+    items::store_all(table, 0, &counts);
 }
 
 // How many words are cleared at once.
 const CLEARED: usize = 128;
 
 // A table of zeros.
-// Kept: (b) a whole table by one `fill` takes six times the instructions, since its bytes are then stored one by one; (c) `chunks_mut`,
-// whose contract says nothing of what the slice ends as.
+// Kept: (b) with one `fill` of the whole table a reading of text_16384_shape_0 takes 97 per cent more instructions (unproved builds), since the bytes
+// of a long run are stored one by one; (c) `chunks_mut`, whose contract says nothing of what the slice ends as.
 pub fn clear(table: &mut [u64])
     ensures { table.new ≡ zeros (length table.old) }
 {

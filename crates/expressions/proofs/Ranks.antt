@@ -1,16 +1,17 @@
 -- Laws of expressions and conditions: chains of operators, factors, comparisons and what is in parentheses. Assumes nothing.
 use mathlib.Core.Path.{◌≡◌, refl, sym, ap, ◌∙◌}
-use mathlib.Core.List.{List}
+use mathlib.Core.List.{List, [], ◌∷◌}
 use mathlib.Core.Bool.{Bool, true, false}
 use Prim.Native.Nat.{ℕ, zero, suc, ◌-◌, ◌<◌, ◌≤◌}
 use native.Mathlib.Omega.{arith}
 use lib.ListN.{length}
-use borrow.Author.Tests.{eq-eqb}
+use lib.Dec.{eqb}
+use borrow.Author.Tests.{eqb-false, eq-eqb, ne_eqb}
 use Rattle.laws.specs.Choice.{pick}
-use Rattle.laws.proofs.Choice.{pick_true, pick_false}
+use Rattle.laws.proofs.Choice.{pick_true, pick_false, by_cases}
 use Rattle.entries.specs.Draft.{Draft, note, counted, put}
 use Rattle.reading.specs.Grammar.{is_one_of, operators, comparisons}
-use Rattle.reading_laws.specs.Walk.{Walk, on, stop, AgreesWith, draft, follow, after, counting, nodes, operator_node, negations, next_of, token, closed_by, enclosed, factor, row_from, chain, inside_expression, expression, comparison, simple, primary, inside_condition, condition, operand_at}
+use Rattle.reading_laws.specs.Walk.{Walk, on, stop, AgreesWith, draft, follow, after, counting, nodes, operator_node, negations, next_of, token, closed_by, enclosed, factor, row_from, chain, inside_expression, expression, comparison, simple, primary, inside_condition, condition}
 use Rattle.reading_laws.specs.Walk.{Cursor}
 use Rattle.expressions.specs.declared.terms.Nots.{Nots}
 use Rattle.cursors.specs.Packed.{cursor_in}
@@ -63,6 +64,18 @@ enclosed_leaves s (stop q o) r a t n h e = e ∙ ap (closed_by s) h
 
 -- ---- operators of a rank
 
+-- one of two numbers in a row, or not
+pub in_pair : (i k : ℕ) → ((k ≡ i → ⊥) → (k ≡ suc i → ⊥) → ⊥) → is_one_of (i ∷ suc i ∷ []) k ≡ true
+unfolding is_one_of
+in_pair i k h =
+    by_cases (λ (b : Bool). b ≡ true) (eqb k i) true _ (λ _. refl)
+    (λ e. by_cases (λ (b : Bool). b ≡ true) (eqb k (suc i)) true _ (λ _. refl)
+    (λ f. absurd (h (eqb-false k i e) (eqb-false k (suc i) f))))
+
+pub not_in_pair : (i k : ℕ) → (k ≡ i → ⊥) → (k ≡ suc i → ⊥) → is_one_of (i ∷ suc i ∷ []) k ≡ false
+unfolding is_one_of
+not_in_pair i k a b = pick_false _ _ _ (ne_eqb k i a) ∙ pick_false _ _ _ (ne_eqb k (suc i) b)
+
 module _ (s : List ℕ) (r : ℕ) (op : Cursor → Draft → Walk) (b : ℕ) where
   pub row_off : (f : ℕ) (c : Cursor) (p : Draft) → is_one_of (operators r) c.kind ≡ false → row_from s r op b f c p ≡ on c p
   unfolding row_from
@@ -112,14 +125,6 @@ module _ (s : List ℕ) (r : ℕ) (op : Cursor → Draft → Walk) (c : Cursor) 
 -- ---- factors
 
 module _ (s : List ℕ) (h : Bool) where
-  pub operand_last : (lv r : ℕ) (c : Cursor) (p : Draft) → (r ≡ 0 → ⊥) → (r ≡ 1 → ⊥) → (r ≡ 2 → ⊥)
-      → factor s h (inside_expression s h lv) c p ≡ operand_at s h lv r c p
-  unfolding operand_at
-  operand_last lv zero c p x y z = absurd (x refl)
-  operand_last lv (suc zero) c p x y z = absurd (y refl)
-  operand_last lv (suc (suc zero)) c p x y z = absurd (z refl)
-  operand_last lv (suc (suc (suc r))) c p x y z = refl
-
   inside_more : (lv : ℕ) (o : ℕ) (c : Cursor) (p : Draft) → (lv ≡ 0 → ⊥) → inside_expression s h lv o c p ≡ expression s h (lv - 1) c p
   unfolding inside_expression
   inside_more zero o c p x = absurd (x refl)

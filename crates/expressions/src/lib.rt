@@ -24,7 +24,7 @@ pub fn expression(
     levels: usize,
     handler: bool,
 ) -> u64
-    ensures result_value { step_in text.now result ≡ step_after (entered text.now (walk.expression text.now handler levels (cursor_in text.now c) (draft table.old notes.old))) }
+    ensures value { step_in text.now result ≡ step_after (entered text.now (walk.expression text.now handler levels (cursor_in text.now c) (draft table.old notes.old))) }
     ensures table_after { table.new ≡ table_after table.old (entered text.now (walk.expression text.now handler levels (cursor_in text.now c) (draft table.old notes.old))) }
     ensures notes_after { notes.new ≡ notes_after notes.old (entered text.now (walk.expression text.now handler levels (cursor_in text.now c) (draft table.old notes.old))) }
 {
@@ -51,7 +51,7 @@ pub fn condition(
     levels: usize,
     handler: bool,
 ) -> u64
-    ensures result_value { step_in text.now result ≡ step_after (entered text.now (walk.condition text.now handler levels (cursor_in text.now c) (draft table.old notes.old))) }
+    ensures value { step_in text.now result ≡ step_after (entered text.now (walk.condition text.now handler levels (cursor_in text.now c) (draft table.old notes.old))) }
     ensures table_after { table.new ≡ table_after table.old (entered text.now (walk.condition text.now handler levels (cursor_in text.now c) (draft table.old notes.old))) }
     ensures notes_after { notes.new ≡ notes_after notes.old (entered text.now (walk.condition text.now handler levels (cursor_in text.now c) (draft table.old notes.old))) }
 {

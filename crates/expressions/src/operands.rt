@@ -3,22 +3,25 @@ ghost use Rattle.std.specs.Prelude.{◌≡◌, ◌≤◌, false, length};
 ghost use Rattle.entries.specs.Lending.{draft_in, SameLists};
 ghost use Rattle.cursors.specs.Packed.{is_stop, cursor_in};
 ghost use Rattle.cursors.specs.Following.{Follows};
+ghost use Rattle.expressions.specs.Private.{rank_number};
 ghost use Rattle.reading_laws.specs.Walk as walk;
 
 use crate::terms;
-use crate::terms::Scope;
+use crate::terms::{Rank, Scope};
 use contract::Node;
 use entries::Lent;
 use questions::Question;
 
 impl Scope<'_> {
     // Operators of a rank, each with an operand after it.
-    // Kept: (d) that c is no stop, here and below: as a type that says so a cursor is `c.bits` at each use, and each answer, a cursor or a stop
-    // in one number, is wrapped again (49 lines more for lists of names and clauses).
+    // Kept: (d) as many turns as the definition counts (its fuel is the text's length); with a `while` over the token's kind a proof would first have to
+    // show that each turn goes on in the text, which nothing else asks.
+    // Kept: (d) that c is no stop, here and below: with a type that says so crate clauses had 49 lines more, since a parser's answer is a cursor or a
+    // stop in one number, and is wrapped again before the next parser takes it.
     #[cycle(operands)]
-    fn rest(&self, rank: u8, before: usize, lent: &mut Lent, c: u64) -> u64
+    fn rest(&self, rank: Rank, before: usize, lent: &mut Lent, c: u64) -> u64
         requires { is_stop c ≡ false }
-        ensures value { Follows self.now.text.now (walk.row_from self.now.text.now rank (walk.operand_at self.now.text.now self.now.handler self.now.levels rank) before (length self.now.text.now) (cursor_in self.now.text.now c)) result lent.old lent.new }
+        ensures value { Follows self.now.text.now (walk.row_from self.now.text.now (rank_number rank) (walk.operand_at self.now.text.now self.now.handler self.now.levels (rank_number rank)) before (length self.now.text.now) (cursor_in self.now.text.now c)) result lent.old lent.new }
         ensures same_lists { SameLists lent.old lent.new }
     {
         let mut here = c;
@@ -28,11 +31,10 @@ impl Scope<'_> {
                 return here;
             }
             entries::count(lent.notes, entries::NODE, cursors::start_of(here));
-            let second = self.operand(rank, lent, cursors::lex(self.text, cursors::end_of(here)));
-            if cursors::stops(second) {
-                return second;
+            let next = self.operand(rank, lent, cursors::lex(self.text, cursors::end_of(here)));
+            if cursors::stops(next) {
+                return next;
             }
-            let e = second;
             entries::put(
                 lent.table,
                 lent.notes,
@@ -40,7 +42,7 @@ impl Scope<'_> {
                 0,
                 before,
             );
-            here = e;
+            here = next;
         }
         here
     }
@@ -49,16 +51,16 @@ impl Scope<'_> {
     // Kept: (d) the four rules of the grammar that a rank's operands have; a closure for each would hide which rank has which.
     #[inline(always)]
     #[cycle(operands)]
-    fn operand(&self, rank: u8, lent: &mut Lent, c: u64) -> u64
+    fn operand(&self, rank: Rank, lent: &mut Lent, c: u64) -> u64
         requires { is_stop c ≡ false }
-        ensures value { Follows self.now.text.now (walk.operand_at self.now.text.now self.now.handler self.now.levels rank (cursor_in self.now.text.now c)) result lent.old lent.new }
+        ensures value { Follows self.now.text.now (walk.operand_at self.now.text.now self.now.handler self.now.levels (rank_number rank) (cursor_in self.now.text.now c)) result lent.old lent.new }
         ensures same_lists { SameLists lent.old lent.new }
     {
         match rank {
-            0 => self.conjunction(lent, c),
-            1 => self.primary(lent, c),
-            2 => self.product(lent, c),
-            _ => self.factor(lent, c),
+            Rank::Or => self.conjunction(lent, c),
+            Rank::And => self.primary(lent, c),
+            Rank::Sum => self.product(lent, c),
+            Rank::Product => self.factor(lent, c),
         }
     }
 
@@ -69,17 +71,17 @@ impl Scope<'_> {
         ensures value { Follows self.now.text.now (walk.operand_at self.now.text.now self.now.handler self.now.levels 2 (cursor_in self.now.text.now c)) result lent.old lent.new }
         ensures same_lists { SameLists lent.old lent.new }
     {
-        self.chain(3, lent, c)
+        self.chain(Rank::Product, lent, c)
     }
 
-    // An expression, with so many levels left inside it.
+    // An expression.
     #[cycle(operands)]
     pub(crate) fn expression(&self, lent: &mut Lent, c: u64) -> u64
         requires { is_stop c ≡ false }
         ensures value { Follows self.now.text.now (walk.expression self.now.text.now self.now.handler self.now.levels (cursor_in self.now.text.now c)) result lent.old lent.new }
         ensures same_lists { SameLists lent.old lent.new }
     {
-        self.chain(2, lent, c)
+        self.chain(Rank::Sum, lent, c)
     }
 
     // Conditions with && between them.
@@ -89,39 +91,40 @@ impl Scope<'_> {
         ensures value { Follows self.now.text.now (walk.operand_at self.now.text.now self.now.handler self.now.levels 0 (cursor_in self.now.text.now c)) result lent.old lent.new }
         ensures same_lists { SameLists lent.old lent.new }
     {
-        self.chain(1, lent, c)
+        self.chain(Rank::And, lent, c)
     }
 
-    // A condition, with so many levels left inside it.
+    // A condition.
     #[cycle(operands)]
     pub(crate) fn condition(&self, lent: &mut Lent, c: u64) -> u64
         requires { is_stop c ≡ false }
         ensures value { Follows self.now.text.now (walk.condition self.now.text.now self.now.handler self.now.levels (cursor_in self.now.text.now c)) result lent.old lent.new }
         ensures same_lists { SameLists lent.old lent.new }
     {
-        self.chain(0, lent, c)
+        self.chain(Rank::Or, lent, c)
     }
 
-    // Operands of a rank with its operators between them: || binds last, then &&, then + and -, then * and /.
+    // Operands of a rank with its operators between them.
     #[inline(always)]
     #[cycle(operands)]
-    fn chain(&self, rank: u8, lent: &mut Lent, c: u64) -> u64
+    fn chain(&self, rank: Rank, lent: &mut Lent, c: u64) -> u64
         requires { is_stop c ≡ false }
-        ensures value { Follows self.now.text.now (walk.chain self.now.text.now rank (walk.operand_at self.now.text.now self.now.handler self.now.levels rank) (cursor_in self.now.text.now c)) result lent.old lent.new }
+        ensures value { Follows self.now.text.now (walk.chain self.now.text.now (rank_number rank) (walk.operand_at self.now.text.now self.now.handler self.now.levels (rank_number rank)) (cursor_in self.now.text.now c)) result lent.old lent.new }
         ensures same_lists { SameLists lent.old lent.new }
     {
         let before = lent.nodes();
-        let r = self.operand(rank, lent, c);
-        if cursors::stops(r) {
-            return r;
+        let first = self.operand(rank, lent, c);
+        if cursors::stops(first) {
+            return first;
         }
-        let d = r;
-        if terms::is_operator(rank, cursors::kind_of(d)) {
-            return self.rest(rank, before, lent, d);
+        if terms::is_operator(rank, cursors::kind_of(first)) {
+            return self.rest(rank, before, lent, first);
         }
-        r
+        first
     }
 
+    // Kept: (c) the struct of one level further in, here and in `simple`: `..*self` is refused for a struct with a ghost field; (d) as a function
+    // it would be three clauses, one a field.
     #[cycle(operands)]
     fn factor(&self, lent: &mut Lent, c: u64) -> u64
         requires { is_stop c ≡ false }
@@ -153,13 +156,12 @@ impl Scope<'_> {
         let before = lent.nodes();
         let nots = self.count_nots(lent.notes, c);
         let many = nots.many;
-        let r = self.simple(lent, nots.next);
-        if cursors::stops(r) {
-            return r;
+        let after = self.simple(lent, nots.next);
+        if cursors::stops(after) {
+            return after;
         }
-        let e = r;
         terms::negate(lent, many, before);
-        e
+        after
     }
 
     // A condition in parentheses, true, false or a comparison.
@@ -205,17 +207,15 @@ impl Scope<'_> {
         if cursors::stops(first) {
             return first;
         }
-        let d = first;
-        let kind = cursors::kind_of(d);
+        let kind = cursors::kind_of(first);
         if !terms::is_comparison(kind) {
-            return cursors::unfit(self.text, d);
+            return cursors::unfit(self.text, first);
         }
-        entries::count(lent.notes, entries::NODE, cursors::start_of(d));
-        let second = self.expression(lent, cursors::lex(self.text, cursors::end_of(d)));
+        entries::count(lent.notes, entries::NODE, cursors::start_of(first));
+        let second = self.expression(lent, cursors::lex(self.text, cursors::end_of(first)));
         if cursors::stops(second) {
             return second;
         }
-        let e = second;
         entries::put(
             lent.table,
             lent.notes,
@@ -223,6 +223,6 @@ impl Scope<'_> {
             0,
             before,
         );
-        e
+        second
     }
 }

@@ -4,14 +4,14 @@ ghost use Rattle.reading.specs.Grammar.{is_one_of, operators, comparisons};
 ghost use Rattle.entries.specs.Lending.{draft_in, SameLists};
 ghost use Rattle.cursors.specs.Packed.{is_stop, cursor_in};
 ghost use Rattle.cursors.specs.Following.{Follows};
-ghost use Rattle.expressions.specs.Private.{NotsAre};
+ghost use Rattle.expressions.specs.Private.{NotsAre, rank_number};
 ghost use Rattle.reading_laws.specs.Walk as walk;
 
 use contract::Node;
 use entries::Lent;
 use tokens::Token;
 
-// The node of an operator or a comparison.
+// The node of an operator or a comparison. Callers ask for no other token's; `>=` is the last, so that the match needs no arm for the others.
 // Kept: (d) both sides are numbers of the documents, in another order each, so that a table of nodes by the token's number would say less.
 pub(crate) fn operator_node(kind: u8) -> u64
     ensures { result ≡ walk.operator_node kind }
@@ -32,16 +32,24 @@ pub(crate) fn operator_node(kind: u8) -> u64
     }
 }
 
-// Whether a token is an operator of a rank: || then && then + and - then * and /.
-pub(crate) fn is_operator(rank: u8, kind: u8) -> bool
-    ensures { result ≡ is_one_of (operators rank) kind }
+// The ranks of operators, that which binds last before the others.
+#[derive(Clone, Copy)]
+pub(crate) enum Rank {
+    Or,
+    And,
+    Sum,
+    Product,
+}
+
+// Whether a token is an operator of a rank.
+pub(crate) fn is_operator(rank: Rank, kind: u8) -> bool
+    ensures { result ≡ is_one_of (operators (rank_number rank)) kind }
 {
     match rank {
-        0 => kind == words::OR,
-        1 => kind == words::AND,
-        2 => (kind == words::PLUS) | (kind == words::MINUS),
-        3 => (kind == words::TIMES) | (kind == words::OVER),
-        _ => false,
+        Rank::Or => kind == words::OR,
+        Rank::And => kind == words::AND,
+        Rank::Sum => matches!(kind, words::PLUS | words::MINUS),
+        Rank::Product => matches!(kind, words::TIMES | words::OVER),
     }
 }
 
@@ -77,6 +85,7 @@ pub(crate) struct Nots {
 }
 
 // What an expression stands in: a text short enough for cursors, how many levels of parentheses are left, and whether it is in a handler.
+// Kept: (d) a text that is short, as in `Lists` of clauses.
 #[derive(Clone, Copy)]
 pub(crate) struct Scope<'a> {
     pub(crate) text: &'a [u8],
@@ -119,40 +128,35 @@ impl Scope<'_> {
         ensures value { Follows self.now.text.now (walk.leaf self.now.text.now self.now.handler (cursor_in self.now.text.now c)) result lent.old lent.new }
         ensures same_lists { SameLists lent.old lent.new }
     {
-        let kind = cursors::kind_of(c);
-        if kind == Token::NAME {
-            let notes = &mut *lent.notes;
-            let name = entries::name(
-                self.text,
-                notes,
-                self.handler,
-                cursors::start_of(c),
-                cursors::end_of(c),
-            );
-            entries::put_name(lent.table, notes, name, cursors::start_of(c));
-            return cursors::lex(self.text, cursors::end_of(c));
-        }
-        if kind == Token::NUMBER {
-            entries::put_leaf(
+        match cursors::kind_of(c) {
+            Token::NAME => {
+                let notes = &mut *lent.notes;
+                let name = entries::name(
+                    self.text,
+                    notes,
+                    self.handler,
+                    cursors::start_of(c),
+                    cursors::end_of(c),
+                );
+                entries::put_name(lent.table, notes, name, cursors::start_of(c));
+            }
+            Token::NUMBER => entries::put_leaf(
                 lent.table,
                 lent.notes,
                 Node::CONSTANT,
                 tokens::value_of(self.text, cursors::start_of(c)),
                 cursors::start_of(c),
-            );
-            return cursors::lex(self.text, cursors::end_of(c));
+            ),
+            Token::STRING => self.string_leaf(lent, c),
+            words::NOW => {
+                entries::put_leaf(lent.table, lent.notes, Node::NOW, 0, cursors::start_of(c))
+            }
+            _ => return cursors::unfit(self.text, c),
         }
-        if kind == Token::STRING {
-            self.string_leaf(lent, c);
-            return cursors::lex(self.text, cursors::end_of(c));
-        }
-        if kind == words::NOW {
-            entries::put_leaf(lent.table, lent.notes, Node::NOW, 0, cursors::start_of(c));
-            return cursors::lex(self.text, cursors::end_of(c));
-        }
-        cursors::unfit(self.text, c)
+        cursors::lex(self.text, cursors::end_of(c))
     }
 
+    // Kept: (d) as many turns as the definition counts, as in `rest`.
     pub(crate) fn count_nots(&self, notes: &mut [u64], c: u64) -> Nots
         requires { is_stop c ≡ false }
         ensures { NotsAre self.now.text.now (cursor_in self.now.text.now c) notes.old result notes.new }

@@ -9,6 +9,7 @@ use contract::Contract;
 use entries::{Lent, Notes, Rest};
 
 // A text with functions, short enough for cursors.
+// Kept: (d) a text that is short, as in `Lists` of clauses.
 #[derive(Clone, Copy)]
 pub(crate) struct Functions<'a> {
     pub(crate) text: &'a [u8],
@@ -17,8 +18,8 @@ pub(crate) struct Functions<'a> {
 
 impl Functions<'_> {
     // The names of a list of parameters, which may be empty, and its end.
-    // Kept: (d) that c is no stop, here and below: as a type that says so a cursor is `c.bits` at each use, and each answer, a cursor or a stop
-    // in one number, is wrapped again (49 lines more for lists of names and clauses).
+    // Kept: (d) that c is no stop, here and below: with a type that says so crate clauses had 49 lines more, since a parser's answer is a cursor or a
+    // stop in one number, and is wrapped again before the next parser takes it.
     fn parameter_names(&self, lent: &mut Lent, c: u64, closing: u8, kind: usize) -> u64
         requires { is_stop c ≡ false }
         ensures value { Follows self.now.text.now (walk.parameter_names self.now.text.now closing kind (cursor_in self.now.text.now c)) result lent.old lent.new }
@@ -27,12 +28,11 @@ impl Functions<'_> {
         if cursors::kind_of(c) == closing {
             return cursors::lex(self.text, cursors::end_of(c));
         }
-        let r = clauses::names(self.text, lent.table, lent.notes, c, kind);
-        if cursors::stops(r) {
-            return r;
+        let after = clauses::names(self.text, lent.table, lent.notes, c, kind);
+        if cursors::stops(after) {
+            return after;
         }
-        let d = r;
-        cursors::token(self.text, d, closing)
+        cursors::token(self.text, after, closing)
     }
 
     // Parameters of a kind; the list may be absent.
@@ -77,32 +77,35 @@ impl Functions<'_> {
         ensures value { Follows self.now.text.now (walk.function_head self.now.text.now (cursor_in self.now.text.now c)) result lent.old lent.new }
         ensures same_lists { SameLists lent.old lent.new }
     {
-        let a = cursors::state_at(self.text, c);
-        if cursors::stops(a) {
-            return a;
+        let state_name = cursors::state_at(self.text, c);
+        if cursors::stops(state_name) {
+            return state_name;
         }
-        let b = cursors::name_here(self.text, cursors::lex(self.text, cursors::end_of(a)));
-        if cursors::stops(b) {
-            return b;
-        }
-        let d = cursors::token(
+        let party = cursors::name_here(
             self.text,
-            cursors::lex(self.text, cursors::end_of(b)),
+            cursors::lex(self.text, cursors::end_of(state_name)),
+        );
+        if cursors::stops(party) {
+            return party;
+        }
+        let past = cursors::token(
+            self.text,
+            cursors::lex(self.text, cursors::end_of(party)),
             words::COLON,
         );
-        if cursors::stops(d) {
-            return d;
+        if cursors::stops(past) {
+            return past;
         }
-        let g = cursors::name_here(self.text, d);
-        if cursors::stops(g) {
-            return g;
+        let name = cursors::name_here(self.text, past);
+        if cursors::stops(name) {
+            return name;
         }
-        let state = cursors::mention_state(self.text, lent.table, lent.notes, a);
+        let state = cursors::mention_state(self.text, lent.table, lent.notes, state_name);
         let number = entries::use_party(
             self.text,
             lent.notes,
-            cursors::start_of(b),
-            cursors::end_of(b),
+            cursors::start_of(party),
+            cursors::end_of(party),
         );
         entries::head(
             self.text,
@@ -111,10 +114,10 @@ impl Functions<'_> {
             cursors::start_of(c),
             state,
             number,
-            cursors::start_of(g),
-            cursors::end_of(g),
+            cursors::start_of(name),
+            cursors::end_of(name),
         );
-        cursors::lex(self.text, cursors::end_of(g))
+        cursors::lex(self.text, cursors::end_of(name))
     }
 
     // Parameters and precondition.
@@ -123,29 +126,27 @@ impl Functions<'_> {
         ensures value { Follows self.now.text.now (walk.function_parts self.now.text.now (cursor_in self.now.text.now c)) result lent.old lent.new }
         ensures same_lists { SameLists lent.old lent.new }
     {
-        let a = self.parameters_in(
+        let after_values = self.parameters_in(
             lent,
             c,
             words::OPEN_PAREN,
             words::CLOSE_PAREN,
             entries::VALUE,
         );
-        if cursors::stops(a) {
-            return a;
+        if cursors::stops(after_values) {
+            return after_values;
         }
-        let d = a;
-        let b = self.parameters_in(
+        let after_parameters = self.parameters_in(
             lent,
-            d,
+            after_values,
             words::OPEN_BRACKET,
             words::CLOSE_BRACKET,
             entries::PARAMETER,
         );
-        if cursors::stops(b) {
-            return b;
+        if cursors::stops(after_parameters) {
+            return after_parameters;
         }
-        let e = b;
-        self.precondition(lent, e)
+        self.precondition(lent, after_parameters)
     }
 
     // The body of function i and what is after it; its first node and first event have these numbers.
@@ -155,24 +156,21 @@ impl Functions<'_> {
         ensures same_lists { SameLists lent.old lent.new }
     {
         let condition = lent.nodes_since(first);
-        let r = bodies::body(self.text, lent.table, lent.notes, c);
-        if cursors::stops(r) {
-            return r;
+        let after = bodies::body(self.text, lent.table, lent.notes, c);
+        if cursors::stops(after) {
+            return after;
         }
-        let d = r;
-        let a = cursors::token(self.text, d, words::STATE_ARROW);
-        if cursors::stops(a) {
-            return a;
+        let mark = cursors::token(self.text, after, words::STATE_ARROW);
+        if cursors::stops(mark) {
+            return mark;
         }
-        let e = a;
-        let b = cursors::state_at(self.text, e);
-        if cursors::stops(b) {
-            return b;
+        let name = cursors::state_at(self.text, mark);
+        if cursors::stops(name) {
+            return name;
         }
-        let l = b;
         let many = lent.note(Notes::BODY) as usize;
         let events = lent.note(Notes::HERE) as usize;
-        let last = cursors::mention_state(self.text, lent.table, lent.notes, l);
+        let last = cursors::mention_state(self.text, lent.table, lent.notes, name);
         let rest = Rest {
             last,
             first,
@@ -183,7 +181,7 @@ impl Functions<'_> {
         };
         let notes = &mut *lent.notes;
         entries::function_rest(lent.table, notes, i, rest);
-        cursors::lex(self.text, cursors::end_of(l))
+        cursors::lex(self.text, cursors::end_of(name))
     }
 
     fn function(&self, lent: &mut Lent, c: u64) -> u64
@@ -194,21 +192,21 @@ impl Functions<'_> {
         let i = lent.note(entries::FUNCTIONS) as usize;
         let first = lent.nodes();
         let event = lent.note(entries::EVENT) as usize;
-        let a = self.function_head(lent, c);
-        if cursors::stops(a) {
-            return a;
+        let after_head = self.function_head(lent, c);
+        if cursors::stops(after_head) {
+            return after_head;
         }
-        let d = a;
-        let b = self.function_parts(lent, d);
-        if cursors::stops(b) {
-            return b;
+        let after_parts = self.function_parts(lent, after_head);
+        if cursors::stops(after_parts) {
+            return after_parts;
         }
-        let e = b;
-        self.function_end(lent, e, i, first, event)
+        self.function_end(lent, after_parts, i, first, event)
     }
 
     // The functions of a contract.
-    // Kept: (d) a loop of a few lines over a parser of its own: over two closures, what begins one and what reads it, it would be no shorter.
+    // Kept: (d) a loop of a few lines over a parser of its own: over two closures, what begins one and what reads it, it would be no shorter;
+    // as many turns as the definition counts (its fuel is the text's length); with a `while` over the token's kind a proof would first have to
+    // show that each turn goes on in the text, which nothing else asks.
     pub(crate) fn functions(&self, lent: &mut Lent, c: u64) -> u64
         requires { is_stop c ≡ false }
         ensures value { Follows self.now.text.now (walk.functions self.now.text.now (length self.now.text.now) (cursor_in self.now.text.now c)) result lent.old lent.new }
@@ -219,12 +217,11 @@ impl Functions<'_> {
             if cursors::kind_of(here) != words::AT_SIGN {
                 return here;
             }
-            let r = self.function(lent, here);
-            if cursors::stops(r) {
-                return r;
+            let next = self.function(lent, here);
+            if cursors::stops(next) {
+                return next;
             }
-            let d = r;
-            here = d;
+            here = next;
         }
         here
     }

@@ -1,10 +1,11 @@
 -- A test of each number of a range, as `all` makes it, is `all_below`. Assumes nothing.
-use Prim.Native.Nat.{ℕ, zero, suc, ◌+◌, ◌-◌}
+use Prim.Native.Nat.{ℕ, zero, suc, ◌+◌}
 use native.Mathlib.Omega.{arith}
 use mathlib.Core.Path.{◌≡◌, refl, sym, ap, ◌∙◌}
 use mathlib.Core.Bool.{Bool, true, false, ◌&&◌}
 use Rattle.std.specs.List.{list_all, range_with_len}
-use Rattle.laws.specs.Lists.{all_below}
+use Rattle.laws.specs.Lists.{every, all_below}
+use Rattle.contract.specs.Decode.{each_from}
 
 both_then : (a b c : Bool) → a && (b && c) ≡ (a && b) && c
 both_then true b c = refl
@@ -39,3 +40,11 @@ pub below_range : (p : ℕ → Bool) (n : ℕ) → list_all p (range_with_len 0 
 below_range p n =
     let whole : 0 + n ≡ n = omega arith in
     ap (λ (b : Bool). b && list_all p (range_with_len 0 n)) (sym (zero_below p)) ∙ below_more p n 0 ∙ ap (λ (k : ℕ). all_below k p) whole
+
+-- a test of each member that numbers of a range give
+pub range_each : {A : Type 0} (q : A → Bool) (f : ℕ → A) (n a : ℕ) → list_all (λ i. q (f i)) (range_with_len a n) ≡ every q (each_from a n f)
+unfolding every each_from
+range_each q f zero a = refl
+range_each q f (suc n) a =
+    let next : a + 1 ≡ suc a = omega arith in
+    ap (λ (b : Bool). q (f a) && b) (range_each q f n (a + 1) ∙ ap (λ (k : ℕ). every q (each_from k n f)) next)

@@ -1,2 +1,3 @@
 pub mod PackedWhole
 pub mod AllBelow
+pub mod Verbs

@@ -1,13 +1,18 @@
 // The agreement's three rules, question 14, tested by masks over the clause rows of a table.
 ghost use Rattle.std.specs.Prelude.{◌≡◌, min};
 ghost use Rattle.laws.specs.Lists.{every, all_below};
+ghost use Rattle.contract.specs.Rows.{said};
+ghost use Rattle.reading.specs.Rules.{is_set};
 ghost use Rattle.reading_laws.specs.Masks.{row_of, rows_of, holds, with, with_all, field_mask, party_mask, part_of, agrees_by_mask, kept_by_masks};
+
+use contract::Verb;
 
 // A party's number is at most 8 and a field's at most 32: an unknown name has the number of how many are known. So a mask
 // needs 33 bits, and a u64 has bits to spare. The last one says that a number was put in twice.
 const TWICE: usize = 63;
 
 // As a party's number: none.
+// Kept: (d) no `Option`: a party's number is compared with this as with any other, and none of a text is as large.
 const NOBODY: usize = 63;
 
 // The bit of a number, the last one of those that are too large.
@@ -44,13 +49,15 @@ fn with_fields(table: &[u64], i: usize, start: u64) -> u64
 }
 
 // The fields that parties other than this one set.
+// Kept: (d) a table and how many clauses it has, here and below: `contract::clause_at` and `with_fields` take the table alone, so that a struct of
+// the two would be taken apart in each loop.
 fn fields_set(table: &[u64], clauses: usize, party: usize) -> u64
     ensures { result ≡ field_mask party (rows_of table.now clauses) }
 {
     let mut mask: u64 = 0;
     for i in (0..clauses).rev() {
         let c = contract::clause_at(table, i);
-        if c.verb != 0 {
+        if Verb::from(c.verb) == Verb::Ok {
             continue;
         }
         if c.party == party {
@@ -61,14 +68,14 @@ fn fields_set(table: &[u64], clauses: usize, party: usize) -> u64
     mask
 }
 
-// The parties of the clauses with SET, or of those with OK.
-fn parties_of(table: &[u64], clauses: usize, set: bool) -> u64
-    ensures { result ≡ party_mask set (rows_of table.now clauses) }
+// The parties of the clauses with a verb.
+fn parties_of(table: &[u64], clauses: usize, verb: Verb) -> u64
+    ensures { result ≡ party_mask (is_set (said verb)) (rows_of table.now clauses) }
 {
     let mut mask: u64 = 0;
     for i in (0..clauses).rev() {
         let c = contract::clause_at(table, i);
-        if (c.verb == 0) == set {
+        if Verb::from(c.verb) == verb {
             mask = with(mask, c.party);
         }
     }
@@ -76,6 +83,7 @@ fn parties_of(table: &[u64], clauses: usize, set: bool) -> u64
 }
 
 // Whether each number in a mask, none of them twice, is in another mask.
+// Kept: (d) `&` of truths, here and in `rules_kept`: with `&&` each of its places is a goal of its own, two here and five there, in place of one.
 fn part_of(mask: u64, other: u64) -> bool
     ensures { result ≡ part_of mask other }
 {
@@ -87,7 +95,7 @@ fn agrees(table: &[u64], clauses: usize, i: usize) -> bool
     ensures { result ≡ agrees_by_mask (rows_of table.now clauses) (row_of table.now i) }
 {
     let c = contract::clause_at(table, i);
-    if c.verb == 0 {
+    if Verb::from(c.verb) == Verb::Set {
         return true;
     }
     part_of(
@@ -99,11 +107,7 @@ fn agrees(table: &[u64], clauses: usize, i: usize) -> bool
 fn all_agree(table: &[u64], clauses: usize) -> bool
     ensures { result ≡ every (agrees_by_mask (rows_of table.now clauses)) (rows_of table.now clauses) }
 {
-    let mut all = true;
-    for i in (0..clauses).rev() {
-        all = agrees(table, clauses, i) & all;
-    }
-    all
+    (0..clauses).all(|i| agrees(table, clauses, i))
 }
 
 // Whether each of the first n numbers is in a mask.
@@ -118,8 +122,8 @@ fn holds_all(mask: u64, n: usize) -> bool
 pub(crate) fn rules_kept(table: &[u64], clauses: usize, parties: usize) -> bool
     ensures { result ≡ kept_by_masks parties (rows_of table.now clauses) }
 {
-    let set = parties_of(table, clauses, true);
-    let ok = parties_of(table, clauses, false);
+    let set = parties_of(table, clauses, Verb::Set);
+    let ok = parties_of(table, clauses, Verb::Ok);
     !holds(fields_set(table, clauses, NOBODY), TWICE)
         & (all_agree(table, clauses)
             & (holds_all(set | ok, parties) & (!holds(set, TWICE) & !holds(ok, TWICE))))

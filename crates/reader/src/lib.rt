@@ -12,7 +12,7 @@ ghost use Rattle.reading_laws.specs.Walk.{draft};
 ghost use Rattle.questions.specs.Numbers.{number_of};
 ghost use Rattle.reading.specs.Reading.{refused, read_text, answer_of, table_of};
 
-use contract::Contract;
+use contract::{Contract, TableHead};
 use entries::{Lent, Notes};
 use questions::Question;
 use reading::Refusal;
@@ -21,22 +21,21 @@ use tokens::Token;
 mod agreement;
 
 // The agreement's end: question 14.
-// Kept: (d) the notes and a place in the text.
+// Kept: (d) no list with a place in it: `place` is one of the text, and the notes are those of any pass.
 fn close(table: &[u64], notes: &mut [u64], place: usize)
     ensures { notes.new ≡ (walk.closed place (draft table.now notes.old)).notes }
 {
     let excess = contract::word(notes, entries::EXCESS);
-    if excess == 0 {
-        let clauses = contract::word(notes, entries::CLAUSES) as usize;
-        let parties = contract::word(notes, entries::PARTY) as usize;
-        if agreement::rules_kept(table, clauses, parties) {
-            return;
-        }
+    let clauses = contract::word(notes, entries::CLAUSES) as usize;
+    let parties = contract::word(notes, entries::PARTY) as usize;
+    if excess == 0 && agreement::rules_kept(table, clauses, parties) {
+        return;
     }
     entries::find(notes, Question::AgreementRules as u8, place);
 }
 
 // A pass over a text that is short enough for cursors.
+// Kept: (d) a text that is short, as in `Lists` of clauses.
 #[derive(Clone, Copy)]
 struct Pass<'a> {
     text: &'a [u8],
@@ -45,32 +44,30 @@ struct Pass<'a> {
 
 impl Pass<'_> {
     // legal_contract N {
-    // Kept: (d) that c is no stop, here and below: as a type that says so a cursor is `c.bits` at each use, and each answer, a cursor or a stop
-    // in one number, is wrapped again (49 lines more for lists of names and clauses).
+    // Kept: (d) that c is no stop, here and below: with a type that says so crate clauses had 49 lines more, since a parser's answer is a cursor or a
+    // stop in one number, and is wrapped again before the next parser takes it.
     fn opening(&self, lent: &mut Lent, c: u64) -> u64
         requires { is_stop c ≡ false }
         ensures value { Follows self.now.text.now (walk.opening self.now.text.now (cursor_in self.now.text.now c)) result lent.old lent.new }
         ensures same_lists { SameLists lent.old lent.new }
     {
-        let a = cursors::token(self.text, c, words::LEGAL_CONTRACT);
-        if cursors::stops(a) {
-            return a;
+        let after = cursors::token(self.text, c, words::LEGAL_CONTRACT);
+        if cursors::stops(after) {
+            return after;
         }
-        let d = a;
-        let b = cursors::name_here(self.text, d);
-        if cursors::stops(b) {
-            return b;
+        let name = cursors::name_here(self.text, after);
+        if cursors::stops(name) {
+            return name;
         }
-        let n = b;
         entries::title(
             self.text,
             lent.table,
-            cursors::start_of(n),
-            cursors::end_of(n),
+            cursors::start_of(name),
+            cursors::end_of(name),
         );
         cursors::token(
             self.text,
-            cursors::lex(self.text, cursors::end_of(n)),
+            cursors::lex(self.text, cursors::end_of(name)),
             words::OPEN_BRACE,
         )
     }
@@ -81,7 +78,7 @@ impl Pass<'_> {
         ensures value { Follows self.now.text.now (walk.declarations self.now.text.now (cursor_in self.now.text.now c)) result lent.old lent.new }
         ensures same_lists { SameLists lent.old lent.new }
     {
-        let a = clauses::line(
+        let after = clauses::line(
             self.text,
             lent.table,
             lent.notes,
@@ -89,15 +86,14 @@ impl Pass<'_> {
             words::ASSETS,
             entries::ASSET,
         );
-        if cursors::stops(a) {
-            return a;
+        if cursors::stops(after) {
+            return after;
         }
-        let d = a;
         clauses::line(
             self.text,
             lent.table,
             lent.notes,
-            d,
+            after,
             words::FIELDS,
             entries::FIELD,
         )
@@ -109,19 +105,17 @@ impl Pass<'_> {
         ensures value { Follows self.now.text.now (walk.initial_state self.now.text.now (cursor_in self.now.text.now c)) result lent.old lent.new }
         ensures same_lists { SameLists lent.old lent.new }
     {
-        let a = cursors::token(self.text, c, words::STATE_ARROW);
-        if cursors::stops(a) {
-            return a;
+        let mark = cursors::token(self.text, c, words::STATE_ARROW);
+        if cursors::stops(mark) {
+            return mark;
         }
-        let f = a;
-        let b = cursors::state_at(self.text, f);
-        if cursors::stops(b) {
-            return b;
+        let name = cursors::state_at(self.text, mark);
+        if cursors::stops(name) {
+            return name;
         }
-        let l = b;
-        let state = cursors::mention_state(self.text, lent.table, lent.notes, l);
-        items::set(lent.table, 9, state as u64);
-        cursors::lex(self.text, cursors::end_of(l))
+        let state = cursors::mention_state(self.text, lent.table, lent.notes, name);
+        items::set(lent.table, TableHead::INITIAL, state as u64);
+        cursors::lex(self.text, cursors::end_of(name))
     }
 
     // The clauses, and what is after them.
@@ -130,19 +124,17 @@ impl Pass<'_> {
         ensures value { Follows self.now.text.now (walk.agreement_rest self.now.text.now (cursor_in self.now.text.now c)) result lent.old lent.new }
         ensures same_lists { SameLists lent.old lent.new }
     {
-        let a = clauses::clauses(self.text, lent.table, lent.notes, c);
-        if cursors::stops(a) {
-            return a;
+        let after = clauses::clauses(self.text, lent.table, lent.notes, c);
+        if cursors::stops(after) {
+            return after;
         }
-        let d = a;
-        let b = cursors::token(self.text, d, words::CLOSE_BRACE);
-        if cursors::stops(b) {
-            return b;
+        let closed = cursors::token(self.text, after, words::CLOSE_BRACE);
+        if cursors::stops(closed) {
+            return closed;
         }
-        let e = b;
         let table = &mut *lent.table;
-        close(table, lent.notes, cursors::start_of(d));
-        self.initial_state(lent, e)
+        close(table, lent.notes, cursors::start_of(after));
+        self.initial_state(lent, closed)
     }
 
     fn agreement_of(&self, lent: &mut Lent, c: u64) -> u64
@@ -150,32 +142,27 @@ impl Pass<'_> {
         ensures value { Follows self.now.text.now (walk.agreement self.now.text.now (cursor_in self.now.text.now c)) result lent.old lent.new }
         ensures same_lists { SameLists lent.old lent.new }
     {
-        let a = cursors::token(self.text, c, words::AGREEMENT);
-        if cursors::stops(a) {
-            return a;
+        let word = cursors::token(self.text, c, words::AGREEMENT);
+        if cursors::stops(word) {
+            return word;
         }
-        let d = a;
-        let b = cursors::token(self.text, d, words::OPEN_PAREN);
-        if cursors::stops(b) {
-            return b;
+        let opened = cursors::token(self.text, word, words::OPEN_PAREN);
+        if cursors::stops(opened) {
+            return opened;
         }
-        let e = b;
-        let names = clauses::names(self.text, lent.table, lent.notes, e, entries::PARTY);
+        let names = clauses::names(self.text, lent.table, lent.notes, opened, entries::PARTY);
         if cursors::stops(names) {
             return names;
         }
-        let f = names;
-        let g = cursors::token(self.text, f, words::CLOSE_PAREN);
-        if cursors::stops(g) {
-            return g;
+        let closed = cursors::token(self.text, names, words::CLOSE_PAREN);
+        if cursors::stops(closed) {
+            return closed;
         }
-        let h = g;
-        let i = cursors::token(self.text, h, words::OPEN_BRACE);
-        if cursors::stops(i) {
-            return i;
+        let inside = cursors::token(self.text, closed, words::OPEN_BRACE);
+        if cursors::stops(inside) {
+            return inside;
         }
-        let j = i;
-        self.agreement_rest(lent, j)
+        self.agreement_rest(lent, inside)
     }
 
     // The closing brace, and nothing but the text's end after it.
@@ -183,15 +170,14 @@ impl Pass<'_> {
         requires { is_stop c ≡ false }
         ensures { step_in self.now.text.now result ≡ walk.ending_at self.now.text.now (cursor_in self.now.text.now c) }
     {
-        let a = cursors::token(self.text, c, words::CLOSE_BRACE);
-        if cursors::stops(a) {
-            return a;
+        let after = cursors::token(self.text, c, words::CLOSE_BRACE);
+        if cursors::stops(after) {
+            return after;
         }
-        let d = a;
-        if cursors::kind_of(d) == cursors::TEXT_END {
-            return a;
+        if cursors::kind_of(after) == cursors::TEXT_END {
+            return after;
         }
-        cursors::unfit(self.text, d)
+        cursors::unfit(self.text, after)
     }
 
     // The whole text.
@@ -199,31 +185,28 @@ impl Pass<'_> {
         ensures value { Follows self.now.text.now (walk.walk self.now.text.now) result lent.old lent.new }
         ensures same_lists { SameLists lent.old lent.new }
     {
-        let a = self.opening(lent, cursors::lex(self.text, 0));
-        if cursors::stops(a) {
-            return a;
+        let opened = self.opening(lent, cursors::lex(self.text, 0));
+        if cursors::stops(opened) {
+            return opened;
         }
-        let c = a;
-        let b = self.declarations(lent, c);
-        if cursors::stops(b) {
-            return b;
+        let declared = self.declarations(lent, opened);
+        if cursors::stops(declared) {
+            return declared;
         }
-        let d = b;
-        let e = self.agreement_of(lent, d);
-        if cursors::stops(e) {
-            return e;
+        let agreed = self.agreement_of(lent, declared);
+        if cursors::stops(agreed) {
+            return agreed;
         }
-        let f = e;
-        let g = heads::functions(self.text, lent.table, lent.notes, f);
-        if cursors::stops(g) {
-            return g;
+        let after = heads::functions(self.text, lent.table, lent.notes, agreed);
+        if cursors::stops(after) {
+            return after;
         }
-        let h = g;
-        self.ending(h)
+        self.ending(after)
     }
 }
 
 // The least finding, or accepted, and then the table's head.
+// Kept: (a) the finding stands in the lent notes as a number, 0 for none (`entries::find`).
 fn settle(table: &mut [u64], notes: &[u64]) -> Result<(), Refusal>
     ensures value { result ≡ walk.settled_answer notes.now }
     ensures table_after { table.new ≡ walk.settled_table notes.now table.old }
@@ -233,12 +216,12 @@ fn settle(table: &mut [u64], notes: &[u64]) -> Result<(), Refusal>
         let place = contract::word(notes, entries::PLACE) as usize;
         return Err(Refusal::by_number((question % 256) as u8, place));
     }
-    let initial = contract::word(table, 9) as usize;
+    let initial = contract::word(table, TableHead::INITIAL) as usize;
     entries::write_counts(table, notes, initial);
     Ok(())
 }
 
-// The pass with notes of its own, all zeros.
+// The pass with notes of its own, all zeros. A stop has its question where a cursor has its token's kind.
 fn pass_over(text: &[u8], table: &mut [u64]) -> Result<(), Refusal>
     requires { length text.now ≤ 16384 }
     ensures { walk.Ends (walk.walk text.now (draft table.old (zeros 606))) result table.new }

@@ -6,7 +6,7 @@ use mathlib.Core.Bool.{Bool, true, false, ◌||◌}
 use mathlib.Core.List.{List}
 use lib.Dec.{eqb}
 use borrow.Author.Tests.{leb-true, eqb-true}
-use Rattle.std.specs.Prelude.{Ok, Err, IfErr}
+use Rattle.std.specs.Prelude.{IfErr}
 use Rattle.laws.specs.Choice.{pick}
 use Rattle.laws.specs.Lists.{all_below}
 use Rattle.laws.proofs.Choice.{pick_true, true_false}
@@ -14,7 +14,6 @@ use Rattle.laws.proofs.Truths.{either_true, both_right}
 use Rattle.laws.proofs.Members.{all_stop}
 use Rattle.questions.specs.Numbers.{number_of}
 use Rattle.contract.specs.Check.{ranges}
-use Rattle.reading.specs.declared.Refusal.{Refusal}
 use Rattle.reading.specs.Reading.{Reading, accepted, refused, Answered, asked, read_text, answer_of}
 use Rattle.accepted.proofs.Refusals.{refused_within}
 

@@ -141,11 +141,6 @@ module _ (w : List ℕ) (i : ℕ) (r : Row) (q : r ≡ clause_row_of w i) where
   ok_agrees h ks m o b e f g =
       g ∙ (λ t. part_of (e t) ((f ∙ (λ u. field_mask (q u).party ks)) t)) ∙ sym (pick_false _ _ _ (is_ok h))
 
-pub every_more : {A : Type 0} (p : A → Bool) (x : A) (old new : Bool) → new ≡ (p x && old)
-    → (l : List A) → old ≡ every p l → new ≡ every p (x ∷ l)
-unfolding every
-every_more p x old new q l e = q ∙ ap (λ (b : Bool). p x && b) e
-
 pub kept : (n : ℕ) (ks : List Clause) (f s o : ℕ) (a b c d e : Bool)
     → f ≡ field_mask 63 ks → s ≡ party_mask true ks → o ≡ party_mask false ks
     → a ≡ holds f 63 → b ≡ every (agrees_by_mask ks) ks → c ≡ all_below n (holds (bit_or s o)) → d ≡ holds s 63 → e ≡ holds o 63

@@ -1,11 +1,11 @@
 -- Laws of the leaves and operators of expressions. Assumes nothing.
 use mathlib.Core.Path.{◌≡◌, refl, sym, ap, ◌∙◌}
 use mathlib.Core.List.{List, [], ◌∷◌}
-use mathlib.Core.Bool.{Bool, true, false, ◌||◌}
+use mathlib.Core.Bool.{Bool, true, false}
 use mathlib.Core.Logic.{◌⊎◌, ⊎_elim}
 use Prim.Native.Nat.{ℕ, zero, suc, ◌+◌, ◌-◌, ◌<◌, ◌≤◌}
 use native.Mathlib.Omega.{arith}
-use lib.ListN.{length, get_or-eq_default}
+use lib.ListN.{length}
 use lib.Dec.{eqb}
 use borrow.Author.Tests.{eqb-false, eq-eqb, ne_eqb, lt-ltb, le-ltb}
 use Rattle.laws.specs.Choice.{pick}
@@ -13,7 +13,7 @@ use Rattle.laws.proofs.Choice.{pick_true, pick_false, by_cases}
 use Rattle.tokens.specs.Tokens.{between}
 use Rattle.contract.specs.Table.{not_kind, string_kind, at_least_kind}
 use Rattle.entries.specs.Draft.{Draft, note, counted, mention, number_in, put}
-use Rattle.reading.specs.Grammar.{is_one_of, operators, comparisons}
+use Rattle.reading.specs.Grammar.{is_one_of, comparisons}
 use Rattle.reading_laws.specs.Walk.{Walk, draft, counting, nodes, operator_node, negations, next_of, inner_start, inner_end, string_leaf, nots}
 use Rattle.reading_laws.specs.Walk.{Cursor}
 
@@ -24,30 +24,9 @@ unfolding pick
 one true = refl
 one false = refl
 
-two : (a b : Bool) → a || b ≡ pick a true (pick b true false)
-unfolding pick
-two true b = refl
-two false true = refl
-two false false = refl
-
 pub one_of : (k j : ℕ) → eqb k j ≡ is_one_of (j ∷ []) k
 unfolding is_one_of
 one_of k j = one (eqb k j)
-
-pub one_of_two : (k i j : ℕ) → eqb k i || eqb k j ≡ is_one_of (i ∷ j ∷ []) k
-unfolding is_one_of
-one_of_two k i j = two (eqb k i) (eqb k j)
-
-pub no_operator : (r k : ℕ) → 4 ≤ r → is_one_of (operators r) k ≡ false
-unfolding is_one_of
-no_operator r k h = ap (λ (l : List ℕ). is_one_of l k) (get_or-eq_default ((19 ∷ []) ∷ (18 ∷ []) ∷ (30 ∷ 31 ∷ []) ∷ (32 ∷ 33 ∷ []) ∷ []) [] h)
-
-pub four : (r : ℕ) → (r ≡ 0 → ⊥) → (r ≡ 1 → ⊥) → (r ≡ 2 → ⊥) → (r ≡ 3 → ⊥) → 4 ≤ r
-four zero a b c d = absurd (a refl)
-four (suc zero) a b c d = absurd (b refl)
-four (suc (suc zero)) a b c d = absurd (c refl)
-four (suc (suc (suc zero))) a b c d = absurd (d refl)
-four (suc (suc (suc (suc r)))) a b c d = omega arith
 
 low : (k : ℕ) → 14 ≤ k → k ≤ 17 → (k ≡ 14 → ⊥) → (k ≡ 15 → ⊥) → (k ≡ 16 → ⊥) → (k ≡ 17 → ⊥) → ⊥
 low k a b n1 n2 n4 n6 = omega arith

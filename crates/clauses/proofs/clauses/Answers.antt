@@ -13,8 +13,8 @@ pub returns-then-text-gt-TEXT : goal.returns-then-text-gt-TEXT
 returns-then-text-gt-TEXT c =
     let z = c.args in
     let e = c.leave.ensures in
-    let p = refuses z.text.now _ _ _ z.table.now z.notes.now _ _ (omega (arith, c.if-text-gt-TEXT.true)) c.stop.ensures.result_value c.stop.ensures.result_value_2 e.value e.table_after e.notes_after in
-    record { result_value = p.0; table_after = p.1.0; notes_after = p.1.1 }
+    let p = refuses z.text.now _ _ _ z.table.now z.notes.now _ _ (omega (arith, c.if-text-gt-TEXT.true)) c.stop.ensures.value c.stop.ensures.stops e.value e.table_after e.notes_after in
+    record { value = p.0; table_after = p.1.0; notes_after = p.1.1 }
 
 pub returns : goal.returns
 returns c =
@@ -23,4 +23,4 @@ returns c =
     let d = draft z.table.now z.notes.now in
     let e = c.leave-2.ensures in
     let p = leaves s (λ (x : Cursor). walk.clauses s (length s) x d) z.c _ _ _ z.table.now z.notes.now _ _ _ _ (omega (arith, c.if-text-gt-TEXT.false)) c.going.ensures c.clauses-r.ensures.value c.clauses-r.ensures.same_lists.1.0 c.clauses-r.ensures.same_lists.1.1 e.value (e.table_after ∙ ap (left_after c.clauses-r.result) (search rules)) (e.notes_after ∙ ap (left_after c.clauses-r.result) (search rules)) in
-    record { result_value = p.0; table_after = p.1.0; notes_after = p.1.1 }
+    record { value = p.0; table_after = p.1.0; notes_after = p.1.1 }

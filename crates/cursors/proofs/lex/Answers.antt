@@ -7,7 +7,7 @@ pub returns-in-Found : goal.returns-in-Found
 returns-in-Found c =
     let x = c in
     let e = c.pack.ensures in record {
-      cursor_in = cursor_in_found x.args.text.now c.pack.result x.args.at _ (sym c.next-found.ensures ∙ c.in-Found.is)
+      value = cursor_in_found x.args.text.now c.pack.result x.args.at _ (sym c.next-found.ensures ∙ c.in-Found.is)
           (record { kind = e.kind; question = e.question; start = e.start; end = e.end; place = e.at });
       goes = e.goes;
     }
@@ -16,7 +16,7 @@ pub returns-in-Refused : goal.returns-in-Refused
 returns-in-Refused c =
     let x = c in
     let e = c.pack-in-Refused.ensures in record {
-      cursor_in = cursor_in_refused x.args.text.now c.pack-in-Refused.result x.args.at _ _ (sym c.next-found.ensures ∙ c.in-Refused.is)
+      value = cursor_in_refused x.args.text.now c.pack-in-Refused.result x.args.at _ _ (sym c.next-found.ensures ∙ c.in-Refused.is)
           (record { kind = e.kind; question = e.question; start = e.start; end = e.end; place = e.at });
       goes = e.goes;
     }
@@ -25,7 +25,7 @@ pub returns-in-End : goal.returns-in-End
 returns-in-End c =
     let x = c in
     let e = c.pack-in-End.ensures in record {
-      cursor_in = cursor_in_end x.args.text.now c.pack-in-End.result x.args.at (sym c.next-found.ensures ∙ c.in-End.is)
+      value = cursor_in_end x.args.text.now c.pack-in-End.result x.args.at (sym c.next-found.ensures ∙ c.in-End.is)
           (record { kind = e.kind; question = e.question; start = e.start; end = e.end; place = e.at });
       goes = e.goes;
     }

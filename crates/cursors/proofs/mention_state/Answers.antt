@@ -13,4 +13,4 @@ returns c =
     let p = walk.draft a.table.now a.notes.now in
     let start = c.start_of-start.ensures in
     let end = c.end_of-end.ensures in
-    let e = c.mention.ensures in record { value = e.value ∙ (λ t. number_in a.text.now a.notes.now 5 (between a.text.now (start t) (end t))); table_after = e.table_value ∙ (λ t. (mention a.text.now 5 (start t) (end t) (start t) p).table); notes_after = e.notes_after ∙ (λ t. (mention a.text.now 5 (start t) (end t) (start t) p).notes) }
+    let e = c.mention.ensures in record { value = e.value ∙ (λ t. number_in a.text.now a.notes.now 5 (between a.text.now (start t) (end t))); table_after = e.table_after ∙ (λ t. (mention a.text.now 5 (start t) (end t) (start t) p).table); notes_after = e.notes_after ∙ (λ t. (mention a.text.now 5 (start t) (end t) (start t) p).notes) }

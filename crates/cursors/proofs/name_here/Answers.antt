@@ -21,5 +21,5 @@ returns-then-kind_of-eq-NAME c =
 pub returns : goal.returns
 unfolding walk.name_here cursor_in
 returns c =
-    c.unfit.ensures.result_value
+    c.unfit.ensures.value
     ∙ sym (pick_false _ _ _ (ne_eqb _ _ (λ e. c.if-kind_of-eq-NAME.false (c.kind_of.ensures ∙ e))))

@@ -14,7 +14,7 @@ unfolding walk.state_at cursor_in clipped_step
 returns-then-kind_of-eq-AT_SIGN c =
     let s = c.args.text.now in
     c.name_here.ensures
-    ∙ ap (walk.name_here s) c.lex.ensures.cursor_in
+    ∙ ap (walk.name_here s) c.lex.ensures.value
     ∙ ap (λ (x : ℕ). walk.name_here s (clipped s (walk.cursor_at s x))) c.end_of.ensures
     ∙ name_clipped s _
     ∙ sym (ap (clipped_step s) (pick_true _ _ _ (eq-eqb _ _ (sym c.kind_of.ensures ∙ c.if-kind_of-eq-AT_SIGN.true))))
@@ -23,6 +23,6 @@ pub returns : goal.returns
 unfolding walk.state_at cursor_in clipped_step
 returns c =
     let z = c.args in
-    c.unfit.ensures.result_value
+    c.unfit.ensures.value
     ∙ (λ i. Stop (question_in z.c) (start_clipped z.c i))
     ∙ sym (ap (clipped_step z.text.now) (pick_false _ _ _ (ne_eqb _ _ (λ e. c.if-kind_of-eq-AT_SIGN.false (c.kind_of.ensures ∙ e)))))

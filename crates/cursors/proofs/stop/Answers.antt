@@ -8,4 +8,4 @@ use Rattle.cursors.proofs.stop.Goals as goal
 pub returns : goal.returns
 returns c =
     let a = c.args in
-    record { result_value = refusal_step_in [] a.question (a.place % 32768) (omega arith) (omega arith); result_value_2 = refusal_stops a.question (a.place % 32768) }
+    record { value = refusal_step_in [] a.question (a.place % 32768) (omega arith) (omega arith); stops = refusal_stops a.question (a.place % 32768) }

@@ -15,7 +15,7 @@ unfolding walk.token cursor_in clipped_step
 returns-then-kind_of-kind c =
     let s = c.args.text.now in
     step_in_on s c.lex.result c.lex.ensures.goes
-    ∙ ap On c.lex.ensures.cursor_in
+    ∙ ap On c.lex.ensures.value
     ∙ ap (λ (x : ℕ). On (clipped s (walk.cursor_at s x))) c.end_of.ensures
     ∙ sym (ap (clipped_step s) (pick_true _ _ _ (eq-eqb _ _ (sym c.kind_of.ensures ∙ c.if-kind_of-kind.true))))
 
@@ -23,6 +23,6 @@ pub returns : goal.returns
 unfolding walk.token cursor_in clipped_step
 returns c =
     let z = c.args in
-    c.unfit.ensures.result_value
+    c.unfit.ensures.value
     ∙ (λ i. Stop (question_in z.c) (start_clipped z.c i))
     ∙ sym (ap (clipped_step z.text.now) (pick_false _ _ _ (ne_eqb _ _ (λ e. c.if-kind_of-kind.false (c.kind_of.ensures ∙ e)))))

@@ -14,7 +14,7 @@ returns c =
     let z = c.args in
     let s = z.text.now in
     let e = c.stop.ensures in record {
-      result_value = step_in_any s [] c.stop.result e.result_value_2 ∙ e.result_value ∙ (λ t. Stop (c.question_of.ensures t) (c.start_of.ensures t % 32768))
+      value = step_in_any s [] c.stop.result e.stops ∙ e.value ∙ (λ t. Stop (c.question_of.ensures t) (c.start_of.ensures t % 32768))
           ∙ (λ t. Stop (question_in z.c) (sym (start_clipped z.c) t));
-      result_value_2 = e.result_value_2;
+      stops = e.stops;
     }

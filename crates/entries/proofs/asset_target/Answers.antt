@@ -9,11 +9,11 @@ returns-in-Some c =
     let x = c.of-name.result in
     let o = c.of-name.ensures in
     asset_party x.text.now c.args.notes.now x.word.now _ c.seek.ensures _ _ c.in-Some.is
-    ∙ (λ i. asset_target (o.text_value i) c.args.notes.now c.args.handler (o.word_value i))
+    ∙ (λ i. asset_target (o.text i) c.args.notes.now c.args.handler (o.word i))
 
 pub returns : goal.returns
 returns c =
     let x = c.of-name.result in
     let o = c.of-name.ensures in
     c.holder.ensures ∙ asset_rest x.text.now c.args.notes.now x.word.now _ c.seek.ensures _ c.in_default.is
-    ∙ (λ i. asset_target (o.text_value i) c.args.notes.now c.args.handler (o.word_value i))
+    ∙ (λ i. asset_target (o.text i) c.args.notes.now c.args.handler (o.word i))

@@ -10,12 +10,12 @@ returns-then-row-lt-CLAUSES c =
     let o = c.of.ensures in
     let u = c.use_name-party.ensures in
     record {
-      table_value =
+      table_after =
           party_row a.text.now a.start a.end a.table.now a.notes.now _ _ _ c.word-row.ensures
-          (u.value ∙ (λ i. number_in (o.text_value i) a.notes.now 0 (o.word_value i))) c.if-row-lt-CLAUSES.true c.set.ensures;
+          (u.value ∙ (λ i. number_in (o.text i) a.notes.now 0 (o.word i))) c.if-row-lt-CLAUSES.true c.set.ensures;
       notes_after =
           party_used_lem a.text.now a.start a.end a.table.now a.notes.now _
-          (u.notes_after ∙ (λ i. name_used (o.text_value i) 0 (o.start_value i) (o.end_value i) a.notes.now));
+          (u.notes_after ∙ (λ i. name_used (o.text i) 0 (o.start i) (o.end i) a.notes.now));
     }
 
 pub returns-else-row-lt-CLAUSES : goal.returns-else-row-lt-CLAUSES
@@ -23,8 +23,8 @@ returns-else-row-lt-CLAUSES c =
     let a = c.args in
     let o = c.of.ensures in
     record {
-      table_value = party_past a.text.now a.start a.end a.table.now a.notes.now _ c.word-row.ensures c.if-row-lt-CLAUSES.false;
+      table_after = party_past a.text.now a.start a.end a.table.now a.notes.now _ c.word-row.ensures c.if-row-lt-CLAUSES.false;
       notes_after =
           party_used_lem a.text.now a.start a.end a.table.now a.notes.now _
-          (c.use_name-party.ensures.notes_after ∙ (λ i. name_used (o.text_value i) 0 (o.start_value i) (o.end_value i) a.notes.now));
+          (c.use_name-party.ensures.notes_after ∙ (λ i. name_used (o.text i) 0 (o.start i) (o.end i) a.notes.now));
     }

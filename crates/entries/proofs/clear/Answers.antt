@@ -3,7 +3,7 @@ use Rattle.std.proofs.Common.{◌≡◌, ◌∙◌, ◌+◌, ◌-◌, ◌≤◌,
 use borrow.Rule.Slice.PartMut.{mid_of, same_len_mid}
 use Rattle.contract.proofs.Zeros.{length_zeros}
 use Rattle.contract.specs.Encode.{zeros}
-use Rattle.entries.proofs.Rows.{clear_none, clear_part, clear_all, zeros_all}
+use Rattle.entries.proofs.Rows.{clear_none, clear_part, zeros_all}
 use Rattle.entries.proofs.clear.Goals as goal
 
 pub loop-start-init : goal.loop-start-init

@@ -10,15 +10,15 @@ returns-then-n-limit c =
     let a = c.args in
     let o = c.of-name.ensures in
     let q = c.enter.ensures.value
-    ∙ (λ i. entered (o.text_value i) a.kind c.word-n.result (o.start_value i) (o.end_value i) (record { table = a.table.now; notes = c.declare_notes.new.notes }))
+    ∙ (λ i. entered (o.text i) a.kind c.word-n.result (o.start i) (o.end i) (record { table = a.table.now; notes = c.declare_notes.new.notes }))
     ∙ declare_more a.text.now a.table.now a.notes.now _ a.kind a.start a.end _ _ c.word-n.ensures c.limit.ensures
-    (c.declare_notes.ensures ∙ (λ i. declared_in (o.text_value i) a.kind (o.start_value i) (o.end_value i) a.notes.now)) c.if-n-limit.true in
-    record { table_value = ends_as (ap (λ (p : Draft). p.table) q) (search rules); notes_after = ends_as (ap (λ (p : Draft). p.notes) q) (search rules) }
+    (c.declare_notes.ensures ∙ (λ i. declared_in (o.text i) a.kind (o.start i) (o.end i) a.notes.now)) c.if-n-limit.true in
+    record { table_after = ends_as (ap (λ (p : Draft). p.table) q) (search rules); notes_after = ends_as (ap (λ (p : Draft). p.notes) q) (search rules) }
 
 pub returns-else-n-limit : goal.returns-else-n-limit
 returns-else-n-limit c =
     let a = c.args in
     let o = c.of-name.ensures in
     let q = declare_full a.text.now a.table.now a.notes.now _ a.kind a.start a.end _ _ c.word-n.ensures c.limit.ensures
-    (c.declare_notes.ensures ∙ (λ i. declared_in (o.text_value i) a.kind (o.start_value i) (o.end_value i) a.notes.now)) c.if-n-limit.false in
-    record { table_value = ap (λ (p : Draft). p.table) q; notes_after = ap (λ (p : Draft). p.notes) q }
+    (c.declare_notes.ensures ∙ (λ i. declared_in (o.text i) a.kind (o.start i) (o.end i) a.notes.now)) c.if-n-limit.false in
+    record { table_after = ap (λ (p : Draft). p.table) q; notes_after = ap (λ (p : Draft). p.notes) q }

@@ -1,5 +1,5 @@
 -- `entries::same_bytes` meets its contract. Assumes nothing.
-use mathlib.Core.Path.{refl, sym, ◌∙◌}
+use mathlib.Core.Path.{sym, ◌∙◌}
 use native.Mathlib.Omega.{arith}
 use Rattle.laws.proofs.Bytes.{same_length}
 use Rattle.entries.proofs.Finds.{same_more, same_other, same_all}

@@ -10,6 +10,6 @@ returns c =
     let o = c.of.ensures in
     let u = c.use_name.ensures in
     record {
-      value = u.value ∙ (λ i. number_in (o.text_value i) a.notes.now 0 (o.word_value i));
-      notes_after = u.notes_after ∙ (λ i. name_used (o.text_value i) 0 (o.start_value i) (o.end_value i) a.notes.now);
+      value = u.value ∙ (λ i. number_in (o.text i) a.notes.now 0 (o.word i));
+      notes_after = u.notes_after ∙ (λ i. name_used (o.text i) 0 (o.start i) (o.end i) a.notes.now);
     }

@@ -10,11 +10,11 @@ pub returns-in-Some : goal.returns-in-Some
 returns-in-Some c =
     let x = c.of-name.result in
     let o = c.of-name.ensures in
-    value_party x.text.now c.args.notes.now x.word.now _ c.seek.ensures _ c.in-Some.is ∙ (λ i. value_target (o.text_value i) c.args.notes.now (o.word_value i))
+    value_party x.text.now c.args.notes.now x.word.now _ c.seek.ensures _ c.in-Some.is ∙ (λ i. value_target (o.text i) c.args.notes.now (o.word i))
 
 pub returns : goal.returns
 returns c =
     let x = c.of-name.result in
     let o = c.of-name.ensures in
     value_rest x.text.now c.args.notes.now x.word.now _ c.seek.ensures _ _ c.in_default.is c.seek-2.ensures (c.unwrap_or.ensures ∙ ap (λ (u : Known). unwrap_or c.seek-2.result u) c.unknown.ensures)
-    ∙ (λ i. value_target (o.text_value i) c.args.notes.now (o.word_value i))
+    ∙ (λ i. value_target (o.text i) c.args.notes.now (o.word i))

@@ -1,6 +1,6 @@
 -- `reader::close` meets its contract. Assumes nothing.
 use mathlib.Core.Path.{◌∙◌}
-use Rattle.reader.proofs.close.Goals.{then-excess-eq0+else-rules_kept, else-excess-eq0}
+use Rattle.reader.proofs.close.Goals.{else-excess-eq0-via-then-excess-eq0+else-rules_kept, else-excess-eq0-via-else-excess-eq0}
 use Rattle.reading_laws.proofs.Enclosing.{closed_kept, closed_broken, closed_excess}
 use Rattle.reader.proofs.close.Goals as goal
 
@@ -11,7 +11,7 @@ returns-then-rules_kept c =
 pub returns : goal.returns
 returns c =
     c.find.ensures
-    ∙ (elim c.if-excess-eq0.branch [
-      | then-excess-eq0+else-rules_kept w ↦ closed_broken _ _ _ _ _ _ _ c.word-excess.ensures w.if-excess-eq0.true w.word-clauses.ensures w.word-parties.ensures w.rules_kept.ensures w.if-rules_kept.false
-      | else-excess-eq0 w ↦ closed_excess _ _ _ _ c.word-excess.ensures w.if-excess-eq0.false
+    ∙ (elim c.else-excess-eq0.branch [
+      | else-excess-eq0-via-then-excess-eq0+else-rules_kept w ↦ closed_broken _ _ _ _ _ _ _ c.word-excess.ensures w.if-excess-eq0.true c.word-clauses.ensures c.word-parties.ensures w.rules_kept.ensures w.if-rules_kept.false
+      | else-excess-eq0-via-else-excess-eq0 w ↦ closed_excess _ _ _ _ c.word-excess.ensures w.if-excess-eq0.false
     ])

@@ -14,4 +14,4 @@ returns-then-kind_of-eq-NAME c =
 pub returns-else-kind_of-eq-NAME : goal.returns-else-kind_of-eq-NAME
 unfolding cursor_in
 returns-else-kind_of-eq-NAME c =
-    sym (pick_false _ _ _ (ne_eqb _ _ (λ e. c.if-kind_of-eq-NAME.false (c.kind_of.ensures ∙ e))))
+    ne_eqb _ _ c.if-kind_of-eq-NAME.false ∙ sym (pick_false _ _ _ (ne_eqb _ _ (λ e. c.if-kind_of-eq-NAME.false (c.kind_of.ensures ∙ e))))

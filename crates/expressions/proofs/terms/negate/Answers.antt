@@ -12,7 +12,7 @@ pub loop-preserved : goal.loop-preserved
 loop-preserved c =
     let l = c.loop in (
       ap (λ (k : ℕ). walk.negations k c.args.before (walk.draft c.put.new.table c.put.new.notes)) (fewer c.args.many l.counter)
-          ∙ negated (c.args.many - l.counter) _ _ _ _ _ (omega (arith, c.loop-test.true)) c.put.ensures.table_value c.put.ensures.notes_after ∙ l.invariant.0,
+          ∙ negated (c.args.many - l.counter) _ _ _ _ _ (omega (arith, c.loop-test.true)) c.put.ensures.table_after c.put.ensures.notes_after ∙ l.invariant.0,
       (l.invariant.1.0, (c.put.auto.table ∙ l.invariant.1.1.0, c.put.auto.notes ∙ l.invariant.1.1.1)),
     )
 

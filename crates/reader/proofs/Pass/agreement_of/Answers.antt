@@ -11,7 +11,7 @@ unfolding walk.agreement
 returns-then-stops-clause-value c =
     let short = c.args.self.now.short in
     let f = packed.halts c.args.self.now.text.now _ _ c.stops.ensures c.if-stops.true in
-    is_stop_lem _ _ _ _ _ _ (after_stop _ _ _ _ (sym (tokened _ _ _ _ short c.token-a.ensures) ∙ f)) f
+    is_stop_lem _ _ _ _ _ _ (after_stop _ _ _ _ (sym (tokened _ _ _ _ short c.token-word.ensures) ∙ f)) f
 
 pub returns-then-stops-2-clause-value : goal.returns-then-stops-2-clause-value
 unfolding walk.agreement
@@ -20,16 +20,16 @@ returns-then-stops-2-clause-value c =
     let s = c.args.self.now.text.now in
     let f = packed.halts s _ _ c.stops-2.ensures c.if-stops-2.true in
     is_stop_lem _ _ _ _ _ _
-    (after_on _ _ _ (sym (tokened _ _ _ _ short c.token-a.ensures) ∙ packed.keeps s _ _ c.stops.ensures c.if-stops.false) ∙ after_stop _ _ _ _ (sym (tokened _ _ _ _ short c.token-b.ensures) ∙ f)) f
+    (after_on _ _ _ (sym (tokened _ _ _ _ short c.token-word.ensures) ∙ packed.keeps s _ _ c.stops.ensures c.if-stops.false) ∙ after_stop _ _ _ _ (sym (tokened _ _ _ _ short c.token-opened.ensures) ∙ f)) f
 
 pub returns-then-stops-3-clause-value : goal.returns-then-stops-3-clause-value
 unfolding walk.agreement
 returns-then-stops-3-clause-value c =
     let short = c.args.self.now.short in
     let s = c.args.self.now.text.now in
-    handed _ _ _ _ _ _ _ _ _ (agrees _ _ _ _ _ _ _ short (c.names-names.ensures.result_value, (c.names-names.ensures.table_after, c.names-names.ensures.notes_after))) (packed.halts s _ _ c.stops-3.ensures c.if-stops-3.true)
-    (λ e. after_on _ _ _ (sym (tokened _ _ _ _ short c.token-a.ensures) ∙ packed.keeps s _ _ c.stops.ensures c.if-stops.false)
-    ∙ after_on _ _ _ (sym (tokened _ _ _ _ short c.token-b.ensures) ∙ packed.keeps s _ _ c.stops-2.ensures c.if-stops-2.false)
+    handed _ _ _ _ _ _ _ _ _ (agrees _ _ _ _ _ _ _ short (c.names-names.ensures.value, (c.names-names.ensures.table_after, c.names-names.ensures.notes_after))) (packed.halts s _ _ c.stops-3.ensures c.if-stops-3.true)
+    (λ e. after_on _ _ _ (sym (tokened _ _ _ _ short c.token-word.ensures) ∙ packed.keeps s _ _ c.stops.ensures c.if-stops.false)
+    ∙ after_on _ _ _ (sym (tokened _ _ _ _ short c.token-opened.ensures) ∙ packed.keeps s _ _ c.stops-2.ensures c.if-stops-2.false)
     ∙ follow_stop _ _ _ _ e)
 
 pub returns-then-stops-4-clause-value : goal.returns-then-stops-4-clause-value
@@ -39,10 +39,10 @@ returns-then-stops-4-clause-value c =
     let s = c.args.self.now.text.now in
     let f = packed.halts s _ _ c.stops-4.ensures c.if-stops-4.true in
     is_stop_lem _ _ _ _ _ _
-    (after_on _ _ _ (sym (tokened _ _ _ _ short c.token-a.ensures) ∙ packed.keeps s _ _ c.stops.ensures c.if-stops.false)
-    ∙ after_on _ _ _ (sym (tokened _ _ _ _ short c.token-b.ensures) ∙ packed.keeps s _ _ c.stops-2.ensures c.if-stops-2.false)
-    ∙ follow_on _ _ _ _ (went _ _ _ _ _ (agrees _ _ _ _ _ _ _ short (c.names-names.ensures.result_value, (c.names-names.ensures.table_after, c.names-names.ensures.notes_after))) (packed.keeps s _ _ c.stops-3.ensures c.if-stops-3.false))
-    ∙ after_stop _ _ _ _ (sym (tokened _ _ _ _ short c.token-g.ensures) ∙ f)) f
+    (after_on _ _ _ (sym (tokened _ _ _ _ short c.token-word.ensures) ∙ packed.keeps s _ _ c.stops.ensures c.if-stops.false)
+    ∙ after_on _ _ _ (sym (tokened _ _ _ _ short c.token-opened.ensures) ∙ packed.keeps s _ _ c.stops-2.ensures c.if-stops-2.false)
+    ∙ follow_on _ _ _ _ (went _ _ _ _ _ (agrees _ _ _ _ _ _ _ short (c.names-names.ensures.value, (c.names-names.ensures.table_after, c.names-names.ensures.notes_after))) (packed.keeps s _ _ c.stops-3.ensures c.if-stops-3.false))
+    ∙ after_stop _ _ _ _ (sym (tokened _ _ _ _ short c.token-closed.ensures) ∙ f)) f
 
 pub returns-then-stops-5-clause-value : goal.returns-then-stops-5-clause-value
 unfolding walk.agreement
@@ -51,11 +51,11 @@ returns-then-stops-5-clause-value c =
     let s = c.args.self.now.text.now in
     let f = packed.halts s _ _ c.stops-5.ensures c.if-stops-5.true in
     is_stop_lem _ _ _ _ _ _
-    (after_on _ _ _ (sym (tokened _ _ _ _ short c.token-a.ensures) ∙ packed.keeps s _ _ c.stops.ensures c.if-stops.false)
-    ∙ after_on _ _ _ (sym (tokened _ _ _ _ short c.token-b.ensures) ∙ packed.keeps s _ _ c.stops-2.ensures c.if-stops-2.false)
-    ∙ follow_on _ _ _ _ (went _ _ _ _ _ (agrees _ _ _ _ _ _ _ short (c.names-names.ensures.result_value, (c.names-names.ensures.table_after, c.names-names.ensures.notes_after))) (packed.keeps s _ _ c.stops-3.ensures c.if-stops-3.false))
-    ∙ after_on _ _ _ (sym (tokened _ _ _ _ short c.token-g.ensures) ∙ packed.keeps s _ _ c.stops-4.ensures c.if-stops-4.false)
-    ∙ after_stop _ _ _ _ (sym (tokened _ _ _ _ short c.token-i.ensures) ∙ f)) f
+    (after_on _ _ _ (sym (tokened _ _ _ _ short c.token-word.ensures) ∙ packed.keeps s _ _ c.stops.ensures c.if-stops.false)
+    ∙ after_on _ _ _ (sym (tokened _ _ _ _ short c.token-opened.ensures) ∙ packed.keeps s _ _ c.stops-2.ensures c.if-stops-2.false)
+    ∙ follow_on _ _ _ _ (went _ _ _ _ _ (agrees _ _ _ _ _ _ _ short (c.names-names.ensures.value, (c.names-names.ensures.table_after, c.names-names.ensures.notes_after))) (packed.keeps s _ _ c.stops-3.ensures c.if-stops-3.false))
+    ∙ after_on _ _ _ (sym (tokened _ _ _ _ short c.token-closed.ensures) ∙ packed.keeps s _ _ c.stops-4.ensures c.if-stops-4.false)
+    ∙ after_stop _ _ _ _ (sym (tokened _ _ _ _ short c.token-inside.ensures) ∙ f)) f
 
 pub returns-clause-value : goal.returns-clause-value
 unfolding walk.agreement
@@ -64,9 +64,9 @@ returns-clause-value c =
     let s = c.args.self.now.text.now in
     leaves_same _ _ _ _ _
     (sym
-    (after_on _ _ _ (sym (tokened _ _ _ _ short c.token-a.ensures) ∙ packed.keeps s _ _ c.stops.ensures c.if-stops.false)
-    ∙ after_on _ _ _ (sym (tokened _ _ _ _ short c.token-b.ensures) ∙ packed.keeps s _ _ c.stops-2.ensures c.if-stops-2.false)
-    ∙ follow_on _ _ _ _ (went _ _ _ _ _ (agrees _ _ _ _ _ _ _ short (c.names-names.ensures.result_value, (c.names-names.ensures.table_after, c.names-names.ensures.notes_after))) (packed.keeps s _ _ c.stops-3.ensures c.if-stops-3.false))
-    ∙ after_on _ _ _ (sym (tokened _ _ _ _ short c.token-g.ensures) ∙ packed.keeps s _ _ c.stops-4.ensures c.if-stops-4.false)
-    ∙ after_on _ _ _ (sym (tokened _ _ _ _ short c.token-i.ensures) ∙ packed.keeps s _ _ c.stops-5.ensures c.if-stops-5.false)))
+    (after_on _ _ _ (sym (tokened _ _ _ _ short c.token-word.ensures) ∙ packed.keeps s _ _ c.stops.ensures c.if-stops.false)
+    ∙ after_on _ _ _ (sym (tokened _ _ _ _ short c.token-opened.ensures) ∙ packed.keeps s _ _ c.stops-2.ensures c.if-stops-2.false)
+    ∙ follow_on _ _ _ _ (went _ _ _ _ _ (agrees _ _ _ _ _ _ _ short (c.names-names.ensures.value, (c.names-names.ensures.table_after, c.names-names.ensures.notes_after))) (packed.keeps s _ _ c.stops-3.ensures c.if-stops-3.false))
+    ∙ after_on _ _ _ (sym (tokened _ _ _ _ short c.token-closed.ensures) ∙ packed.keeps s _ _ c.stops-4.ensures c.if-stops-4.false)
+    ∙ after_on _ _ _ (sym (tokened _ _ _ _ short c.token-inside.ensures) ∙ packed.keeps s _ _ c.stops-5.ensures c.if-stops-5.false)))
     c.agreement_rest.ensures.value

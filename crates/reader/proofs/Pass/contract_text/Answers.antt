@@ -12,8 +12,8 @@ unfolding walk.contract
 returns-then-stops-clause-value c =
     let short = c.args.self.now.short in
     let g = c.args in
-    handed _ _ _ _ _ _ _ _ _ c.opening-a.ensures.value (packed.halts g.self.now.text.now _ _ c.stops.ensures c.if-stops.true)
-    (λ e. follow_stop _ _ _ _ (ap (λ (x : Cursor). walk.opening g.self.now.text.now x (walk.draft g.lent.now.table.now g.lent.now.notes.now)) (sym (lexed_first _ _ short c.lex.ensures.cursor_in)) ∙ e))
+    handed _ _ _ _ _ _ _ _ _ c.opening-opened.ensures.value (packed.halts g.self.now.text.now _ _ c.stops.ensures c.if-stops.true)
+    (λ e. follow_stop _ _ _ _ (ap (λ (x : Cursor). walk.opening g.self.now.text.now x (walk.draft g.lent.now.table.now g.lent.now.notes.now)) (sym (lexed_first _ _ short c.lex.ensures.value)) ∙ e))
 
 pub returns-then-stops-2-clause-value : goal.returns-then-stops-2-clause-value
 unfolding walk.contract
@@ -21,9 +21,9 @@ returns-then-stops-2-clause-value c =
     let short = c.args.self.now.short in
     let g = c.args in
     let s = g.self.now.text.now in
-    let o = went _ _ _ _ _ c.opening-a.ensures.value (packed.keeps s _ _ c.stops.ensures c.if-stops.false) in
-    handed _ _ _ _ _ _ _ _ _ c.declarations-b.ensures.value (packed.halts s _ _ c.stops-2.ensures c.if-stops-2.true)
-    (λ e. follow_on _ _ _ _ (ap (λ (x : Cursor). walk.opening s x (walk.draft g.lent.now.table.now g.lent.now.notes.now)) (sym (lexed_first _ _ short c.lex.ensures.cursor_in)) ∙ o)
+    let o = went _ _ _ _ _ c.opening-opened.ensures.value (packed.keeps s _ _ c.stops.ensures c.if-stops.false) in
+    handed _ _ _ _ _ _ _ _ _ c.declarations-declared.ensures.value (packed.halts s _ _ c.stops-2.ensures c.if-stops-2.true)
+    (λ e. follow_on _ _ _ _ (ap (λ (x : Cursor). walk.opening s x (walk.draft g.lent.now.table.now g.lent.now.notes.now)) (sym (lexed_first _ _ short c.lex.ensures.value)) ∙ o)
     ∙ follow_stop _ _ _ _ e)
 
 pub returns-then-stops-3-clause-value : goal.returns-then-stops-3-clause-value
@@ -32,10 +32,10 @@ returns-then-stops-3-clause-value c =
     let short = c.args.self.now.short in
     let g = c.args in
     let s = g.self.now.text.now in
-    let o = went _ _ _ _ _ c.opening-a.ensures.value (packed.keeps s _ _ c.stops.ensures c.if-stops.false) in
-    handed _ _ _ _ _ _ _ _ _ c.agreement_of-e.ensures.value (packed.halts s _ _ c.stops-3.ensures c.if-stops-3.true)
-    (λ e. follow_on _ _ _ _ (ap (λ (x : Cursor). walk.opening s x (walk.draft g.lent.now.table.now g.lent.now.notes.now)) (sym (lexed_first _ _ short c.lex.ensures.cursor_in)) ∙ o)
-    ∙ follow_on _ _ _ _ (went _ _ _ _ _ c.declarations-b.ensures.value (packed.keeps s _ _ c.stops-2.ensures c.if-stops-2.false))
+    let o = went _ _ _ _ _ c.opening-opened.ensures.value (packed.keeps s _ _ c.stops.ensures c.if-stops.false) in
+    handed _ _ _ _ _ _ _ _ _ c.agreement_of-agreed.ensures.value (packed.halts s _ _ c.stops-3.ensures c.if-stops-3.true)
+    (λ e. follow_on _ _ _ _ (ap (λ (x : Cursor). walk.opening s x (walk.draft g.lent.now.table.now g.lent.now.notes.now)) (sym (lexed_first _ _ short c.lex.ensures.value)) ∙ o)
+    ∙ follow_on _ _ _ _ (went _ _ _ _ _ c.declarations-declared.ensures.value (packed.keeps s _ _ c.stops-2.ensures c.if-stops-2.false))
     ∙ follow_stop _ _ _ _ e)
 
 pub returns-then-stops-4-clause-value : goal.returns-then-stops-4-clause-value
@@ -44,11 +44,11 @@ returns-then-stops-4-clause-value c =
     let short = c.args.self.now.short in
     let g = c.args in
     let s = g.self.now.text.now in
-    let o = went _ _ _ _ _ c.opening-a.ensures.value (packed.keeps s _ _ c.stops.ensures c.if-stops.false) in
-    handed _ _ _ _ _ _ _ _ _ (agrees _ _ _ _ _ _ _ short (c.functions-g.ensures.result_value, (c.functions-g.ensures.table_after, c.functions-g.ensures.notes_after))) (packed.halts s _ _ c.stops-4.ensures c.if-stops-4.true)
-    (λ e. follow_on _ _ _ _ (ap (λ (x : Cursor). walk.opening s x (walk.draft g.lent.now.table.now g.lent.now.notes.now)) (sym (lexed_first _ _ short c.lex.ensures.cursor_in)) ∙ o)
-    ∙ follow_on _ _ _ _ (went _ _ _ _ _ c.declarations-b.ensures.value (packed.keeps s _ _ c.stops-2.ensures c.if-stops-2.false))
-    ∙ follow_on _ _ _ _ (went _ _ _ _ _ c.agreement_of-e.ensures.value (packed.keeps s _ _ c.stops-3.ensures c.if-stops-3.false))
+    let o = went _ _ _ _ _ c.opening-opened.ensures.value (packed.keeps s _ _ c.stops.ensures c.if-stops.false) in
+    handed _ _ _ _ _ _ _ _ _ (agrees _ _ _ _ _ _ _ short (c.functions-after.ensures.value, (c.functions-after.ensures.table_after, c.functions-after.ensures.notes_after))) (packed.halts s _ _ c.stops-4.ensures c.if-stops-4.true)
+    (λ e. follow_on _ _ _ _ (ap (λ (x : Cursor). walk.opening s x (walk.draft g.lent.now.table.now g.lent.now.notes.now)) (sym (lexed_first _ _ short c.lex.ensures.value)) ∙ o)
+    ∙ follow_on _ _ _ _ (went _ _ _ _ _ c.declarations-declared.ensures.value (packed.keeps s _ _ c.stops-2.ensures c.if-stops-2.false))
+    ∙ follow_on _ _ _ _ (went _ _ _ _ _ c.agreement_of-agreed.ensures.value (packed.keeps s _ _ c.stops-3.ensures c.if-stops-3.false))
     ∙ follow_stop _ _ _ _ e)
 
 pub returns-clause-value : goal.returns-clause-value
@@ -57,11 +57,11 @@ returns-clause-value c =
     let short = c.args.self.now.short in
     let g = c.args in
     let s = g.self.now.text.now in
-    let o = went _ _ _ _ _ c.opening-a.ensures.value (packed.keeps s _ _ c.stops.ensures c.if-stops.false) in
+    let o = went _ _ _ _ _ c.opening-opened.ensures.value (packed.keeps s _ _ c.stops.ensures c.if-stops.false) in
     leaves_same _ _ _ _ _
     (sym
-    (follow_on _ _ _ _ (ap (λ (x : Cursor). walk.opening s x (walk.draft g.lent.now.table.now g.lent.now.notes.now)) (sym (lexed_first _ _ short c.lex.ensures.cursor_in)) ∙ o)
-    ∙ follow_on _ _ _ _ (went _ _ _ _ _ c.declarations-b.ensures.value (packed.keeps s _ _ c.stops-2.ensures c.if-stops-2.false))
-    ∙ follow_on _ _ _ _ (went _ _ _ _ _ c.agreement_of-e.ensures.value (packed.keeps s _ _ c.stops-3.ensures c.if-stops-3.false))
-    ∙ follow_on _ _ _ _ (went _ _ _ _ _ (agrees _ _ _ _ _ _ _ short (c.functions-g.ensures.result_value, (c.functions-g.ensures.table_after, c.functions-g.ensures.notes_after))) (packed.keeps s _ _ c.stops-4.ensures c.if-stops-4.false))))
+    (follow_on _ _ _ _ (ap (λ (x : Cursor). walk.opening s x (walk.draft g.lent.now.table.now g.lent.now.notes.now)) (sym (lexed_first _ _ short c.lex.ensures.value)) ∙ o)
+    ∙ follow_on _ _ _ _ (went _ _ _ _ _ c.declarations-declared.ensures.value (packed.keeps s _ _ c.stops-2.ensures c.if-stops-2.false))
+    ∙ follow_on _ _ _ _ (went _ _ _ _ _ c.agreement_of-agreed.ensures.value (packed.keeps s _ _ c.stops-3.ensures c.if-stops-3.false))
+    ∙ follow_on _ _ _ _ (went _ _ _ _ _ (agrees _ _ _ _ _ _ _ short (c.functions-after.ensures.value, (c.functions-after.ensures.table_after, c.functions-after.ensures.notes_after))) (packed.keeps s _ _ c.stops-4.ensures c.if-stops-4.false))))
     (steps_on _ _ _ _ c.ending.ensures)

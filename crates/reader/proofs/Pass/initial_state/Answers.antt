@@ -13,7 +13,7 @@ unfolding walk.initial_state
 returns-then-stops-clause-value c =
     let short = c.args.self.now.short in
     let f = packed.halts c.args.self.now.text.now _ _ c.stops.ensures c.if-stops.true in
-    is_stop_lem _ _ _ _ _ _ (after_stop _ _ _ _ (sym (tokened _ _ _ _ short c.token-a.ensures) ∙ f)) f
+    is_stop_lem _ _ _ _ _ _ (after_stop _ _ _ _ (sym (tokened _ _ _ _ short c.token-mark.ensures) ∙ f)) f
 
 pub returns-then-stops-2-clause-value : goal.returns-then-stops-2-clause-value
 unfolding walk.initial_state
@@ -22,7 +22,7 @@ returns-then-stops-2-clause-value c =
     let s = c.args.self.now.text.now in
     let f = packed.halts s _ _ c.stops-2.ensures c.if-stops-2.true in
     is_stop_lem _ _ _ _ _ _
-    (after_on _ _ _ (sym (tokened _ _ _ _ short c.token-a.ensures) ∙ packed.keeps s _ _ c.stops.ensures c.if-stops.false) ∙ after_stop _ _ _ _ (sym (stated _ _ _ short c.state_at-b.ensures) ∙ f)) f
+    (after_on _ _ _ (sym (tokened _ _ _ _ short c.token-mark.ensures) ∙ packed.keeps s _ _ c.stops.ensures c.if-stops.false) ∙ after_stop _ _ _ _ (sym (stated _ _ _ short c.state_at-name.ensures) ∙ f)) f
 
 pub returns-clause-value : goal.returns-clause-value
 unfolding walk.initial_state
@@ -31,7 +31,7 @@ returns-clause-value c =
     let s = c.args.self.now.text.now in
     let m = c.mention_state-state.ensures in
     goes _ _ _ _ _ _ _
-    (after_on _ _ _ (sym (tokened _ _ _ _ short c.token-a.ensures) ∙ packed.keeps s _ _ c.stops.ensures c.if-stops.false)
-    ∙ after_on _ _ _ (sym (stated _ _ _ short c.state_at-b.ensures) ∙ packed.keeps s _ _ c.stops-2.ensures c.if-stops-2.false))
-    (step_in_on s _ c.lex.ensures.goes) (packed.next_is s _ _ _ c.end_of.ensures (lexed _ _ _ _ short c.end_of.ensures c.lex.ensures.cursor_in))
+    (after_on _ _ _ (sym (tokened _ _ _ _ short c.token-mark.ensures) ∙ packed.keeps s _ _ c.stops.ensures c.if-stops.false)
+    ∙ after_on _ _ _ (sym (stated _ _ _ short c.state_at-name.ensures) ∙ packed.keeps s _ _ c.stops-2.ensures c.if-stops-2.false))
+    (step_in_on s _ c.lex.ensures.goes) (packed.next_is s _ _ _ c.end_of.ensures (lexed _ _ _ _ short c.end_of.ensures c.lex.ensures.value))
     (c.set.ensures ∙ (λ i. set (m.table_after i) 9 (m.value i))) m.notes_after

@@ -12,7 +12,7 @@ unfolding walk.opening
 returns-then-stops-clause-value c =
     let short = c.args.self.now.short in
     let f = packed.halts c.args.self.now.text.now _ _ c.stops.ensures c.if-stops.true in
-    is_stop_lem _ _ _ _ _ _ (after_stop _ _ _ _ (sym (tokened _ _ _ _ short c.token-a.ensures) ∙ f)) f
+    is_stop_lem _ _ _ _ _ _ (after_stop _ _ _ _ (sym (tokened _ _ _ _ short c.token-after.ensures) ∙ f)) f
 
 pub returns-then-stops-2-clause-value : goal.returns-then-stops-2-clause-value
 unfolding walk.opening
@@ -21,12 +21,12 @@ returns-then-stops-2-clause-value c =
     let s = c.args.self.now.text.now in
     let f = packed.halts s _ _ c.stops-2.ensures c.if-stops-2.true in
     is_stop_lem _ _ _ _ _ _
-    (after_on _ _ _ (sym (tokened _ _ _ _ short c.token-a.ensures) ∙ packed.keeps s _ _ c.stops.ensures c.if-stops.false) ∙ after_stop _ _ _ _ (sym c.name_here-b.ensures ∙ f)) f
+    (after_on _ _ _ (sym (tokened _ _ _ _ short c.token-after.ensures) ∙ packed.keeps s _ _ c.stops.ensures c.if-stops.false) ∙ after_stop _ _ _ _ (sym c.name_here-name.ensures ∙ f)) f
 
 pub returns-clause-value : goal.returns-clause-value
 returns-clause-value c =
     let short = c.args.self.now.short in
     let s = c.args.self.now.text.now in
-    opens s _ _ _ _ _ _ _ _ _ _ _ (sym (tokened _ _ _ _ short c.token-a.ensures) ∙ packed.keeps s _ _ c.stops.ensures c.if-stops.false)
-    (sym c.name_here-b.ensures ∙ packed.keeps s _ _ c.stops-2.ensures c.if-stops-2.false) c.start_of.ensures c.end_of.ensures c.title.ensures
-    c.end_of-2.ensures (lexed _ _ _ _ short c.end_of-2.ensures c.lex.ensures.cursor_in) (tokened _ _ _ _ short c.token.ensures)
+    opens s _ _ _ _ _ _ _ _ _ _ _ (sym (tokened _ _ _ _ short c.token-after.ensures) ∙ packed.keeps s _ _ c.stops.ensures c.if-stops.false)
+    (sym c.name_here-name.ensures ∙ packed.keeps s _ _ c.stops-2.ensures c.if-stops-2.false) c.start_of.ensures c.end_of.ensures c.title.ensures
+    c.end_of-2.ensures (lexed _ _ _ _ short c.end_of-2.ensures c.lex.ensures.value) (tokened _ _ _ _ short c.token.ensures)

@@ -1,16 +1,17 @@
 -- `reader::agreement::agrees` meets its contract. Assumes nothing.
-use mathlib.Core.Path.{sym}
+use mathlib.Core.Path.{sym, ◌∙◌}
 use Rattle.laws.proofs.Choice.{pick_true}
 use Rattle.reading_laws.specs.Masks.{agrees_by_mask}
 use Rattle.reading_laws.proofs.Masked.{is_set_lem, ok_agrees}
+use Rattle.reader.proofs.Verbs.{word_set, word_not_set}
 use Rattle.reader.proofs.agreement.agrees.Goals as goal
 
-pub returns-then-c-eq0 : goal.returns-then-c-eq0
+pub returns-then-eq : goal.returns-then-eq
 unfolding agrees_by_mask
-returns-then-c-eq0 c =
-    sym (pick_true _ _ _ (is_set_lem _ _ _ c.clause_at-c.ensures c.if-c-eq0.true))
+returns-then-eq c =
+    sym (pick_true _ _ _ (is_set_lem _ _ _ c.clause_at-c.ensures (word_set _ _ c.from.ensures (sym c.eq.ensures ∙ c.if-eq.true))))
 
 pub returns : goal.returns
 returns c =
-    ok_agrees _ _ _ c.clause_at-c.ensures c.if-c-eq0.false _ _ _ _ c.with_fields.ensures
+    ok_agrees _ _ _ c.clause_at-c.ensures (word_not_set _ _ c.from.ensures (sym c.eq.ensures ∙ c.if-eq.false)) _ _ _ _ c.with_fields.ensures
     c.fields_set.ensures c.part_of.ensures

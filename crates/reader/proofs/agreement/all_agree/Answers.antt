@@ -1,19 +1,14 @@
 -- `reader::agreement::all_agree` meets its contract. Assumes nothing.
-use mathlib.Core.Path.{refl, ap}
-use mathlib.Core.Bool.{Bool, ◌&&◌}
-use Rattle.laws.specs.Lists.{every}
-use Rattle.reading_laws.proofs.Masked.{starts, turns, ends, every_more}
+use Rattle.std.proofs.Common.{rules, ◌∙◌, refl, arith, tests}
+use Rattle.std.proofs.lemmas.Iterator.{YieldsList-from_range}
+use Rattle.std.proofs.lemmas.Iterator.Search.{all_from_yields_List}
+use Rattle.reading_laws.specs.Masks.{row_of, rows_of, agrees_by_mask}
+use Rattle.reader.proofs.AllBelow.{range_each}
 use Rattle.reader.proofs.agreement.all_agree.Goals as goal
-
-pub loop-i-init : goal.loop-i-init
-unfolding every
-loop-i-init c = starts refl refl
-
-pub loop-i-preserved : goal.loop-i-preserved
-loop-i-preserved c =
-    turns c.loop-i.invariant c.loop-i-test.true
-    (every_more _ _ _ _ (ap (λ (b : Bool). b && c.loop-i.all) c.agrees-all.ensures))
 
 pub returns : goal.returns
 returns c =
-    ends c.loop-i.invariant c.loop-i-test.false
+    let w = c.args.table.now in
+    let n = c.args.clauses in
+    all_from_yields_List (λ i. agrees_by_mask (rows_of w n) (row_of w i)) _ _ _ c.all.ensures.ran (YieldsList-from_range 0 n n refl (omega arith)) (λ x b q k. search (rules, tests))
+    ∙ range_each (agrees_by_mask (rows_of w n)) (row_of w) n 0

@@ -18,59 +18,59 @@ pub braces-returns-then-stops-clause-value : goal.braces-returns-then-stops-clau
 braces-returns-then-stops-clause-value t c =
     let short = c.args.self.now.short in
     let z = c.args in
-    blocks.braces_unfit z.self.now.text.now z.self.now.handler z.self.now.levels (walk.conditional z.self.now.text.now z.self.now.handler z.self.now.levels) (cursor_in z.self.now.text.now z.c) z.lent.now.table.now z.lent.now.notes.now _ _ c.nodes-from.ensures (tokened _ _ _ _ short c.token-a.ensures) _ _ _ _ (step_in_stop z.self.now.text.now _ (sym c.stops.ensures ∙ c.if-stops.true))
+    blocks.braces_unfit z.self.now.text.now z.self.now.handler z.self.now.levels (walk.conditional z.self.now.text.now z.self.now.handler z.self.now.levels) (cursor_in z.self.now.text.now z.c) z.lent.now.table.now z.lent.now.notes.now _ _ c.nodes-from.ensures (tokened _ _ _ _ short c.token-opened.ensures) _ _ _ _ (step_in_stop z.self.now.text.now _ (sym c.stops.ensures ∙ c.if-stops.true))
 
 pub braces-returns-then-stops-2-clause-value : goal.braces-returns-then-stops-2-clause-value
 braces-returns-then-stops-2-clause-value t c =
     let short = c.args.self.now.short in
     let z = c.args in
-    blocks.braces_stops z.self.now.text.now z.self.now.handler z.self.now.levels (walk.conditional z.self.now.text.now z.self.now.handler z.self.now.levels) (cursor_in z.self.now.text.now z.c) z.lent.now.table.now z.lent.now.notes.now _ _ c.nodes-from.ensures (tokened _ _ _ _ short c.token-a.ensures) _ (step_in_on z.self.now.text.now _ (sym c.stops.ensures ∙ c.if-stops.false)) _ _ _ c.statements-r.ensures.value _ _ _ _
+    blocks.braces_stops z.self.now.text.now z.self.now.handler z.self.now.levels (walk.conditional z.self.now.text.now z.self.now.handler z.self.now.levels) (cursor_in z.self.now.text.now z.c) z.lent.now.table.now z.lent.now.notes.now _ _ c.nodes-from.ensures (tokened _ _ _ _ short c.token-opened.ensures) _ (step_in_on z.self.now.text.now _ (sym c.stops.ensures ∙ c.if-stops.false)) _ _ _ c.statements-after.ensures.value _ _ _ _
     (step_in_stop z.self.now.text.now _ (sym c.stops-2.ensures ∙ c.if-stops-2.true))
 
 pub braces-returns-clause-value : goal.braces-returns-clause-value
 braces-returns-clause-value t c =
     let short = c.args.self.now.short in
     let z = c.args in
-    blocks.braces_close z.self.now.text.now z.self.now.handler z.self.now.levels (walk.conditional z.self.now.text.now z.self.now.handler z.self.now.levels) (cursor_in z.self.now.text.now z.c) z.lent.now.table.now z.lent.now.notes.now _ _ c.nodes-from.ensures (tokened _ _ _ _ short c.token-a.ensures) _
-    (step_in_on z.self.now.text.now _ (sym c.stops.ensures ∙ c.if-stops.false)) _ _ _ c.statements-r.ensures.value _ _ (step_in_on z.self.now.text.now _ (sym c.stops-2.ensures ∙ c.if-stops-2.false)) (tokened _ _ _ _ short c.token.ensures)
+    blocks.braces_close z.self.now.text.now z.self.now.handler z.self.now.levels (walk.conditional z.self.now.text.now z.self.now.handler z.self.now.levels) (cursor_in z.self.now.text.now z.c) z.lent.now.table.now z.lent.now.notes.now _ _ c.nodes-from.ensures (tokened _ _ _ _ short c.token-opened.ensures) _
+    (step_in_on z.self.now.text.now _ (sym c.stops.ensures ∙ c.if-stops.false)) _ _ _ c.statements-after.ensures.value _ _ (step_in_on z.self.now.text.now _ (sym c.stops-2.ensures ∙ c.if-stops-2.false)) (tokened _ _ _ _ short c.token.ensures)
 
 pub conditional-returns-then-self-eq0-clause-value : goal.conditional-returns-then-self-eq0-clause-value
 conditional-returns-then-self-eq0-clause-value t c =
     let z = c.args in
-    leaves_step_in _ _ _ _ _ (refused_at z.self.now.text.now z.c _ _ _ c.start_of-place.ensures c.stop.ensures.result_value_2 (stopped _ _ _ _ c.start_of-place.ensures c.stop.ensures.result_value))
+    leaves_step_in _ _ _ _ _ (refused_at z.self.now.text.now z.c _ _ _ c.start_of-place.ensures c.stop.ensures.stops (stopped _ _ _ _ c.start_of-place.ensures c.stop.ensures.value))
     (blocks.conditional_deep z.self.now.text.now z.self.now.handler z.self.now.levels z.self.now.from (cursor_in z.self.now.text.now z.c) _ _ _ c.if-self-eq0.true)
 
 pub conditional-returns-then-stops-clause-value : goal.conditional-returns-then-stops-clause-value
 conditional-returns-then-stops-clause-value t c =
     let short = c.args.self.now.short in
     let z = c.args in
-    blocks.conditional_unfit z.self.now.text.now z.self.now.handler z.self.now.levels z.self.now.from (cursor_in z.self.now.text.now z.c) z.lent.now.table.now z.lent.now.notes.now c.if-self-eq0.false _ (tokened _ _ _ _ short c.token-a.ensures) _ _ _ _ (step_in_stop z.self.now.text.now _ (sym c.stops.ensures ∙ c.if-stops.true))
+    blocks.conditional_unfit z.self.now.text.now z.self.now.handler z.self.now.levels z.self.now.from (cursor_in z.self.now.text.now z.c) z.lent.now.table.now z.lent.now.notes.now c.if-self-eq0.false _ (tokened _ _ _ _ short c.token-opened.ensures) _ _ _ _ (step_in_stop z.self.now.text.now _ (sym c.stops.ensures ∙ c.if-stops.true))
 
 pub conditional-returns-then-stops-2-clause-value : goal.conditional-returns-then-stops-2-clause-value
 conditional-returns-then-stops-2-clause-value t c =
     let short = c.args.self.now.short in
     let z = c.args in
-    blocks.conditional_open z.self.now.text.now z.self.now.handler z.self.now.levels z.self.now.from (cursor_in z.self.now.text.now z.c) z.lent.now.table.now z.lent.now.notes.now c.if-self-eq0.false _ (tokened _ _ _ _ short c.token-a.ensures) _
+    blocks.conditional_open z.self.now.text.now z.self.now.handler z.self.now.levels z.self.now.from (cursor_in z.self.now.text.now z.c) z.lent.now.table.now z.lent.now.notes.now c.if-self-eq0.false _ (tokened _ _ _ _ short c.token-opened.ensures) _
     (step_in_on z.self.now.text.now _ (sym c.stops.ensures ∙ c.if-stops.false)) _ _ (counted_at z.self.now.text.now _ z.c _ _ _ c.start_of-place.ensures c.count.ensures) (counted_at z.self.now.text.now _ z.c _ _ _ c.start_of-place.ensures c.count-2.ensures) _ _ _ _
-    (agrees _ _ _ _ _ _ _ short (c.condition-inner.ensures.result_value, (c.condition-inner.ensures.table_after, c.condition-inner.ensures.notes_after))) (closed _ _ _ short c.close-b.ensures) _ _ _ _ (step_in_stop z.self.now.text.now _ (sym c.stops-2.ensures ∙ c.if-stops-2.true))
+    (agrees _ _ _ _ _ _ _ short (c.condition-inner.ensures.value, (c.condition-inner.ensures.table_after, c.condition-inner.ensures.notes_after))) (closed _ _ _ short c.close-closed.ensures) _ _ _ _ (step_in_stop z.self.now.text.now _ (sym c.stops-2.ensures ∙ c.if-stops-2.true))
 
 pub conditional-returns-then-stops-3-clause-value : goal.conditional-returns-then-stops-3-clause-value
 conditional-returns-then-stops-3-clause-value t c =
     let short = c.args.self.now.short in
     let z = c.args in
-    blocks.conditional_stops z.self.now.text.now z.self.now.handler z.self.now.levels z.self.now.from (cursor_in z.self.now.text.now z.c) z.lent.now.table.now z.lent.now.notes.now c.if-self-eq0.false _ (tokened _ _ _ _ short c.token-a.ensures) _
+    blocks.conditional_stops z.self.now.text.now z.self.now.handler z.self.now.levels z.self.now.from (cursor_in z.self.now.text.now z.c) z.lent.now.table.now z.lent.now.notes.now c.if-self-eq0.false _ (tokened _ _ _ _ short c.token-opened.ensures) _
     (step_in_on z.self.now.text.now _ (sym c.stops.ensures ∙ c.if-stops.false)) _ _ (counted_at z.self.now.text.now _ z.c _ _ _ c.start_of-place.ensures c.count.ensures) (counted_at z.self.now.text.now _ z.c _ _ _ c.start_of-place.ensures c.count-2.ensures) _ _ _ _
-    (agrees _ _ _ _ _ _ _ short (c.condition-inner.ensures.result_value, (c.condition-inner.ensures.table_after, c.condition-inner.ensures.notes_after))) (closed _ _ _ short c.close-b.ensures) _ (step_in_on z.self.now.text.now _ (sym c.stops-2.ensures ∙ c.if-stops-2.false)) _ _ _ c.braces-r.ensures.value _ _ _ _ (step_in_stop z.self.now.text.now _ (sym c.stops-3.ensures ∙ c.if-stops-3.true))
+    (agrees _ _ _ _ _ _ _ short (c.condition-inner.ensures.value, (c.condition-inner.ensures.table_after, c.condition-inner.ensures.notes_after))) (closed _ _ _ short c.close-closed.ensures) _ (step_in_on z.self.now.text.now _ (sym c.stops-2.ensures ∙ c.if-stops-2.false)) _ _ _ c.braces-after.ensures.value _ _ _ _ (step_in_stop z.self.now.text.now _ (sym c.stops-3.ensures ∙ c.if-stops-3.true))
 
 pub conditional-returns-clause-value : goal.conditional-returns-clause-value
 conditional-returns-clause-value t c =
     let short = c.args.self.now.short in
     let z = c.args in
     leaves_step_in _ _ _ _ _ (step_in_on z.self.now.text.now _ (sym c.stops-3.ensures ∙ c.if-stops-3.false))
-    (blocks.conditional_on z.self.now.text.now z.self.now.handler z.self.now.levels z.self.now.from (cursor_in z.self.now.text.now z.c) z.lent.now.table.now z.lent.now.notes.now c.if-self-eq0.false _ (tokened _ _ _ _ short c.token-a.ensures) _
+    (blocks.conditional_on z.self.now.text.now z.self.now.handler z.self.now.levels z.self.now.from (cursor_in z.self.now.text.now z.c) z.lent.now.table.now z.lent.now.notes.now c.if-self-eq0.false _ (tokened _ _ _ _ short c.token-opened.ensures) _
     (step_in_on z.self.now.text.now _ (sym c.stops.ensures ∙ c.if-stops.false)) _ _ (counted_at z.self.now.text.now _ z.c _ _ _ c.start_of-place.ensures c.count.ensures) (counted_at z.self.now.text.now _ z.c _ _ _ c.start_of-place.ensures c.count-2.ensures) _ _ _ _
-    (agrees _ _ _ _ _ _ _ short (c.condition-inner.ensures.result_value, (c.condition-inner.ensures.table_after, c.condition-inner.ensures.notes_after))) (closed _ _ _ short c.close-b.ensures) _ (step_in_on z.self.now.text.now _ (sym c.stops-2.ensures ∙ c.if-stops-2.false)) _ _ _ c.braces-r.ensures.value _ _ _ _ _
-    (step_in_on z.self.now.text.now _ (sym c.stops-3.ensures ∙ c.if-stops-3.false)) c.nodes-before.ensures c.nodes_since-block.ensures c.put.ensures.table_value c.put.ensures.notes_after)
+    (agrees _ _ _ _ _ _ _ short (c.condition-inner.ensures.value, (c.condition-inner.ensures.table_after, c.condition-inner.ensures.notes_after))) (closed _ _ _ short c.close-closed.ensures) _ (step_in_on z.self.now.text.now _ (sym c.stops-2.ensures ∙ c.if-stops-2.false)) _ _ _ c.braces-after.ensures.value _ _ _ _ _
+    (step_in_on z.self.now.text.now _ (sym c.stops-3.ensures ∙ c.if-stops-3.false)) c.nodes-before.ensures c.nodes_since-block.ensures c.put.ensures.table_after c.put.ensures.notes_after)
 
 pub statement-returns-then-kind_of-eq-OPEN_PAREN-clause-value : goal.statement-returns-then-kind_of-eq-OPEN_PAREN-clause-value
 statement-returns-then-kind_of-eq-OPEN_PAREN-clause-value t c =
@@ -82,14 +82,14 @@ statement-returns-then-stops-clause-value t c =
     let short = c.args.self.now.short in
     let z = c.args in
     blocks.statement_stops z.self.now.text.now z.self.now.handler z.self.now.levels (walk.conditional z.self.now.text.now z.self.now.handler z.self.now.levels) z.self.now.from (cursor_in z.self.now.text.now z.c) z.lent.now.table.now z.lent.now.notes.now _
-    (kind_not z.self.now.text.now z.c _ _ c.kind_of.ensures c.if-kind_of-eq-OPEN_PAREN.false) (counted_at z.self.now.text.now _ z.c _ _ _ c.start_of.ensures c.count.ensures) _ _ _ _ _ _ _ (agrees _ _ _ _ _ _ _ short (c.expression-r.ensures.result_value, (c.expression-r.ensures.table_after, c.expression-r.ensures.notes_after))) (step_in_stop z.self.now.text.now _ (sym c.stops.ensures ∙ c.if-stops.true))
+    (kind_not z.self.now.text.now z.c _ _ c.kind_of.ensures c.if-kind_of-eq-OPEN_PAREN.false) (counted_at z.self.now.text.now _ z.c _ _ _ c.start_of.ensures c.count.ensures) _ _ _ _ _ _ _ (agrees _ _ _ _ _ _ _ short (c.expression-after.ensures.value, (c.expression-after.ensures.table_after, c.expression-after.ensures.notes_after))) (step_in_stop z.self.now.text.now _ (sym c.stops.ensures ∙ c.if-stops.true))
 
 pub statement-returns-clause-value : goal.statement-returns-clause-value
 statement-returns-clause-value t c =
     let short = c.args.self.now.short in
     let z = c.args in
     blocks.statement_acts z.self.now.text.now z.self.now.handler z.self.now.levels (walk.conditional z.self.now.text.now z.self.now.handler z.self.now.levels) z.self.now.from (cursor_in z.self.now.text.now z.c) z.lent.now.table.now z.lent.now.notes.now _
-    (kind_not z.self.now.text.now z.c _ _ c.kind_of.ensures c.if-kind_of-eq-OPEN_PAREN.false) (counted_at z.self.now.text.now _ z.c _ _ _ c.start_of.ensures c.count.ensures) _ _ _ _ _ _ _ (agrees _ _ _ _ _ _ _ short (c.expression-r.ensures.result_value, (c.expression-r.ensures.table_after, c.expression-r.ensures.notes_after))) (step_in_on z.self.now.text.now _ (sym c.stops.ensures ∙ c.if-stops.false)) c.action.ensures.value
+    (kind_not z.self.now.text.now z.c _ _ c.kind_of.ensures c.if-kind_of-eq-OPEN_PAREN.false) (counted_at z.self.now.text.now _ z.c _ _ _ c.start_of.ensures c.count.ensures) _ _ _ _ _ _ _ (agrees _ _ _ _ _ _ _ short (c.expression-after.ensures.value, (c.expression-after.ensures.table_after, c.expression-after.ensures.notes_after))) (step_in_on z.self.now.text.now _ (sym c.stops.ensures ∙ c.if-stops.false)) c.action.ensures.value
 
 pub statements-returns-then-not-is_start-clause-value : goal.statements-returns-then-not-is_start-clause-value
 statements-returns-then-not-is_start-clause-value t c =
@@ -101,15 +101,15 @@ pub statements-returns-then-stops-clause-value : goal.statements-returns-then-st
 statements-returns-then-stops-clause-value t c =
     let z = c.args in
     blocks.block_stops z.self.now.text.now z.self.now.handler z.self.now.levels (walk.conditional z.self.now.text.now z.self.now.handler z.self.now.levels) z.self.now.from _ _ _ _ _ c.loop.invariant.0 _ _ _ _ _ _ _ (omega (arith, c.loop-test.true))
-    (starts_is z.self.now.text.now _ _ _ _ c.kind_of.ensures c.is_start.ensures (c.if-not-is_start.false)) c.statement-r.ensures.value (step_in_stop z.self.now.text.now _ (sym c.stops.ensures ∙ c.if-stops.true))
+    (starts_is z.self.now.text.now _ _ _ _ c.kind_of.ensures c.is_start.ensures (c.if-not-is_start.false)) c.statement-next.ensures.value (step_in_stop z.self.now.text.now _ (sym c.stops.ensures ∙ c.if-stops.true))
 
 pub statements-loop-preserved : goal.statements-loop-preserved
 statements-loop-preserved t c =
     let z = c.args in
     let go = sym c.stops.ensures ∙ c.if-stops.false in (
-      ap (λ (k : ℕ). walk.statements z.self.now.text.now z.self.now.handler z.self.now.levels (walk.conditional z.self.now.text.now z.self.now.handler z.self.now.levels) z.self.now.from k (cursor_in z.self.now.text.now c.statement-r.result) (draft c.statement-r.new.lent.table.now c.statement-r.new.lent.notes.now)) (fewer (length c.args.self.now.text.now) c.loop.counter)
-          ∙ blocks.block_turn z.self.now.text.now z.self.now.handler z.self.now.levels (walk.conditional z.self.now.text.now z.self.now.handler z.self.now.levels) z.self.now.from _ _ _ _ _ c.loop.invariant.0 _ _ _ _ (omega (arith, c.loop-test.true)) (starts_is z.self.now.text.now _ _ _ _ c.kind_of.ensures c.is_start.ensures (c.if-not-is_start.false)) c.statement-r.ensures.value (step_in_on z.self.now.text.now _ go),
-      (go, still_same c.args.lent.now c.loop.lent c.statement-r.new.lent c.loop.invariant.1.1 c.statement-r.ensures.same_lists),
+      ap (λ (k : ℕ). walk.statements z.self.now.text.now z.self.now.handler z.self.now.levels (walk.conditional z.self.now.text.now z.self.now.handler z.self.now.levels) z.self.now.from k (cursor_in z.self.now.text.now c.statement-next.result) (draft c.statement-next.new.lent.table.now c.statement-next.new.lent.notes.now)) (fewer (length c.args.self.now.text.now) c.loop.counter)
+          ∙ blocks.block_turn z.self.now.text.now z.self.now.handler z.self.now.levels (walk.conditional z.self.now.text.now z.self.now.handler z.self.now.levels) z.self.now.from _ _ _ _ _ c.loop.invariant.0 _ _ _ _ (omega (arith, c.loop-test.true)) (starts_is z.self.now.text.now _ _ _ _ c.kind_of.ensures c.is_start.ensures (c.if-not-is_start.false)) c.statement-next.ensures.value (step_in_on z.self.now.text.now _ go),
+      (go, still_same c.args.lent.now c.loop.lent c.statement-next.new.lent c.loop.invariant.1.1 c.statement-next.ensures.same_lists),
     )
 
 pub statements-returns-clause-value : goal.statements-returns-clause-value

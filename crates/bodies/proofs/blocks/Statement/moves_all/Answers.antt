@@ -9,5 +9,5 @@ returns-clause-value c =
     c.start_of.ensures c.count.ensures c.start_of-2.ensures c.count-2.ensures
     c.start_of-3.ensures c.end_of.ensures c.holder-holder.ensures c.start_of-4.ensures c.end_of-2.ensures c.asset_target-target.ensures
     c.start_of-5.ensures c.want.ensures c.start_of-6.ensures c.want-2.ensures
-    c.put.ensures.table_value c.put.ensures.notes_after c.put-2.ensures.table_value c.put-2.ensures.notes_after in
+    c.put.ensures.table_after c.put.ensures.notes_after c.put-2.ensures.table_after c.put-2.ensures.notes_after in
     λ i. record { table = p.0 i; notes = p.1 i }

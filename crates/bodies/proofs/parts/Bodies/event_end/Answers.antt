@@ -10,14 +10,14 @@ returns-then-stops-clause-value c =
     let short = c.args.self.now.short in
     let z = c.args in
     parts.event_end_unfit z.self.now.text.now z.i z.state z.before z.from (cursor_in z.self.now.text.now z.c) z.lent.now.table.now z.lent.now.notes.now _
-    (tokened _ _ _ _ short c.token-a.ensures) _ _ _ _ (packed.halts z.self.now.text.now _ _ c.stops.ensures c.if-stops.true)
+    (tokened _ _ _ _ short c.token-mark.ensures) _ _ _ _ (packed.halts z.self.now.text.now _ _ c.stops.ensures c.if-stops.true)
 
 pub returns-then-stops-2-clause-value : goal.returns-then-stops-2-clause-value
 returns-then-stops-2-clause-value c =
     let short = c.args.self.now.short in
     let z = c.args in
     parts.event_end_stops z.self.now.text.now z.i z.state z.before z.from (cursor_in z.self.now.text.now z.c) z.lent.now.table.now z.lent.now.notes.now _
-    (tokened _ _ _ _ short c.token-a.ensures) _ (packed.keeps z.self.now.text.now _ _ c.stops.ensures c.if-stops.false) _ (stated _ _ _ short c.state_at-b.ensures) _ _ _ _ (packed.halts
+    (tokened _ _ _ _ short c.token-mark.ensures) _ (packed.keeps z.self.now.text.now _ _ c.stops.ensures c.if-stops.false) _ (stated _ _ _ short c.state_at-name.ensures) _ _ _ _ (packed.halts
     z.self.now.text.now _ _ c.stops-2.ensures c.if-stops-2.true)
 
 pub returns-clause-value : goal.returns-clause-value
@@ -26,7 +26,7 @@ returns-clause-value c =
     let z = c.args in
     packed.as_on z.self.now.text.now _ _ _ _ c.lex.ensures.goes
     (parts.event_end_on z.self.now.text.now z.i z.state z.before z.from (cursor_in z.self.now.text.now z.c) z.lent.now.table.now z.lent.now.notes.now _
-    (tokened _ _ _ _ short c.token-a.ensures) _ (packed.keeps z.self.now.text.now _ _ c.stops.ensures c.if-stops.false) _ (stated _ _ _ short c.state_at-b.ensures) _ _ _ _ _ _ _ _ _ _
+    (tokened _ _ _ _ short c.token-mark.ensures) _ (packed.keeps z.self.now.text.now _ _ c.stops.ensures c.if-stops.false) _ (stated _ _ _ short c.state_at-name.ensures) _ _ _ _ _ _ _ _ _ _
     (packed.keeps z.self.now.text.now _ _ c.stops-2.ensures c.if-stops-2.false) c.nodes_since-handler.ensures c.mention_state-last.ensures.value
-    c.mention_state-last.ensures.table_after c.mention_state-last.ensures.notes_after c.nodes-node.ensures c.put.ensures.table_value c.put.ensures.notes_after
-    c.event_row.ensures (packed.next_is z.self.now.text.now _ _ _ c.end_of.ensures (lexed _ _ _ _ short c.end_of.ensures c.lex.ensures.cursor_in)))
+    c.mention_state-last.ensures.table_after c.mention_state-last.ensures.notes_after c.nodes-node.ensures c.put.ensures.table_after c.put.ensures.notes_after
+    c.event_row.ensures (packed.next_is z.self.now.text.now _ _ _ c.end_of.ensures (lexed _ _ _ _ short c.end_of.ensures c.lex.ensures.value)))

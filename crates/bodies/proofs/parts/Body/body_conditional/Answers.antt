@@ -9,17 +9,17 @@ pub returns-then-note-ne0-clause-value : goal.returns-then-note-ne0-clause-value
 returns-then-note-ne0-clause-value c =
     let z = c.args in
     parts.body_late z.self.now.text.now z.self.now.from (cursor_in z.self.now.text.now z.c) z.lent.now.table.now z.lent.now.notes.now _ c.note.ensures _ _ _
-    c.if-note-ne0.true c.unfit.ensures.result_value
+    c.if-note-ne0.true c.unfit.ensures.value
 
 pub returns-then-stops-clause-value : goal.returns-then-stops-clause-value
 returns-then-stops-clause-value c =
     let z = c.args in
     parts.body_stops z.self.now.text.now z.self.now.from (cursor_in z.self.now.text.now z.c) z.lent.now.table.now z.lent.now.notes.now _ c.note.ensures c.if-note-ne0.false _ _
-    _ c.conditional-r.ensures.value _ _ _ _ (packed.halts z.self.now.text.now _ _ c.stops.ensures c.if-stops.true)
+    _ c.conditional-after.ensures.value _ _ _ _ (packed.halts z.self.now.text.now _ _ c.stops.ensures c.if-stops.true)
 
 pub returns-clause-value : goal.returns-clause-value
 returns-clause-value c =
     let z = c.args in
     packed.as_on z.self.now.text.now _ _ _ _ (sym c.stops.ensures ∙ c.if-stops.false)
     (parts.body_grows_lem z.self.now.text.now z.self.now.from (cursor_in z.self.now.text.now z.c) z.lent.now.table.now z.lent.now.notes.now _ c.note.ensures c.if-note-ne0.false _
-    _ _ c.conditional-r.ensures.value _ _ (packed.keeps z.self.now.text.now _ _ c.stops.ensures c.if-stops.false) c.grow.ensures)
+    _ _ c.conditional-after.ensures.value _ _ (packed.keeps z.self.now.text.now _ _ c.stops.ensures c.if-stops.false) c.grow.ensures)

@@ -11,11 +11,11 @@ use Rattle.clauses.proofs.lists.Lists.clause.Goals as goal
 pub returns-then-kind_of-ne-NAME-clause-value : goal.returns-then-kind_of-ne-NAME-clause-value
 unfolding walk.clause
 returns-then-kind_of-ne-NAME-clause-value c =
-    is_stop_lem _ _ _ _ _ _ (pick_false _ _ _ (ne_eqb _ _ (kind_not c.args.self.now.text.now c.args.c _ _ c.kind_of.ensures c.if-kind_of-ne-NAME.true))) c.unfit.ensures.result_value
+    is_stop_lem _ _ _ _ _ _ (pick_false _ _ _ (ne_eqb _ _ (kind_not c.args.self.now.text.now c.args.c _ _ c.kind_of.ensures c.if-kind_of-ne-NAME.true))) c.unfit.ensures.value
 
 pub returns-clause-value : goal.returns-clause-value
 returns-clause-value c =
     let short = c.args.self.now.short in
     leaves_same _ _ _ _ _
-    (clause_begin c.args.self.now.text.now c.args.c _ _ _ _ _ _ _ _ _ c.kind_of.ensures c.if-kind_of-ne-NAME.false c.start_of.ensures c.end_of.ensures c.end_of-2.ensures (lexed _ _ _ _ short c.end_of-2.ensures c.lex.ensures.cursor_in) c.clause_party.ensures.table_value c.clause_party.ensures.notes_after)
+    (clause_begin c.args.self.now.text.now c.args.c _ _ _ _ _ _ _ _ _ c.kind_of.ensures c.if-kind_of-ne-NAME.false c.start_of.ensures c.end_of.ensures c.end_of-2.ensures (lexed _ _ _ _ short c.end_of-2.ensures c.lex.ensures.value) c.clause_party.ensures.table_after c.clause_party.ensures.notes_after)
     c.clause_from.ensures.value

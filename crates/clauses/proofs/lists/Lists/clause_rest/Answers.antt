@@ -13,17 +13,17 @@ pub returns-then-kind_of-eq-UNDERSCORE-clause-value : goal.returns-then-kind_of-
 unfolding walk.clause_rest
 returns-then-kind_of-eq-UNDERSCORE-clause-value c =
     let short = c.args.self.now.short in
-    goes _ _ _ _ _ _ _ (pick_true _ _ _ (eq-eqb _ _ (kind_is c.args.self.now.text.now c.args.c _ _ c.kind_of.ensures c.if-kind_of-eq-UNDERSCORE.true))) (step_in_on c.args.self.now.text.now _ c.lex.ensures.goes) (next_is c.args.self.now.text.now c.args.c _ _ c.end_of.ensures (lexed _ _ _ _ short c.end_of.ensures c.lex.ensures.cursor_in)) refl c.clause_end.ensures
+    goes _ _ _ _ _ _ _ (pick_true _ _ _ (eq-eqb _ _ (kind_is c.args.self.now.text.now c.args.c _ _ c.kind_of.ensures c.if-kind_of-eq-UNDERSCORE.true))) (step_in_on c.args.self.now.text.now _ c.lex.ensures.goes) (next_is c.args.self.now.text.now c.args.c _ _ c.end_of.ensures (lexed _ _ _ _ short c.end_of.ensures c.lex.ensures.value)) refl c.clause_end.ensures
 
 pub returns-then-stops-clause-value : goal.returns-then-stops-clause-value
 unfolding walk.clause_rest
 returns-then-stops-clause-value c =
-    handed _ _ _ _ _ _ _ _ _ c.fields-r.ensures.value (step_in_stop c.args.self.now.text.now _ (sym c.stops.ensures ∙ c.if-stops.true))
+    handed _ _ _ _ _ _ _ _ _ c.fields-after.ensures.value (step_in_stop c.args.self.now.text.now _ (sym c.stops.ensures ∙ c.if-stops.true))
     (λ e. pick_false _ _ _ (ne_eqb _ _ (kind_not c.args.self.now.text.now c.args.c _ _ c.kind_of.ensures c.if-kind_of-eq-UNDERSCORE.false)) ∙ follow_stop _ _ _ _ e)
 
 pub returns-clause-value : goal.returns-clause-value
 unfolding walk.clause_rest
 returns-clause-value c =
     goes _ _ _ _ _ _ _
-    (pick_false _ _ _ (ne_eqb _ _ (kind_not c.args.self.now.text.now c.args.c _ _ c.kind_of.ensures c.if-kind_of-eq-UNDERSCORE.false)) ∙ follow_on _ _ _ _ (went _ _ _ _ _ c.fields-r.ensures.value (step_in_on c.args.self.now.text.now _ (sym c.stops.ensures ∙ c.if-stops.false))))
+    (pick_false _ _ _ (ne_eqb _ _ (kind_not c.args.self.now.text.now c.args.c _ _ c.kind_of.ensures c.if-kind_of-eq-UNDERSCORE.false)) ∙ follow_on _ _ _ _ (went _ _ _ _ _ c.fields-after.ensures.value (step_in_on c.args.self.now.text.now _ (sym c.stops.ensures ∙ c.if-stops.false))))
     (step_in_on c.args.self.now.text.now _ (sym c.stops.ensures ∙ c.if-stops.false)) refl refl c.clause_end-2.ensures

@@ -19,14 +19,14 @@ returns-then-kind_of-clause-value c =
 
 pub returns-then-stops-clause-value : goal.returns-then-stops-clause-value
 returns-then-stops-clause-value c =
-    handed _ _ _ _ _ _ _ _ _ c.clause-r.ensures.value (step_in_stop c.args.self.now.text.now _ (sym c.stops.ensures ∙ c.if-stops.true))
+    handed _ _ _ _ _ _ _ _ _ c.clause-next.ensures.value (step_in_stop c.args.self.now.text.now _ (sym c.stops.ensures ∙ c.if-stops.true))
     (λ e. sym c.loop.invariant.0 ∙ clauses_refused _ _ _ _ _ _ (omega (arith, c.loop-test.true)) (kind_is c.args.self.now.text.now _ _ _ c.kind_of.ensures c.if-kind_of.false) e)
 
 pub loop-preserved : goal.loop-preserved
 loop-preserved c = (
-  ap (λ (k : ℕ). walk.clauses c.args.self.now.text.now k (cursor_in c.args.self.now.text.now c.clause-r.result) (walk.draft c.clause-r.new.lent.table.now c.clause-r.new.lent.notes.now)) (fewer (length c.args.self.now.text.now) c.loop.counter)
-      ∙ clauses_turn _ _ _ _ _ _ (omega (arith, c.loop-test.true)) (kind_is c.args.self.now.text.now _ _ _ c.kind_of.ensures c.if-kind_of.false) (went _ _ _ _ _ c.clause-r.ensures.value (step_in_on c.args.self.now.text.now _ (sym c.stops.ensures ∙ c.if-stops.false))) ∙ c.loop.invariant.0,
-  (sym c.stops.ensures ∙ c.if-stops.false, still_same c.args.lent.now c.loop.lent c.clause-r.new.lent c.loop.invariant.1.1 c.clause-r.ensures.same_lists),
+  ap (λ (k : ℕ). walk.clauses c.args.self.now.text.now k (cursor_in c.args.self.now.text.now c.clause-next.result) (walk.draft c.clause-next.new.lent.table.now c.clause-next.new.lent.notes.now)) (fewer (length c.args.self.now.text.now) c.loop.counter)
+      ∙ clauses_turn _ _ _ _ _ _ (omega (arith, c.loop-test.true)) (kind_is c.args.self.now.text.now _ _ _ c.kind_of.ensures c.if-kind_of.false) (went _ _ _ _ _ c.clause-next.ensures.value (step_in_on c.args.self.now.text.now _ (sym c.stops.ensures ∙ c.if-stops.false))) ∙ c.loop.invariant.0,
+  (sym c.stops.ensures ∙ c.if-stops.false, still_same c.args.lent.now c.loop.lent c.clause-next.new.lent c.loop.invariant.1.1 c.clause-next.ensures.same_lists),
 )
 
 pub returns-clause-value : goal.returns-clause-value

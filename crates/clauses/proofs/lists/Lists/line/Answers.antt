@@ -16,7 +16,7 @@ returns-then-kind_of-word-clause-value c =
     let short = c.args.self.now.short in
     let g = c.args in
     leaves_same _ _ _ _ _
-    (ap (λ (x : Cursor). walk.names g.self.now.text.now g.kind x (walk.draft g.lent.now.table.now g.lent.now.notes.now)) (next_is g.self.now.text.now g.c _ _ c.end_of.ensures (lexed _ _ _ _ short c.end_of.ensures c.lex.ensures.cursor_in))
+    (ap (λ (x : Cursor). walk.names g.self.now.text.now g.kind x (walk.draft g.lent.now.table.now g.lent.now.notes.now)) (next_is g.self.now.text.now g.c _ _ c.end_of.ensures (lexed _ _ _ _ short c.end_of.ensures c.lex.ensures.value))
     ∙ sym (pick_true _ _ _ (eq-eqb _ _ (kind_is g.self.now.text.now g.c _ _ c.kind_of.ensures c.if-kind_of-word.true))))
     c.names.ensures.value
 

@@ -32,19 +32,19 @@ pub returns-then-stops-2-clause-value : goal.returns-then-stops-2-clause-value
 unfolding list_of
 returns-then-stops-2-clause-value c =
     let short = c.args.self.now.short in
-    handed _ _ _ _ _ _ _ _ _ c.one-r.ensures.value (step_in_stop c.args.self.now.text.now _ (sym c.stops-in-loop.ensures ∙ c.if-stops-2.true))
+    handed _ _ _ _ _ _ _ _ _ c.one-next.ensures.value (step_in_stop c.args.self.now.text.now _ (sym c.stops-in-loop.ensures ∙ c.if-stops-2.true))
     (λ e. follow_on _ _ _ _ (went _ _ _ _ _ c.one-first.ensures.value (step_in_on c.args.self.now.text.now _ (sym c.stops.ensures ∙ c.if-stops.false)))
     ∙ sym c.loop.invariant.0
-    ∙ list_refused c.args.self.now.text.now c.args.listed _ _ _ _ _ _ (omega (arith, c.loop-test.true)) (kind_is c.args.self.now.text.now _ _ _ c.kind_of.ensures c.if-kind_of-ne-COMMA.false) (next_is c.args.self.now.text.now _ _ _ c.end_of.ensures (lexed _ _ _ _ short c.end_of.ensures c.lex.ensures.cursor_in)) e)
+    ∙ list_refused c.args.self.now.text.now c.args.listed _ _ _ _ _ _ (omega (arith, c.loop-test.true)) (kind_is c.args.self.now.text.now _ _ _ c.kind_of.ensures c.if-kind_of-ne-COMMA.false) (next_is c.args.self.now.text.now _ _ _ c.end_of.ensures (lexed _ _ _ _ short c.end_of.ensures c.lex.ensures.value)) e)
 
 pub loop-preserved : goal.loop-preserved
 loop-preserved c =
     let short = c.args.self.now.short in
     let go = sym c.stops-in-loop.ensures ∙ c.if-stops-2.false in (
-      ap (λ (k : ℕ). more_listed c.args.self.now.text.now c.args.listed k (cursor_in c.args.self.now.text.now c.one-r.result) (draft c.one-r.new.lent.table.now c.one-r.new.lent.notes.now)) (fewer (length c.args.self.now.text.now) c.loop.counter)
-          ∙ list_turn c.args.self.now.text.now c.args.listed _ _ _ _ _ _ (omega (arith, c.loop-test.true)) (kind_is c.args.self.now.text.now _ _ _ c.kind_of.ensures c.if-kind_of-ne-COMMA.false) (next_is c.args.self.now.text.now _ _ _ c.end_of.ensures (lexed _ _ _ _ short c.end_of.ensures c.lex.ensures.cursor_in)) (went _ _ _ _ _ c.one-r.ensures.value (step_in_on c.args.self.now.text.now _ go))
+      ap (λ (k : ℕ). more_listed c.args.self.now.text.now c.args.listed k (cursor_in c.args.self.now.text.now c.one-next.result) (draft c.one-next.new.lent.table.now c.one-next.new.lent.notes.now)) (fewer (length c.args.self.now.text.now) c.loop.counter)
+          ∙ list_turn c.args.self.now.text.now c.args.listed _ _ _ _ _ _ (omega (arith, c.loop-test.true)) (kind_is c.args.self.now.text.now _ _ _ c.kind_of.ensures c.if-kind_of-ne-COMMA.false) (next_is c.args.self.now.text.now _ _ _ c.end_of.ensures (lexed _ _ _ _ short c.end_of.ensures c.lex.ensures.value)) (went _ _ _ _ _ c.one-next.ensures.value (step_in_on c.args.self.now.text.now _ go))
           ∙ c.loop.invariant.0,
-      (go, still_same c.one-first.new.lent c.loop.lent c.one-r.new.lent c.loop.invariant.1.1 c.one-r.ensures.same_lists),
+      (go, still_same c.one-first.new.lent c.loop.lent c.one-next.new.lent c.loop.invariant.1.1 c.one-next.ensures.same_lists),
     )
 
 pub returns-clause-value : goal.returns-clause-value

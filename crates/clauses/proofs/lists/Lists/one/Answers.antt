@@ -10,11 +10,11 @@ use Rattle.clauses.proofs.lists.Lists.one.Goals as goal
 
 pub returns-then-kind_of-ne-NAME-clause-value : goal.returns-then-kind_of-ne-NAME-clause-value
 returns-then-kind_of-ne-NAME-clause-value c =
-    is_stop_lem _ _ _ _ _ _ (one_misfit c.args.self.now.text.now c.args.listed _ _ (kind_not c.args.self.now.text.now c.args.c _ _ c.kind_of.ensures c.if-kind_of-ne-NAME.true)) c.unfit.ensures.result_value
+    is_stop_lem _ _ _ _ _ _ (one_misfit c.args.self.now.text.now c.args.listed _ _ (kind_not c.args.self.now.text.now c.args.c _ _ c.kind_of.ensures c.if-kind_of-ne-NAME.true)) c.unfit.ensures.value
 
 pub returns-clause-value : goal.returns-clause-value
 returns-clause-value c =
     let short = c.args.self.now.short in
     is_on _ _ _ _ _
-    (one_read c.args.self.now.text.now c.args.listed c.args.c _ _ _ _ _ _ _ _ _ c.kind_of.ensures c.if-kind_of-ne-NAME.false c.start_of.ensures c.end_of.ensures c.end_of-2.ensures (lexed _ _ _ _ short c.end_of-2.ensures c.lex.ensures.cursor_in) (ap (λ (p : Draft). p.table) c.enter.ensures.value) (ap (λ (p : Draft). p.notes) c.enter.ensures.value))
+    (one_read c.args.self.now.text.now c.args.listed c.args.c _ _ _ _ _ _ _ _ _ c.kind_of.ensures c.if-kind_of-ne-NAME.false c.start_of.ensures c.end_of.ensures c.end_of-2.ensures (lexed _ _ _ _ short c.end_of-2.ensures c.lex.ensures.value) (ap (λ (p : Draft). p.table) c.enter.ensures.value) (ap (λ (p : Draft). p.notes) c.enter.ensures.value))
     (step_in_on c.args.self.now.text.now _ c.lex.ensures.goes)

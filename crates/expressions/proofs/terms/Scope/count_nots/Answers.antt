@@ -30,7 +30,7 @@ loop-many-preserved c =
     let short = c.args.self.now.short in
     let z = c.args in
     let l = c.loop-many in (
-      another z.self.now.text.now z.notes.now z.c l.notes l.here l.many l.invariant.0 _ _ _ c.loop-many-test.true c.kind_of.ensures c.if-kind_of-ne-NOT.false c.start_of.ensures _ c.count.ensures c.end_of.ensures _ (lexed _ _ _ _ short c.end_of.ensures c.lex-here.ensures.cursor_in),
+      another z.self.now.text.now z.notes.now z.c l.notes l.here l.many l.invariant.0 _ _ _ c.loop-many-test.true c.kind_of.ensures c.if-kind_of-ne-NOT.false c.start_of.ensures _ c.count.ensures c.end_of.ensures _ (lexed _ _ _ _ short c.end_of.ensures c.lex-here.ensures.value),
       c.lex-here.ensures.goes,
       c.count.auto.notes ∙ l.invariant.2,
     )

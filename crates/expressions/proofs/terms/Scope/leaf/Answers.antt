@@ -1,39 +1,41 @@
 -- `expressions::terms::Scope::leaf` meets its contract. Assumes nothing.
-use mathlib.Core.Path.{ap}
+use mathlib.Core.Path.{sym, ap, ◌∙◌}
+use mathlib.Core.Path.{◌≡◌}
+use Prim.Native.Nat.{ℕ}
+use native.Mathlib.Omega.{arith}
+use Rattle.entries.specs.declared.Lent.{Lent}
 use Rattle.entries.specs.Draft.{Draft}
 use Rattle.expressions.proofs.PackedTerms.{leaf_unfit, leaf_name, leaf_number, leaf_string, leaf_now}
 use Rattle.cursors.proofs.Clipped.{lexed}
+use Rattle.expressions.proofs.terms.Scope.leaf.Goals.{in-200, in-201, in-202, in-4}
 use Rattle.expressions.proofs.terms.Scope.leaf.Goals as goal
 
-pub returns-then-kind-clause-value : goal.returns-then-kind-clause-value
-returns-then-kind-clause-value c =
-    let short = c.args.self.now.short in
-    let z = c.args in
-    leaf_name z.self.now.text.now z.self.now.handler z.c _ z.lent.now.table.now z.lent.now.notes.now c.kind_of-kind.ensures _ c.end_of-then-kind.ensures _ (lexed _ _ _ _ short c.end_of-then-kind.ensures c.lex.ensures.cursor_in) c.lex.ensures.goes _ _
-    _ _ _ _ c.if-kind.true c.start_of.ensures c.end_of.ensures c.start_of-then-kind.ensures c.name-name.ensures c.put_name.ensures.table_value c.put_name.ensures.notes_after
+-- a kind that is one number is no other
+other : (k a b : ℕ) → k ≡ a → (a ≡ b → ⊥) → k ≡ b → ⊥
+other k a b is f e = f (sym is ∙ e)
 
-pub returns-then-kind-2-clause-value : goal.returns-then-kind-2-clause-value
-returns-then-kind-2-clause-value c =
-    let short = c.args.self.now.short in
+pub returns-in_default-clause-value : goal.returns-in_default-clause-value
+returns-in_default-clause-value c =
     let z = c.args in
-    leaf_number z.self.now.text.now z.self.now.handler z.c _ z.lent.now.table.now z.lent.now.notes.now c.kind_of-kind.ensures _ c.end_of-then-kind-2.ensures _ (lexed _ _ _ _ short c.end_of-then-kind-2.ensures c.lex-then-kind-2.ensures.cursor_in) c.lex-then-kind-2.ensures.goes _ _
-    _ _ _ c.if-kind.false c.if-kind-2.true c.start_of-then-kind-2.ensures c.value_of.ensures c.start_of-then-kind-2-2.ensures c.put_leaf.ensures.table_value c.put_leaf.ensures.notes_after
-
-pub returns-then-kind-3-clause-value : goal.returns-then-kind-3-clause-value
-returns-then-kind-3-clause-value c =
-    let short = c.args.self.now.short in
-    let z = c.args in
-    leaf_string z.self.now.text.now z.self.now.handler z.c _ z.lent.now.table.now z.lent.now.notes.now c.kind_of-kind.ensures _ c.end_of-then-kind-3.ensures _ (lexed _ _ _ _ short c.end_of-then-kind-3.ensures c.lex-then-kind-3.ensures.cursor_in) c.lex-then-kind-3.ensures.goes _ _
-    c.if-kind.false c.if-kind-2.false c.if-kind-3.true (ap (λ (p : Draft). p.table) c.string_leaf.ensures.value) (ap (λ (p : Draft). p.notes) c.string_leaf.ensures.value)
-
-pub returns-then-kind-eq-NOW-clause-value : goal.returns-then-kind-eq-NOW-clause-value
-returns-then-kind-eq-NOW-clause-value c =
-    let short = c.args.self.now.short in
-    let z = c.args in
-    leaf_now z.self.now.text.now z.self.now.handler z.c _ z.lent.now.table.now z.lent.now.notes.now c.kind_of-kind.ensures _ c.end_of-then-kind-eq-NOW.ensures _ (lexed _ _ _ _ short c.end_of-then-kind-eq-NOW.ensures c.lex-then-kind-eq-NOW.ensures.cursor_in) c.lex-then-kind-eq-NOW.ensures.goes _ _
-    _ c.if-kind.false c.if-kind-2.false c.if-kind-3.false c.if-kind-eq-NOW.true c.start_of-then-kind-eq-NOW.ensures c.put_leaf-then-kind-eq-NOW.ensures.table_value c.put_leaf-then-kind-eq-NOW.ensures.notes_after
+    leaf_unfit z.self.now.text.now z.self.now.handler z.c _ z.lent.now.table.now z.lent.now.notes.now c.kind_of.ensures _ _ _ c.in_default.in_default-own.rest.0.0.0.1 c.in_default.in_default-own.rest.0.0.1 c.in_default.in_default-own.rest.0.1 c.in_default.in_default-own.rest.1 c.unfit.ensures.value
 
 pub returns-clause-value : goal.returns-clause-value
 returns-clause-value c =
+    let short = c.args.self.now.short in
     let z = c.args in
-    leaf_unfit z.self.now.text.now z.self.now.handler z.c _ z.lent.now.table.now z.lent.now.notes.now c.kind_of-kind.ensures _ _ _ c.if-kind.false c.if-kind-2.false c.if-kind-3.false c.if-kind-eq-NOW.false c.unfit.ensures.result_value
+    let next = lexed _ _ _ _ short c.end_of-2.ensures c.lex.ensures.value in
+    let s = z.self.now.text.now in
+    let h = z.self.now.handler in
+    let t = z.lent.now.table.now in
+    let n = z.lent.now.notes.now in
+    let l = c.match-kind_of.lent in
+    elim c.match-kind_of.branch [
+      | in-200 w ↦ leaf_name s h z.c _ t n c.kind_of.ensures _ c.end_of-2.ensures _ next c.lex.ensures.goes l.table.now l.notes.now
+          _ _ _ _ w.in-200.is w.start_of.ensures w.end_of.ensures w.start_of-in-200.ensures w.name-name.ensures (ap (λ (x : Lent). x.table.now) w.lent-is ∙ w.put_name.ensures.table_after) (ap (λ (x : Lent). x.notes.now) w.lent-is ∙ w.put_name.ensures.notes_after)
+      | in-201 w ↦ leaf_number s h z.c _ t n c.kind_of.ensures _ c.end_of-2.ensures _ next c.lex.ensures.goes l.table.now l.notes.now
+          _ _ _ (λ e. other _ 201 200 w.in-201.is (omega arith) e) w.in-201.is w.start_of-in-201.ensures w.value_of.ensures w.start_of-in-201-2.ensures (ap (λ (x : Lent). x.table.now) w.lent-is ∙ w.put_leaf.ensures.table_after) (ap (λ (x : Lent). x.notes.now) w.lent-is ∙ w.put_leaf.ensures.notes_after)
+      | in-202 w ↦ leaf_string s h z.c _ t n c.kind_of.ensures _ c.end_of-2.ensures _ next c.lex.ensures.goes l.table.now l.notes.now
+          (λ e. other _ 202 200 w.in-202.is (omega arith) e) (λ e. other _ 202 201 w.in-202.is (omega arith) e) w.in-202.is (ap (λ (x : Lent). x.table.now) w.lent-is ∙ ap (λ (p : Draft). p.table) w.string_leaf.ensures.value) (ap (λ (x : Lent). x.notes.now) w.lent-is ∙ ap (λ (p : Draft). p.notes) w.string_leaf.ensures.value)
+      | in-4 w ↦ leaf_now s h z.c _ t n c.kind_of.ensures _ c.end_of-2.ensures _ next c.lex.ensures.goes l.table.now l.notes.now
+          _ (λ e. other _ 4 200 w.in-4.is (omega arith) e) (λ e. other _ 4 201 w.in-4.is (omega arith) e) (λ e. other _ 4 202 w.in-4.is (omega arith) e) w.in-4.is w.start_of-in-4.ensures (ap (λ (x : Lent). x.table.now) w.lent-is ∙ w.put_leaf-in-4.ensures.table_after) (ap (λ (x : Lent). x.notes.now) w.lent-is ∙ w.put_leaf-in-4.ensures.notes_after)
+    ]

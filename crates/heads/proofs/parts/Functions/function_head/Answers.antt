@@ -10,50 +10,50 @@ pub returns-then-stops-clause-value : goal.returns-then-stops-clause-value
 returns-then-stops-clause-value c =
     let short = c.args.self.now.short in
     let z = c.args in
-    parts.head_unfit z.self.now.text.now (cursor_in z.self.now.text.now z.c) z.lent.now.table.now z.lent.now.notes.now _ (stated _ _ _ short c.state_at-a.ensures) _ _ _ _ (packed.halts
+    parts.head_unfit z.self.now.text.now (cursor_in z.self.now.text.now z.c) z.lent.now.table.now z.lent.now.notes.now _ (stated _ _ _ short c.state_at-state_name.ensures) _ _ _ _ (packed.halts
     z.self.now.text.now _ _ c.stops.ensures c.if-stops.true)
 
 pub returns-then-stops-2-clause-value : goal.returns-then-stops-2-clause-value
 returns-then-stops-2-clause-value c =
     let short = c.args.self.now.short in
     let z = c.args in
-    parts.head_no_party z.self.now.text.now (cursor_in z.self.now.text.now z.c) z.lent.now.table.now z.lent.now.notes.now _ (stated _ _ _ short c.state_at-a.ensures) _ (packed.keeps
-    z.self.now.text.now _ _ c.stops.ensures c.if-stops.false) _ (packed.next_is z.self.now.text.now _ _ _ c.end_of.ensures (lexed _ _ _ _ short c.end_of.ensures c.lex.ensures.cursor_in)) _
-    c.name_here-b.ensures _ _ _ _ (packed.halts z.self.now.text.now _ _ c.stops-2.ensures c.if-stops-2.true)
+    parts.head_no_party z.self.now.text.now (cursor_in z.self.now.text.now z.c) z.lent.now.table.now z.lent.now.notes.now _ (stated _ _ _ short c.state_at-state_name.ensures) _ (packed.keeps
+    z.self.now.text.now _ _ c.stops.ensures c.if-stops.false) _ (packed.next_is z.self.now.text.now _ _ _ c.end_of.ensures (lexed _ _ _ _ short c.end_of.ensures c.lex.ensures.value)) _
+    c.name_here-party.ensures _ _ _ _ (packed.halts z.self.now.text.now _ _ c.stops-2.ensures c.if-stops-2.true)
 
 pub returns-then-stops-3-clause-value : goal.returns-then-stops-3-clause-value
 returns-then-stops-3-clause-value c =
     let short = c.args.self.now.short in
     let z = c.args in
-    parts.head_no_colon z.self.now.text.now (cursor_in z.self.now.text.now z.c) z.lent.now.table.now z.lent.now.notes.now _ (stated _ _ _ short c.state_at-a.ensures) _ (packed.keeps
-    z.self.now.text.now _ _ c.stops.ensures c.if-stops.false) _ (packed.next_is z.self.now.text.now _ _ _ c.end_of.ensures (lexed _ _ _ _ short c.end_of.ensures c.lex.ensures.cursor_in)) _
-    c.name_here-b.ensures _ (packed.keeps z.self.now.text.now _ _ c.stops-2.ensures c.if-stops-2.false) _ (packed.next_is z.self.now.text.now _ _ _
-    c.end_of-2.ensures (lexed _ _ _ _ short c.end_of-2.ensures c.lex-2.ensures.cursor_in)) _ (tokened _ _ _ _ short c.token-d.ensures) _ _ _ _ (packed.halts z.self.now.text.now _ _ c.stops-3.ensures
+    parts.head_no_colon z.self.now.text.now (cursor_in z.self.now.text.now z.c) z.lent.now.table.now z.lent.now.notes.now _ (stated _ _ _ short c.state_at-state_name.ensures) _ (packed.keeps
+    z.self.now.text.now _ _ c.stops.ensures c.if-stops.false) _ (packed.next_is z.self.now.text.now _ _ _ c.end_of.ensures (lexed _ _ _ _ short c.end_of.ensures c.lex.ensures.value)) _
+    c.name_here-party.ensures _ (packed.keeps z.self.now.text.now _ _ c.stops-2.ensures c.if-stops-2.false) _ (packed.next_is z.self.now.text.now _ _ _
+    c.end_of-2.ensures (lexed _ _ _ _ short c.end_of-2.ensures c.lex-2.ensures.value)) _ (tokened _ _ _ _ short c.token-past.ensures) _ _ _ _ (packed.halts z.self.now.text.now _ _ c.stops-3.ensures
     c.if-stops-3.true)
 
 pub returns-then-stops-4-clause-value : goal.returns-then-stops-4-clause-value
 returns-then-stops-4-clause-value c =
     let short = c.args.self.now.short in
     let z = c.args in
-    parts.head_no_name z.self.now.text.now (cursor_in z.self.now.text.now z.c) z.lent.now.table.now z.lent.now.notes.now _ (stated _ _ _ short c.state_at-a.ensures) _ (packed.keeps
-    z.self.now.text.now _ _ c.stops.ensures c.if-stops.false) _ (packed.next_is z.self.now.text.now _ _ _ c.end_of.ensures (lexed _ _ _ _ short c.end_of.ensures c.lex.ensures.cursor_in))
-    _ c.name_here-b.ensures _ (packed.keeps z.self.now.text.now _ _ c.stops-2.ensures c.if-stops-2.false) _ (packed.next_is z.self.now.text.now _ _ _
-    c.end_of-2.ensures (lexed _ _ _ _ short c.end_of-2.ensures c.lex-2.ensures.cursor_in)) _ (tokened _ _ _ _ short c.token-d.ensures) _ (packed.keeps z.self.now.text.now _ _ c.stops-3.ensures c.if-stops-3.false) _
-    c.name_here-g.ensures _ _ _ _ (packed.halts z.self.now.text.now _ _ c.stops-4.ensures c.if-stops-4.true)
+    parts.head_no_name z.self.now.text.now (cursor_in z.self.now.text.now z.c) z.lent.now.table.now z.lent.now.notes.now _ (stated _ _ _ short c.state_at-state_name.ensures) _ (packed.keeps
+    z.self.now.text.now _ _ c.stops.ensures c.if-stops.false) _ (packed.next_is z.self.now.text.now _ _ _ c.end_of.ensures (lexed _ _ _ _ short c.end_of.ensures c.lex.ensures.value))
+    _ c.name_here-party.ensures _ (packed.keeps z.self.now.text.now _ _ c.stops-2.ensures c.if-stops-2.false) _ (packed.next_is z.self.now.text.now _ _ _
+    c.end_of-2.ensures (lexed _ _ _ _ short c.end_of-2.ensures c.lex-2.ensures.value)) _ (tokened _ _ _ _ short c.token-past.ensures) _ (packed.keeps z.self.now.text.now _ _ c.stops-3.ensures c.if-stops-3.false) _
+    c.name_here-name.ensures _ _ _ _ (packed.halts z.self.now.text.now _ _ c.stops-4.ensures c.if-stops-4.true)
 
 pub returns-clause-value : goal.returns-clause-value
 returns-clause-value c =
     let short = c.args.self.now.short in
     let z = c.args in
     packed.as_on z.self.now.text.now _ _ _ _ c.lex-3.ensures.goes
-    (parts.head_on z.self.now.text.now (cursor_in z.self.now.text.now z.c) z.lent.now.table.now z.lent.now.notes.now _ (stated _ _ _ short c.state_at-a.ensures) _ (packed.keeps
-    z.self.now.text.now _ _ c.stops.ensures c.if-stops.false) _ (packed.next_is z.self.now.text.now _ _ _ c.end_of.ensures (lexed _ _ _ _ short c.end_of.ensures c.lex.ensures.cursor_in))
-    _ c.name_here-b.ensures _ (packed.keeps z.self.now.text.now _ _ c.stops-2.ensures c.if-stops-2.false) _ (packed.next_is z.self.now.text.now _ _ _
-    c.end_of-2.ensures (lexed _ _ _ _ short c.end_of-2.ensures c.lex-2.ensures.cursor_in)) _ (tokened _ _ _ _ short c.token-d.ensures) _ (packed.keeps z.self.now.text.now _ _ c.stops-3.ensures
-    c.if-stops-3.false) _ c.name_here-g.ensures _ _ _ _ _ _ _ _ _ (packed.keeps z.self.now.text.now _ _ c.stops-4.ensures c.if-stops-4.false)
+    (parts.head_on z.self.now.text.now (cursor_in z.self.now.text.now z.c) z.lent.now.table.now z.lent.now.notes.now _ (stated _ _ _ short c.state_at-state_name.ensures) _ (packed.keeps
+    z.self.now.text.now _ _ c.stops.ensures c.if-stops.false) _ (packed.next_is z.self.now.text.now _ _ _ c.end_of.ensures (lexed _ _ _ _ short c.end_of.ensures c.lex.ensures.value))
+    _ c.name_here-party.ensures _ (packed.keeps z.self.now.text.now _ _ c.stops-2.ensures c.if-stops-2.false) _ (packed.next_is z.self.now.text.now _ _ _
+    c.end_of-2.ensures (lexed _ _ _ _ short c.end_of-2.ensures c.lex-2.ensures.value)) _ (tokened _ _ _ _ short c.token-past.ensures) _ (packed.keeps z.self.now.text.now _ _ c.stops-3.ensures
+    c.if-stops-3.false) _ c.name_here-name.ensures _ _ _ _ _ _ _ _ _ (packed.keeps z.self.now.text.now _ _ c.stops-4.ensures c.if-stops-4.false)
     c.mention_state-state.ensures.value c.mention_state-state.ensures.table_after c.mention_state-state.ensures.notes_after (party_number z.self.now.text.now _ _
     _ _ _ c.start_of.ensures c.end_of-3.ensures c.use_party-number.ensures.value) (party_used_lem z.self.now.text.now _ _ _ _ _
     c.start_of.ensures c.end_of-3.ensures c.use_party-number.ensures.notes_after) (head_table z.self.now.text.now z.c _ _ _ _ _ _ _ _
-    c.start_of-2.ensures c.start_of-3.ensures c.end_of-4.ensures _ c.head.ensures.table_value) (head_notes z.self.now.text.now z.c _ _ _
+    c.start_of-2.ensures c.start_of-3.ensures c.end_of-4.ensures _ c.head.ensures.table_after) (head_notes z.self.now.text.now z.c _ _ _
     _ _ _ _ _ c.start_of-2.ensures c.start_of-3.ensures c.end_of-4.ensures _ c.head.ensures.notes_after) (packed.next_is z.self.now.text.now _ _ _
-    c.end_of-5.ensures (lexed _ _ _ _ short c.end_of-5.ensures c.lex-3.ensures.cursor_in)))
+    c.end_of-5.ensures (lexed _ _ _ _ short c.end_of-5.ensures c.lex-3.ensures.value)))

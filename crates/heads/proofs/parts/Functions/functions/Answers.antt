@@ -7,7 +7,7 @@ use Rattle.cursors.specs.Packed.{cursor_in}
 use Rattle.reading_laws.specs.Walk.{draft}
 use Rattle.cursors.proofs.Turns.{fewer}
 use Rattle.cursors.proofs.Following.{still_same}
-use mathlib.Core.Path.{refl, sym, ◌∙◌, ap}
+use mathlib.Core.Path.{sym, ◌∙◌, ap}
 use Rattle.reading_laws.proofs.Exits as parts
 use Rattle.cursors.proofs.Tested as packed
 use Rattle.heads.proofs.parts.Functions.functions.Goals as goal
@@ -22,16 +22,16 @@ pub returns-then-stops-clause-value : goal.returns-then-stops-clause-value
 returns-then-stops-clause-value c =
     let z = c.args in
     parts.functions_stop z.self.now.text.now _ _ _ _ _ c.loop.invariant.0 _ _ _ _ _ _ _ (omega (arith, c.loop-test.true)) (packed.kind_is z.self.now.text.now _ _ _
-    c.kind_of.ensures c.if-kind_of-ne-AT_SIGN.false) c.function-r.ensures.value (packed.halts z.self.now.text.now _ _ c.stops.ensures c.if-stops.true)
+    c.kind_of.ensures c.if-kind_of-ne-AT_SIGN.false) c.function-next.ensures.value (packed.halts z.self.now.text.now _ _ c.stops.ensures c.if-stops.true)
 
 pub loop-preserved : goal.loop-preserved
 loop-preserved c =
     let z = c.args in (
-      ap (λ (k : ℕ). walk.functions z.self.now.text.now k (cursor_in z.self.now.text.now c.function-r.result) (draft c.function-r.new.lent.table.now c.function-r.new.lent.notes.now)) (fewer (length c.args.self.now.text.now) c.loop.counter)
+      ap (λ (k : ℕ). walk.functions z.self.now.text.now k (cursor_in z.self.now.text.now c.function-next.result) (draft c.function-next.new.lent.table.now c.function-next.new.lent.notes.now)) (fewer (length c.args.self.now.text.now) c.loop.counter)
           ∙ parts.functions_turn z.self.now.text.now _ _ _ _ _ c.loop.invariant.0 _ _ _ _ (omega (arith, c.loop-test.true)) (packed.kind_is z.self.now.text.now _ _ _
-          c.kind_of.ensures c.if-kind_of-ne-AT_SIGN.false) c.function-r.ensures.value (packed.keeps z.self.now.text.now _ _ c.stops.ensures c.if-stops.false),
+          c.kind_of.ensures c.if-kind_of-ne-AT_SIGN.false) c.function-next.ensures.value (packed.keeps z.self.now.text.now _ _ c.stops.ensures c.if-stops.false),
       (
-        still_same c.args.lent.now c.loop.lent c.function-r.new.lent c.loop.invariant.1.0 c.function-r.ensures.same_lists,
+        still_same c.args.lent.now c.loop.lent c.function-next.new.lent c.loop.invariant.1.0 c.function-next.ensures.same_lists,
         sym c.stops.ensures ∙
             c.if-stops.false,
       ),

@@ -12,14 +12,14 @@ returns-then-kind_of-closing-clause-value c =
     packed.as_on z.self.now.text.now _ _ _ _ c.lex.ensures.goes
     (parts.names_none z.self.now.text.now z.closing z.kind (cursor_in z.self.now.text.now z.c) z.lent.now.table.now z.lent.now.notes.now _ (packed.kind_is
     z.self.now.text.now z.c _ _ c.kind_of.ensures c.if-kind_of-closing.true) (packed.next_is z.self.now.text.now _ _ _ c.end_of.ensures
-    (lexed _ _ _ _ short c.end_of.ensures c.lex.ensures.cursor_in)))
+    (lexed _ _ _ _ short c.end_of.ensures c.lex.ensures.value)))
 
 pub returns-then-stops-clause-value : goal.returns-then-stops-clause-value
 returns-then-stops-clause-value c =
     let short = c.args.self.now.short in
     let z = c.args in
     parts.names_stop z.self.now.text.now z.closing z.kind (cursor_in z.self.now.text.now z.c) z.lent.now.table.now z.lent.now.notes.now (packed.kind_not
-    z.self.now.text.now z.c _ _ c.kind_of.ensures c.if-kind_of-closing.false) _ _ _ (agrees _ _ _ _ _ _ _ short (c.names-r.ensures.result_value, (c.names-r.ensures.table_after, c.names-r.ensures.notes_after))) _ _ _ _ (packed.halts z.self.now.text.now _ _
+    z.self.now.text.now z.c _ _ c.kind_of.ensures c.if-kind_of-closing.false) _ _ _ (agrees _ _ _ _ _ _ _ short (c.names-after.ensures.value, (c.names-after.ensures.table_after, c.names-after.ensures.notes_after))) _ _ _ _ (packed.halts z.self.now.text.now _ _
     c.stops.ensures c.if-stops.true)
 
 pub returns-clause-value : goal.returns-clause-value
@@ -27,5 +27,5 @@ returns-clause-value c =
     let short = c.args.self.now.short in
     let z = c.args in
     parts.names_close z.self.now.text.now z.closing z.kind (cursor_in z.self.now.text.now z.c) z.lent.now.table.now z.lent.now.notes.now (packed.kind_not
-    z.self.now.text.now z.c _ _ c.kind_of.ensures c.if-kind_of-closing.false) _ _ _ (agrees _ _ _ _ _ _ _ short (c.names-r.ensures.result_value, (c.names-r.ensures.table_after, c.names-r.ensures.notes_after))) _ _ (packed.keeps z.self.now.text.now _ _
+    z.self.now.text.now z.c _ _ c.kind_of.ensures c.if-kind_of-closing.false) _ _ _ (agrees _ _ _ _ _ _ _ short (c.names-after.ensures.value, (c.names-after.ensures.table_after, c.names-after.ensures.notes_after))) _ _ (packed.keeps z.self.now.text.now _ _
     c.stops.ensures c.if-stops.false) (tokened _ _ _ _ short c.token.ensures)

@@ -10,7 +10,7 @@ returns-then-kind_of-opening-clause-value c =
     let short = c.args.self.now.short in
     let z = c.args in
     parts.listed z.self.now.text.now z.opening z.closing z.kind (cursor_in z.self.now.text.now z.c) _ _ _ _ _ (packed.kind_is z.self.now.text.now z.c _ _
-    c.kind_of.ensures c.if-kind_of-opening.true) (packed.next_is z.self.now.text.now _ _ _ c.end_of.ensures (lexed _ _ _ _ short c.end_of.ensures c.lex.ensures.cursor_in))
+    c.kind_of.ensures c.if-kind_of-opening.true) (packed.next_is z.self.now.text.now _ _ _ c.end_of.ensures (lexed _ _ _ _ short c.end_of.ensures c.lex.ensures.value))
     c.parameter_names.ensures.value
 
 pub returns-clause-value : goal.returns-clause-value

@@ -10,7 +10,7 @@ returns-then-kind_of-eq-OPEN_PAREN-clause-value c =
     let short = c.args.self.now.short in
     let z = c.args in
     parts.preconditioned z.self.now.text.now (cursor_in z.self.now.text.now z.c) _ _ _ _ _ _ (packed.kind_is z.self.now.text.now z.c _ _ c.kind_of.ensures
-    c.if-kind_of-eq-OPEN_PAREN.true) (packed.next_is z.self.now.text.now _ _ _ c.end_of.ensures (lexed _ _ _ _ short c.end_of.ensures c.lex.ensures.cursor_in)) (agrees _ _ _ _ _ _ _ short (c.condition-inner.ensures.result_value, (c.condition-inner.ensures.table_after, c.condition-inner.ensures.notes_after))) (closed _ _ _ short c.close.ensures)
+    c.if-kind_of-eq-OPEN_PAREN.true) (packed.next_is z.self.now.text.now _ _ _ c.end_of.ensures (lexed _ _ _ _ short c.end_of.ensures c.lex.ensures.value)) (agrees _ _ _ _ _ _ _ short (c.condition-inner.ensures.value, (c.condition-inner.ensures.table_after, c.condition-inner.ensures.notes_after))) (closed _ _ _ short c.close.ensures)
 
 pub returns-clause-value : goal.returns-clause-value
 returns-clause-value c =
