@@ -1,13 +1,13 @@
 -- The agreement, part by part. Assumes nothing.
 use mathlib.Core.Path.{◌≡◌, refl, sym, ap, ◌∙◌}
-use mathlib.Core.Bool.{Bool, true, false, not, ◌&&◌}
+use mathlib.Core.Bool.{Bool, true, false, ◌&&◌}
 use mathlib.Core.List.{List, [], ◌∷◌}
 use Prim.Native.Nat.{ℕ, zero, suc, ◌+◌, ◌-◌, ◌*◌, ◌%◌, ◌^◌, ◌<◌, ◌≤◌}
 use native.Mathlib.Numerals.{add-one}
 use native.Mathlib.Nat.{one-mul}
 use native.Mathlib.Omega.{arith}
-use lib.ListN.{length, get_or, take, drop, length-take, length-drop, drop_of_length-le, get_or-eq_default}
-use lib.Seq.{drop-cons, drop-drop, get_or-drop, set_out}
+use lib.ListN.{length, get_or, take, drop, length-take, length-drop, drop_of_length-le}
+use lib.Seq.{drop-cons, drop-drop, get_or-drop}
 use lib.IntN.{ℤ, pos}
 use lib.Bits.{bit_or}
 use lib.Dec.{eqb, leb}
@@ -16,12 +16,18 @@ use borrow.Author.Tests.{eq-eqb, ne_eqb, eqb-true, leb-true, leb-false}
 use Rattle.questions.specs.declared.Question.TheVariants as ask
 use Rattle.laws.specs.Choice.{pick}
 use Rattle.laws.specs.Bytes.{same_bytes}
+use Rattle.laws.specs.Lists.{all_below}
+use Rattle.laws.proofs.Ranges.{first_others}
 use Rattle.laws.proofs.Choice.{pick_true, pick_false, true_false}
 use Rattle.numbers.specs.Numbers.{eq_z}
 use Rattle.tokens.specs.Tokens.{between}
 use Rattle.contract.specs.Tree.{Verb, Clause, Contract}
 use Rattle.contract.specs.Tree as tree
-use Rattle.contract.specs.Rows.{head_of}
+use Rattle.contract.specs.Rows.{head_of, said}
+use Rattle.contract.specs.declared.Verb as rows
+use Rattle.contract.specs.contracts.Verb.{the_type}
+use denote.Enum.Bare.{sameb}
+use Rattle.contract.specs.declared.Verb.TheVariants.{Set, Ok}
 use Rattle.contract.specs.declared.TableHead as head
 use Rattle.contract.specs.Decode.{each_from, contract_of}
 use Rattle.contract.specs.Check.{passes}
@@ -32,25 +38,20 @@ use Rattle.outcomes.specs.declared.Rule.TheVariants.{Agree}
 use Rattle.outcomes.specs.declared.Outcome.TheVariants.{Accepted}
 use Rattle.outcomes.specs.Outcomes.{answered, refused}
 use Rattle.agreements.specs.Agreement.{Part, words_in, parts_in, same_verb, same_fields, same_clause, same_clauses, set_fields, set_clause, set_clauses, agreed_fields, agreed_clause, agreed_clauses, surplus, fields_in, fields_of, same_map, agreed_on, agreed_in}
-use Rattle.agreements.specs.Private.{verb_of, part_at, set_part, set_by, agreed_part, agreed_by, same_by}
+use Rattle.contract.specs.Decode.{verb_of}
+use Rattle.agreements.specs.Private.{part_at, set_part, set_by, agreed_part, agreed_by, same_by}
 use Rattle.agreements.proofs.Clauses.{each_cons, each_nil}
 
 -- ---- verbs
-pub verb_set : (a b : ℕ) → a ≡ 0 → eqb b 0 ≡ same_verb (verb_of a) (verb_of b)
-unfolding same_verb pick
-verb_set a b e = go (eqb b 0) ∙ ap (λ (v : Verb). same_verb v (verb_of b)) (sym (pick_true _ _ _ (eq-eqb a 0 e)))
-  where
-    go : (t : Bool) → t ≡ same_verb tree.set (pick t tree.set tree.ok)
-    go true = refl
-    go false = refl
+same_verbs : (a b : rows.Verb) → sameb the_type a b ≡ same_verb (said a) (said b)
+unfolding same_verb
+same_verbs Set Set = refl
+same_verbs Set Ok = refl
+same_verbs Ok Set = refl
+same_verbs Ok Ok = refl
 
-pub verb_ok : (a b : ℕ) → (a ≡ 0 → ⊥) → not (eqb b 0) ≡ same_verb (verb_of a) (verb_of b)
-unfolding same_verb pick
-verb_ok a b e = go (eqb b 0) ∙ ap (λ (v : Verb). same_verb v (verb_of b)) (sym (pick_false _ _ _ (ne_eqb a 0 e)))
-  where
-    go : (t : Bool) → not t ≡ same_verb tree.ok (pick t tree.set tree.ok)
-    go true = refl
-    go false = refl
+pub verbs_are : (a b : rows.Verb) {x y : Verb} → said a ≡ x → said b ≡ y → sameb the_type a b ≡ same_verb x y
+verbs_are a b p q = same_verbs a b ∙ λ t. same_verb (p t) (q t)
 
 -- ---- fields
 words_length : (line : List ℕ) (n : ℕ) (spans : List ℕ) → length (words_in line n spans) ≡ n
@@ -58,40 +59,20 @@ unfolding words_in
 words_length line zero spans = refl
 words_length line (suc n) spans = ap suc (words_length line n (drop 2 spans))
 
-words_at : (line spans : List ℕ) (n j : ℕ) → j < n → words_in line (n - j) (drop (j * 2) spans) ≡ between line (get_or spans (j * 2) 0) (get_or spans (j * 2 + 1) 0) ∷ words_in line (n - (j + 1)) (drop ((j + 1) * 2) spans)
-unfolding words_in
-words_at line spans n j h =
-    let e : n - j ≡ suc (n - (j + 1)) = omega arith in
-    let a : j * 2 + 0 ≡ j * 2 = omega arith in
-    let d : j * 2 + 2 ≡ (j + 1) * 2 = omega arith in
-    ap (λ (k : ℕ). words_in line k (drop (j * 2) spans)) e
-    ∙ (λ i. between line ((get_or-drop (j * 2) spans 0 0 ∙ ap (λ (k : ℕ). get_or spans k 0) a) i) (get_or-drop (j * 2) spans 1 0 i)
-    ∷ words_in line (n - (j + 1)) ((drop-drop 2 (j * 2) spans ∙ ap (λ (k : ℕ). drop k spans) d) i))
+-- the bytes between two places of the line are the name of a field
+abbrev pub field_named : Contract → List ℕ → ℕ → ℕ → ℕ → Bool
+field_named c line a e x = same_bytes (between line a e) (get_or c.fields x [])
 
-module _ (c : Contract) (line fs spans : List ℕ) (n j : ℕ) (l : length fs ≡ n) where
-  fields_turn : j < n → same_fields c (drop j fs) (words_in line (n - j) (drop (j * 2) spans)) ≡ (same_bytes (between line (get_or spans (j * 2) 0) (get_or spans (j * 2 + 1) 0)) (get_or c.fields (get_or fs j 0) []) && same_fields c (drop (j + 1) fs) (words_in line (n - (j + 1)) (drop ((j + 1) * 2) spans)))
-  unfolding same_fields
-  fields_turn h =
-      let k : j < length fs = omega arith in
-      λ i. same_fields c ((drop-cons fs j 0 k ∙ ap (λ (m : ℕ). get_or fs j 0 ∷ drop m fs) (sym (add-one j))) i) (words_at line spans n j h i)
-
-  pub fields_more : j < n → same_bytes (between line (get_or spans (j * 2) 0) (get_or spans (j * 2 + 1) 0)) (get_or c.fields (get_or fs j 0) []) ≡ true → same_fields c (drop j fs) (words_in line (n - j) (drop (j * 2) spans)) ≡ same_fields c (drop (j + 1) fs) (words_in line (n - (j + 1)) (drop ((j + 1) * 2) spans))
-  fields_more h e = fields_turn h ∙ rw e
-
-  pub fields_not : j < n → same_bytes (between line (get_or spans (j * 2) 0) (get_or spans (j * 2 + 1) 0)) (get_or c.fields (get_or fs j 0) []) ≡ false → same_fields c (drop j fs) (words_in line (n - j) (drop (j * 2) spans)) ≡ false
-  fields_not h e = fields_turn h ∙ rw e
-
-  pub fields_all : n ≤ j → same_fields c (drop j fs) (words_in line (n - j) (drop (j * 2) spans)) ≡ true
-  unfolding same_fields words_in
-  fields_all h =
-      let e : n - j ≡ 0 = omega arith in
-      let k : length fs ≤ j = omega arith in
-      λ i. same_fields c (drop_of_length-le fs k i) (words_in line (e i) (drop (j * 2) spans))
-
-pub fields_first : (c : Contract) (line fs spans : List ℕ) (n : ℕ) → same_fields c fs (words_in line n spans) ≡ same_fields c (drop 0 fs) (words_in line (n - 0) (drop (0 * 2) spans))
-fields_first c line fs spans n =
-    let e : n ≡ n - 0 = omega arith in
-    ap (λ (k : ℕ). same_fields c fs (words_in line k spans)) e
+pub same_places : (c : Contract) (line fs spans : List ℕ)
+    → same_fields c fs (words_in line (length fs) spans) ≡ all_below (length fs) (λ j. field_named c line (get_or spans (j * 2) 0) (get_or spans (j * 2 + 1) 0) (get_or fs j 0))
+unfolding same_fields words_in all_below
+same_places c line [] spans = refl
+same_places c line (x ∷ xs) spans =
+    let start : (j : ℕ) → get_or (drop 2 spans) (j * 2) 0 ≡ get_or spans (suc j * 2) 0 = λ j. get_or-drop 2 spans (j * 2) 0 ∙ ap (λ (k : ℕ). get_or spans k 0) (omega arith) in
+    let end : (j : ℕ) → get_or (drop 2 spans) (j * 2 + 1) 0 ≡ get_or spans (suc j * 2 + 1) 0 = λ j. get_or-drop 2 spans (j * 2 + 1) 0 ∙ ap (λ (k : ℕ). get_or spans k 0) (omega arith) in
+    ap (λ (t : Bool). field_named c line (get_or spans 0 0) (get_or spans 1 0) x && t)
+    (same_places c line xs (drop 2 spans) ∙ λ t. all_below (length xs) (λ j. field_named c line (start j t) (end j t) (get_or xs j 0)))
+    ∙ sym (first_others (λ j. field_named c line (get_or spans (j * 2) 0) (get_or spans (j * 2 + 1) 0) (get_or (x ∷ xs) j 0)) (length xs))
 
 same_count : (c : Contract) (xs : List ℕ) (ns : List (List ℕ)) → same_fields c xs ns ≡ true → length xs ≡ length ns
 unfolding same_fields
@@ -256,22 +237,6 @@ module _ (c : Contract) (f : ℕ → Clause) (line parts spans : List ℕ) (valu
       ∙ (λ t. nothing_left parts (i * 4) t && (nothing_left spans (at * 2) t && nothing_left values at t))
 
 -- ---- values set
-pub past_integer : (s : State) (x : ℕ) (z : ℤ) → length s.kinds ≡ 32 → length s.numbers ≡ 32 → 32 ≤ x → s ≡ with_integer s x z
-past_integer s x z a b h =
-    let k : length s.kinds ≤ x = omega arith in
-    let l : length s.numbers ≤ x = omega arith in
-    λ i. record {
-      agreed = s.agreed;
-      state = s.state;
-      kinds = sym (set_out s.kinds x 1 k) i;
-      numbers = sym (set_out s.numbers x z l) i;
-      texts = s.texts;
-      assets = s.assets;
-      clock = s.clock;
-      pending = s.pending;
-      events = s.events;
-    }
-
 module _ (fs : List ℕ) (values : List ℤ) (at j : ℕ) where
   more_fields : j < length fs → drop j fs ≡ get_or fs j 0 ∷ drop (j + 1) fs
   more_fields h = drop-cons fs j 0 h ∙ ap (λ (m : ℕ). get_or fs j 0 ∷ drop m fs) (sym (add-one j))
@@ -338,31 +303,6 @@ module _ (fs : List ℕ) (values : List ℤ) (at j : ℕ) where
     agreed_all h = ap (λ (xs : List ℕ). agreed_fields s xs (drop j (drop at values))) (drop_of_length-le fs h)
 
 -- ---- a field's integer
-pub no_integer : (s : State) (x : ℕ) (b : Bool) → length s.kinds ≡ 32 → 32 ≤ x → false ≡ (eqb (get_or s.kinds x 0) 1 && b)
-no_integer s x b l h =
-    let k : length s.kinds ≤ x = omega arith in
-    ap (λ (n : ℕ). eqb n 1 && b) (sym (get_or-eq_default s.kinds 0 k))
-
-pub other_kind : (n : ℕ) (b : Bool) → (n ≡ 1 → ⊥) → false ≡ (eqb n 1 && b)
-other_kind n b h = sym (rw (ne_eqb n 1 h))
-
-pub integer_kind : (n : ℕ) (b : Bool) → n ≡ 1 → b ≡ (eqb n 1 && b)
-integer_kind n b h = sym (rw (eq-eqb n 1 h))
-
--- ---- a clause's verb
-module _ (s : State) (xs : List ℕ) (zs : List ℤ) (n : ℕ) (v : Verb) (e : verb_of n ≡ v) where
-  pub set_verb : n ≡ 0 → set_fields s xs zs ≡ set_part s xs zs v
-  set_verb h = ap (set_part s xs zs) (sym (pick_true _ _ _ (eq-eqb n 0 h)) ∙ e)
-
-  pub ok_verb : (n ≡ 0 → ⊥) → s ≡ set_part s xs zs v
-  ok_verb h = ap (set_part s xs zs) (sym (pick_false _ _ _ (ne_eqb n 0 h)) ∙ e)
-
-  pub agreed_set : n ≡ 0 → true ≡ agreed_part s xs zs v
-  agreed_set h = ap (agreed_part s xs zs) (sym (pick_true _ _ _ (eq-eqb n 0 h)) ∙ e)
-
-  pub agreed_ok : (n ≡ 0 → ⊥) → agreed_fields s xs zs ≡ agreed_part s xs zs v
-  agreed_ok h = ap (agreed_part s xs zs) (sym (pick_false _ _ _ (ne_eqb n 0 h)) ∙ e)
-
 -- ---- all clauses, turn by turn
 module _ (f : ℕ → Clause) (values : List ℤ) (n i at : ℕ) (s : State) where
   next_values : (k : ℕ) → length (f i).fields ≡ k → drop (length (f i).fields) (drop at values) ≡ drop (at + k) values
@@ -439,11 +379,11 @@ module _ (v : Verb) (f : ℕ → Clause) (n i : ℕ) where
       e ∙ ap (λ (k : ℕ). fields_of v (each_from k (n - k) f)) z
 
 -- of SET and of OK
-pub masks_same : (ks : List Clause) (m o : ℕ) (b : Bool) → m ≡ fields_of (verb_of 0) ks → o ≡ fields_of (verb_of 1) ks → m ≡ o → b ≡ (eqb (fields_of tree.set ks) (fields_of tree.ok ks) && b)
+pub masks_same : (ks : List Clause) (m o : ℕ) (b : Bool) → m ≡ fields_of tree.set ks → o ≡ fields_of tree.ok ks → m ≡ o → b ≡ (eqb (fields_of tree.set ks) (fields_of tree.ok ks) && b)
 unfolding pick
 masks_same ks m o b p q e = sym (ap (λ (t : Bool). t && b) (eq-eqb _ _ (sym p ∙ e ∙ q)))
 
-pub masks_other : (ks : List Clause) (m o : ℕ) (b : Bool) → m ≡ fields_of (verb_of 0) ks → o ≡ fields_of (verb_of 1) ks → (m ≡ o → ⊥) → false ≡ (eqb (fields_of tree.set ks) (fields_of tree.ok ks) && b)
+pub masks_other : (ks : List Clause) (m o : ℕ) (b : Bool) → m ≡ fields_of tree.set ks → o ≡ fields_of tree.ok ks → (m ≡ o → ⊥) → false ≡ (eqb (fields_of tree.set ks) (fields_of tree.ok ks) && b)
 unfolding pick
 masks_other ks m o b p q h = sym (ap (λ (t : Bool). t && b) (ne_eqb _ _ (λ e. h (p ∙ e ∙ sym q))))
 

@@ -22,7 +22,7 @@ use Rattle.laws.proofs.Truths.{link}
 use Rattle.laws.specs.Lists.{all_below}
 use Rattle.contract_laws.proofs.Sound.{passed}
 use Rattle.state.proofs.Decoded.{each_at}
-use Rattle.agreements.specs.Private.{verb_of}
+use Rattle.contract.specs.Decode.{verb_of}
 
 -- ---- f i, f (i + 1), .. from one of them on
 module _ {A : Type 0} (f : ℕ → A) (n i : ℕ) where

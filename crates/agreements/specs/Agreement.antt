@@ -8,7 +8,7 @@ use Rattle.numbers.specs.Numbers.{eq_z}
 use Rattle.tokens.specs.Tokens.{between}
 use Rattle.contract.specs.Tree.{Word, Verb, ok, Clause, Contract}
 use Rattle.contract.specs.Tree as tree
-use Rattle.contract.specs.Decode.{contract_of}
+use Rattle.contract.specs.Decode.{verb_of, contract_of}
 use Rattle.contract.specs.Check.{passes}
 use Rattle.state.specs.declared.State.{State}
 use Rattle.state.specs.States.{with_integer, opened}
@@ -41,7 +41,7 @@ parts_in line (suc n) parts spans values =
     let k = get_or parts 3 0 in
     record {
       party = between line (get_or parts 0 0) (get_or parts 1 0);
-      verb = pick (eqb (get_or parts 2 0) 0) tree.set ok;
+      verb = verb_of (get_or parts 2 0);
       fields = words_in line k spans;
       values = take k values;
     }

@@ -1,14 +1,10 @@
 -- What the parts of the code work out.
 use Rattle.std.specs.Prelude.{ℕ, ◌+◌, ◌*◌, Bool, true, ◌&&◌, List, [], ◌∷◌, length, get_or, take, drop, eqb, ℤ}
-use Rattle.laws.specs.Choice.{pick}
 use Rattle.tokens.specs.Tokens.{between}
 use Rattle.contract.specs.Tree.{Verb, set, ok, Clause}
+use Rattle.contract.specs.Decode.{verb_of}
 use Rattle.state.specs.declared.State.{State}
 use Rattle.agreements.specs.Agreement.{Part, words_in, set_fields, agreed_fields, fields_of}
-
--- 0 for SET, else OK
-abbrev pub verb_of : ℕ → Verb
-verb_of n = pick (eqb n 0) set ok
 
 -- part i of a line, its fields and values being those from `at` on
 abbrev pub part_at : List ℕ → List ℕ → List ℕ → List ℤ → ℕ → ℕ → Part

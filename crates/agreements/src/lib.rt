@@ -1,63 +1,45 @@
 // The agreement: the parties' clauses in the contract's order, with the fields' values, as parts of a session line.
 #![tactic(auto)]
 
-ghost use Rattle.std.specs.Prelude.{◌≡◌, true, ◌&&◌, ◌*◌, ◌/◌, ◌≤◌, ◌<◌, length, get_or, drop, pos, eqb};
+ghost use Rattle.std.specs.Prelude.{◌≡◌, true, ◌&&◌, [], ◌+◌, ◌*◌, ◌/◌, ◌≤◌, ◌<◌, length, get_or, drop, pos, eqb};
 ghost use Rattle.laws.specs.Bytes.{same_bytes};
 ghost use Rattle.numbers.specs.Numbers.{eq_z};
 ghost use Rattle.tokens.specs.Tokens.{between};
 ghost use Rattle.contract.specs.Table.{word_at, clause_word};
 ghost use Rattle.contract.specs.Decode.{word_of, clause_at, contract_of};
 ghost use Rattle.contract.specs.Check.{passes};
-ghost use Rattle.contract.specs.Rows.{clause_row_of};
+ghost use Rattle.contract.specs.Rows.{clause_row_of, said};
 ghost use Rattle.state.specs.States.{with_integer};
-ghost use Rattle.agreements.specs.Agreement.{parts_in, words_in, same_verb, same_fields, same_clause, same_clauses, set_fields, agreed_fields, fields_in, fields_of, agreed_on, agreed_in};
-ghost use Rattle.agreements.specs.Private.{verb_of, part_at, set_part, set_by, agreed_part, agreed_by, same_by};
+ghost use Rattle.agreements.specs.Agreement.{parts_in, words_in, same_fields, same_clause, same_clauses, set_fields, agreed_fields, fields_in, fields_of, agreed_on, agreed_in};
+ghost use Rattle.agreements.specs.Private.{part_at, set_part, set_by, agreed_part, agreed_by, same_by};
 
-use contract::{Clause, Contract};
+use contract::{Clause, Verb};
+use evaluation::FieldKind;
 use items::get_or;
 use outcomes::{Outcome, Rule, Stepped};
 use questions::Question;
 use state::State;
 
-// Whether a clause and a part have the same verb: 0 for SET, else OK.
-#[tactic(auto, unfolding(crate::specs::Agreement::same_verb, laws::specs::Choice::pick))]
-fn same_verb(a: usize, b: usize) -> bool
-    ensures { result ≡ same_verb (verb_of a) (verb_of b) }
-{
-    if a == 0 { b == 0 } else { b != 0 }
-}
-
 // Field x gets an integer.
-#[tactic(auto, using(state::proofs::Lengths::kinds_length, state::proofs::Lengths::numbers_length, crate::proofs::Agreements::past_integer))]
 fn with_integer(s: State, x: usize, z: i64) -> State
     ensures { result ≡ with_integer s x z }
 {
-    if Contract::FIELDS <= x {
-        return s;
-    }
     let mut next = s;
-    next.kinds[x] = 1;
-    next.numbers[x] = z;
+    items::set(&mut next.kinds, x, FieldKind::INTEGER);
+    items::set(&mut next.numbers, x, z);
     next
 }
 
 // Whether field x has this integer.
-#[tactic(auto, using(state::proofs::Lengths::kinds_length, crate::proofs::Agreements::no_integer, crate::proofs::Agreements::other_kind, crate::proofs::Agreements::integer_kind, numbers::proofs::Whole::eq_bits))]
+#[tactic(auto, using(numbers::proofs::Whole::eq_bits))]
 fn has_integer(s: State, x: usize, z: i64) -> bool
     ensures { result ≡ (eqb (get_or s.kinds x 0) 1 && eq_z (get_or s.numbers x (pos 0)) z) }
 {
-    if Contract::FIELDS <= x {
-        return false;
-    }
-    let kinds = s.kinds;
-    if kinds[x] != 1 {
-        return false;
-    }
-    let numbers = s.numbers;
-    get_or(&numbers, x, 0) == z
+    get_or(&s.kinds, x, 0) == FieldKind::INTEGER && get_or(&s.numbers, x, 0) == z
 }
 
 // What was heard, on a table that passes: the line, its parts, where its fields' names stand, and their values.
+// Kept: (a) lists of numbers beside each other, since the public step takes them so, of any lengths; that they belong together is question 23.
 #[derive(Clone, Copy)]
 struct Heard<'a> {
     table: &'a [u64],
@@ -82,9 +64,9 @@ struct ClauseAt<'a> {
 impl<'a> ClauseAt<'a> {
     fn of(heard: Heard<'a>, i: usize, at: usize) -> ClauseAt<'a>
         requires { (i < word_at heard.table.now 5) × (at < 1024) }
-        ensures heard_value { result.heard ≡ heard.entry }
-        ensures i_value { result.i ≡ i }
-        ensures at_value { result.at ≡ at }
+        ensures same_heard { result.heard ≡ heard.entry }
+        ensures same_i { result.i ≡ i }
+        ensures same_at { result.at ≡ at }
     {
         ClauseAt {
             heard,
@@ -105,25 +87,33 @@ impl Heard<'_> {
 }
 
 impl ClauseAt<'_> {
+    // What it does with its fields.
+    #[tactic(auto, using(crate::proofs::Clauses::row_verb))]
+    fn verb(&self) -> Verb
+        ensures { said result ≡ (clause_at self.now.heard.table.now self.now.i).verb }
+    {
+        Verb::from(self.row.verb)
+    }
+
+    // Whether its field j is the one that the line names there.
+    #[tactic(auto, using(crate::proofs::Clauses::placed, crate::proofs::Clauses::row_fields, crate::proofs::Clauses::field_name))]
+    fn same_field(&self, j: usize) -> bool
+        requires { j < self.now.row.fields }
+        ensures { result ≡ same_bytes (between self.now.heard.line.now (get_or self.now.heard.spans.now ((self.now.at + j) * 2) 0) (get_or self.now.heard.spans.now ((self.now.at + j) * 2 + 1) 0)) (get_or (contract_of self.now.heard.table.now).fields (clause_word self.now.heard.table.now self.now.i (3 + j)) []) }
+    {
+        let spans = self.heard.spans;
+        let from = (self.at + j) * 2;
+        let field = contract::clause_field(self.heard.table, self.i, j);
+        let o = contract::FIELDS + field * contract::NAME_WORDS;
+        self.heard
+            .named(o, get_or(spans, from, 0), get_or(spans, from + 1, 0))
+    }
+
     // Whether its fields are those that the line names.
-    #[tactic(auto, using(crate::proofs::Clauses::placed, crate::proofs::Clauses::row_fields, crate::proofs::Clauses::fields_count, crate::proofs::Clauses::field_at, crate::proofs::Clauses::here, crate::proofs::Agreements::fields_first, crate::proofs::Agreements::fields_more, crate::proofs::Agreements::fields_not, crate::proofs::Agreements::fields_all))]
     fn same_fields(&self) -> bool
         ensures { result ≡ same_fields (contract_of self.now.heard.table.now) (clause_at self.now.heard.table.now self.now.i).fields (words_in self.now.heard.line.now (clause_word self.now.heard.table.now self.now.i 2) (drop (self.now.at * 2) self.now.heard.spans.now)) }
     {
-        let n = self.row.fields;
-        let spans = self.heard.spans;
-        for j in 0..n {
-            let from = (self.at + j) * 2;
-            let field = contract::clause_field(self.heard.table, self.i, j);
-            let o = contract::FIELDS + field * contract::NAME_WORDS;
-            if !self
-                .heard
-                .named(o, get_or(spans, from, 0), get_or(spans, from + 1, 0))
-            {
-                return false;
-            }
-        }
-        true
+        (0..self.row.fields).all(|j| self.same_field(j))
     }
 
     // Whether it is the part with its number.
@@ -142,20 +132,19 @@ impl ClauseAt<'_> {
         if values.len() < self.at + c.fields {
             return false;
         }
-        if !same_verb(c.verb, get_or(parts, p + 2, 0)) {
+        let same_verb = self.verb() == Verb::from(get_or(parts, p + 2, 0));
+        if !same_verb {
             return false;
         }
         let o = contract::PARTIES + c.party * contract::NAME_WORDS;
-        if self
-            .heard
+        self.heard
             .named(o, get_or(parts, p, 0), get_or(parts, p + 1, 0))
-        {
-            return self.same_fields();
-        }
-        false
+            && self.same_fields()
     }
 
     // Its fields get their values.
+    // Kept: (d) here and in `agreed_fields` the values may end before the fields do, which the definition tells at each field; in the loop's bound it
+    // would be a difference of two lengths, the less of which is taken.
     #[tactic(auto, using(crate::proofs::Clauses::placed, crate::proofs::Clauses::row_fields, crate::proofs::Clauses::fields_count, crate::proofs::Clauses::field_at, crate::proofs::Agreements::set_more, crate::proofs::Agreements::set_short, crate::proofs::Agreements::set_all))]
     fn set_fields(&self, s: State) -> State
         ensures { result ≡ set_fields s (clause_at self.now.heard.table.now self.now.i).fields (drop self.now.at self.now.heard.values.now) }
@@ -178,11 +167,10 @@ impl ClauseAt<'_> {
     fn set_clause(&self, s: State) -> State
         ensures { result ≡ set_part s (clause_at self.now.heard.table.now self.now.i).fields (drop self.now.at self.now.heard.values.now) (clause_at self.now.heard.table.now self.now.i).verb }
     {
-        let c = self.row;
-        if c.verb == 0 {
-            return self.set_fields(s);
+        match self.verb() {
+            Verb::Set => self.set_fields(s),
+            Verb::Ok => s,
         }
-        s
     }
 
     // Whether its fields have their values.
@@ -209,16 +197,17 @@ impl ClauseAt<'_> {
     fn agreed_clause(&self, s: State) -> bool
         ensures { result ≡ agreed_part s (clause_at self.now.heard.table.now self.now.i).fields (drop self.now.at self.now.heard.values.now) (clause_at self.now.heard.table.now self.now.i).verb }
     {
-        let c = self.row;
-        if c.verb == 0 {
-            return true;
+        match self.verb() {
+            Verb::Set => true,
+            Verb::Ok => self.agreed_fields(s),
         }
-        self.agreed_fields(s)
     }
 }
 
 impl Heard<'_> {
     // Whether the clauses are the parts, and nothing is left over.
+    // Kept: (d) here and in `agreed_clauses` the place of the next field goes on beside the index, and a clause that fails ends both: by `try_fold` the
+    // place stands in an Option, to be opened again.
     fn same_clauses(&self) -> bool
         ensures { result ≡ same_clauses (contract_of self.now.table.now) (contract_of self.now.table.now).clauses (parts_in self.now.line.now (length self.now.parts.now / 4) self.now.parts.now self.now.spans.now self.now.values.now) }
     {
@@ -237,7 +226,7 @@ impl Heard<'_> {
             }
             at += clause.row.fields;
         }
-        (parts.len() <= count * 4) & ((spans.len() <= at * 2) & (values.len() <= at))
+        parts.len() <= count * 4 && spans.len() <= at * 2 && values.len() <= at
     }
 
     // The clauses' fields get their values.
@@ -274,6 +263,8 @@ impl Heard<'_> {
     }
 
     // A bit for each field of clause i.
+    // Kept: (d) here and in `fields_of` the mask grows from the last item back, as the definition is read; a `fold` is this loop with the mask as the
+    // closure's argument, and no shorter.
     #[tactic(auto, using(crate::proofs::Clauses::placed, crate::proofs::Clauses::field_at, crate::proofs::Clauses::fields_count, crate::proofs::Clauses::row_count, crate::proofs::Agreements::fields_none, crate::proofs::Agreements::fields_before, crate::proofs::Agreements::fields_done))]
     fn fields_in(&self, i: usize) -> u64
         requires { i < word_at self.now.table.now 5 }
@@ -281,23 +272,22 @@ impl Heard<'_> {
     {
         let mut mask: u64 = 0;
         for j in (0..contract::clause_at(self.table, i).fields).rev() {
-            mask = mask | (1 << contract::clause_field(self.table, i, j));
+            mask |= 1 << contract::clause_field(self.table, i, j);
         }
         mask
     }
 
-    // A bit for each field that clauses of this verb name: 0 for SET, else OK.
+    // A bit for each field that clauses of this verb name.
     #[tactic(auto, using(crate::proofs::Clauses::clauses_first, crate::proofs::Clauses::row_verb, crate::proofs::Agreements::clauses_none, crate::proofs::Agreements::clauses_before, crate::proofs::Agreements::clauses_skip, crate::proofs::Agreements::clauses_done))]
-    fn fields_of(&self, verb: usize) -> u64
-        ensures { result ≡ fields_of (verb_of verb) (contract_of self.now.table.now).clauses }
+    fn fields_of(&self, verb: Verb) -> u64
+        ensures { result ≡ fields_of (said verb) (contract_of self.now.table.now).clauses }
     {
         let mut mask: u64 = 0;
         for i in (0..contract::head(self.table).clauses).rev() {
-            let c = contract::clause_at(self.table, i);
-            if !same_verb(verb, c.verb) {
-                continue;
+            let said = Verb::from(contract::clause_at(self.table, i).verb);
+            if verb == said {
+                mask |= self.fields_in(i);
             }
-            mask = mask | self.fields_in(i);
         }
         mask
     }
@@ -307,10 +297,7 @@ impl Heard<'_> {
     fn same_map(&self, s: State) -> bool
         ensures { result ≡ same_by s (contract_of self.now.table.now).clauses self.now.values.now }
     {
-        if self.fields_of(0) != self.fields_of(1) {
-            return false;
-        }
-        self.agreed_clauses(s)
+        self.fields_of(Verb::Set) == self.fields_of(Verb::Ok) && self.agreed_clauses(s)
     }
 
     // An agreement on a contract's state.

@@ -5,7 +5,7 @@ use mathlib.Core.List.{List}
 use Prim.Native.Nat.{ℕ, ◌-◌, ◌<◌, ◌≤◌}
 use native.Mathlib.Omega.{arith}
 use borrow.Author.Tests.{lt-ltb, le-ltb, le-leb, lt-leb}
-use Rattle.std.specs.Prelude.{Option, None, Some, Ok, Err}
+use Rattle.std.specs.Prelude.{Result, Ok, Err}
 use Rattle.laws.specs.Choice.{pick}
 use Rattle.questions.specs.declared.Question.{Question}
 use Rattle.questions.specs.declared.Question.TheVariants as ask
@@ -34,21 +34,21 @@ pub record Counted (w : List ℕ) (k j : ℕ) : Type 0 where
   pub left : j ≡ left_at w k
   pub below : j < k
 
-abbrev Told : List ℕ → ℕ → Option ℕ → Type 0
-Told w k None = counts_two w k ≡ false
-Told w k (Some j) = Counted w k j
+abbrev Told : List ℕ → ℕ → Result ℕ Question → Type 0
+Told w k (Err q) = (counts_two w k ≡ false) × (q ≡ ask.TableCheck)
+Told w k (Ok j) = Counted w k j
 
 told : (w : List ℕ) (k : ℕ) → Told w k (left_from w k)
 unfolding left_from
 told w k =
-    by_cases (Told w k) (counts_two w k) (Some (left_at w k)) None
-    (λ t. let h : 0 < k = two_some w k t in record { two = t; left = refl; below = omega arith }) (λ t. t)
+    by_cases (Told w k) (counts_two w k) (Ok (left_at w k)) (Err ask.TableCheck)
+    (λ t. let h : 0 < k = two_some w k t in record { two = t; left = refl; below = omega arith }) (λ t. (t, refl))
 
-pub is_counted : (w : List ℕ) (k j : ℕ) (o : Option ℕ) → o ≡ left_from w k → o ≡ Some j → Counted w k j
+pub is_counted : (w : List ℕ) (k j : ℕ) (o : Result ℕ Question) → o ≡ left_from w k → o ≡ Ok j → Counted w k j
 is_counted w k j o e q = subst (Told w k) (sym e ∙ q) (told w k)
 
-pub is_uncounted : (w : List ℕ) (k : ℕ) (o : Option ℕ) → o ≡ left_from w k → o ≡ None → counts_two w k ≡ false
-is_uncounted w k o e q = subst (Told w k) (sym e ∙ q) (told w k)
+pub is_uncounted : (w : List ℕ) (k : ℕ) (q : Question) (o : Result ℕ Question) → o ≡ left_from w k → o ≡ Err q → (counts_two w k ≡ false) × (q ≡ ask.TableCheck)
+is_uncounted w k p o e q = subst (Told w k) (sym e ∙ q) (told w k)
 
 -- ---- a node
 module _ (m : Memory) (w : List ℕ) (k : ℕ) (n : Node) (e : n ≡ node_of w k) where

@@ -1,6 +1,7 @@
 -- Nodes by their parts; conditions by their nodes: comparisons, nodes without conditions in them, and `~`s in a row.
-use Rattle.std.specs.Prelude.{ℕ, zero, suc, ◌-◌, Bool, true, false, not, List, eqb, ltb, Option, None, Some, Err}
+use Rattle.std.specs.Prelude.{ℕ, zero, suc, ◌-◌, Bool, true, false, not, List, eqb, ltb, Result, Ok, Err}
 use Rattle.laws.specs.Choice.{pick}
+use Rattle.questions.specs.declared.Question.{Question}
 use Rattle.questions.specs.declared.Question.TheVariants as ask
 use Rattle.numbers.specs.Numbers.{Truth}
 use Rattle.contract.specs.Table.{kind_at, size_at, not_kind}
@@ -14,8 +15,8 @@ abbrev pub left_at : List ℕ → ℕ → ℕ
 left_at w k = k - 1 - size_at w (k - 1)
 
 -- the same where node k counts itself and two parts
-unfoldable pub left_from : List ℕ → ℕ → Option ℕ
-left_from w k = pick (counts_two w k) (Some (left_at w k)) None
+unfoldable pub left_from : List ℕ → ℕ → Result ℕ Question
+left_from w k = pick (counts_two w k) (Ok (left_at w k)) (Err ask.TableCheck)
 
 -- node k as a comparison
 unfoldable pub compared_at : Memory → List ℕ → ℕ → Truth

@@ -20,6 +20,7 @@ use numbers::{Comparison, Operator, Value};
 use questions::Question;
 
 // The amounts that expressions read: those of the assets, then those of the asset parameters.
+// Kept: (a) document 01 has limits and numbers of kinds stand as associated constants: this type and the next hold nothing else.
 #[derive(Clone, Copy)]
 pub struct Holdings {}
 
@@ -27,10 +28,23 @@ impl Holdings {
     pub const MOST: usize = Contract::ASSETS + Function::PARAMETERS;
 }
 
+// What a field holds, as a word of the state.
+#[derive(Clone, Copy)]
+pub struct FieldKind {}
+
+// Kept: (a) question 4 judges the word, whatever it is, so that it is a number.
+impl FieldKind {
+    pub const NOTHING: u8 = 0;
+
+    pub const INTEGER: u8 = 1;
+
+    pub const STRING: u8 = 2;
+}
+
 // What expressions and conditions are worked out in.
 #[derive(Clone, Copy)]
 pub struct Memory<'a> {
-    // Of each field 0 nothing, 1 an integer, 2 a string; its integer, and its string's number.
+    // Of each field its kind; its integer, and its string's number.
     pub kinds: &'a [u8; Contract::FIELDS],
     pub numbers: &'a [i64; Contract::FIELDS],
     pub texts: &'a [u8; Contract::FIELDS],
@@ -112,8 +126,8 @@ fn field_value(memory: &Memory, i: usize) -> Result<Value, Question>
         ..
     } = *memory;
     match get_or(kinds, i, 0) {
-        0 => Err(Question::FieldValue),
-        1 => Ok(Value::Integer(get_or(numbers, i, 0))),
+        FieldKind::NOTHING => Err(Question::FieldValue),
+        FieldKind::INTEGER => Ok(Value::Integer(get_or(numbers, i, 0))),
         _ => Ok(Value::Text(get_or(texts, i, 0))),
     }
 }
@@ -133,13 +147,14 @@ fn leaf(memory: &Memory, kind: u64, n: u64) -> Result<Value, Question>
     let Memory {
         holdings,
         values,
+        clock,
         ..
     } = *memory;
     let i = n as usize;
     match kind {
         Node::CONSTANT => constant(n),
         Node::STRING => string(n),
-        Node::NOW => numbers::natural(memory.clock),
+        Node::NOW => numbers::natural(clock),
         Node::FIELD => field_value(memory, i),
         Node::VALUE => Ok(Value::Integer(get_or(values, i, 0))),
         Node::ASSET => numbers::natural(get_or(holdings, i, 0)),
@@ -148,34 +163,35 @@ fn leaf(memory: &Memory, kind: u64, n: u64) -> Result<Value, Question>
     }
 }
 
-// Whether a node of this size counts itself and parts of two sizes, 0 for a part that it doesn't have.
+// Whether a node of this size counts itself and parts of two sizes.
+// Kept: (d) a part that is not there takes no nodes, so that its size is 0 and no option.
 fn counts(size: usize, left: usize, right: usize) -> bool
     ensures { result ≡ eqb size (suc (left + right)) }
 {
     right < size && size - right - 1 == left
 }
 
-// Where the left part of node k, of this size, ends; none where the node doesn't count itself and two parts.
+// Where the left part of node k, of this size, ends; refused where the node doesn't count itself and two parts.
 #[tactic(auto, unfolding(laws::specs::Choice::pick, contract::specs::Decode::counts_two, crate::specs::Private::left_from))]
-fn left_of(table: &[u64], k: usize, size: usize) -> Option<usize>
+fn left_of(table: &[u64], k: usize, size: usize) -> Result<usize, Question>
     requires { size ≡ size_at table.now k }
     ensures { result ≡ left_from table.now k }
 {
     if k == 0 {
-        return None;
+        return Err(Question::TableCheck);
     }
     let last = k - 1;
     let right = contract::node_at(table, last).size;
     let left = last.saturating_sub(right);
     if counts(size, contract::node_at(table, left).size, right) {
-        return Some(left);
+        return Ok(left);
     }
-    None
+    Err(Question::TableCheck)
 }
 
 // The expression at node k.
-// Kept: (d) this and `truth` are public with these three, and only `compared_at` and `simple` take them besides: a struct of table and
-// memory would be made in each public call for those two.
+// Kept: (a) this and `truth` are public with these three, and statements and the machine call them so: a struct of table and memory could
+// serve the two private functions alone, and would be made in each call of these.
 pub fn value(table: &[u64], memory: &Memory, k: usize) -> Result<Value, Question>
     ensures { result ≡ value_of (lent memory.now) (expression_at table.now k) }
 {
@@ -188,12 +204,10 @@ pub fn value(table: &[u64], memory: &Memory, k: usize) -> Result<Value, Question
     if Node::OVER < kind {
         return Err(Question::TableCheck);
     }
-    let Some(left) = left_of(table, k, node.size) else {
-        return Err(Question::TableCheck);
-    };
+    let left = left_of(table, k, node.size)?;
     let last = k - 1;
     let first = value(table, memory, left);
-    // Kept: (a) document 01 opens an evaluation answer by let .. else.
+    // Kept: (a) document 01 opens an evaluation answer by let .. else, which leaves with its question where others use `?`.
     let Ok(a) = first else {
         return first;
     };
@@ -209,9 +223,7 @@ fn compared_at(table: &[u64], memory: &Memory, k: usize) -> Result<bool, Questio
     ensures { result ≡ compared_at (lent memory.now) table.now k }
 {
     let node = contract::node_at(table, k);
-    let Some(left) = left_of(table, k, node.size) else {
-        return Err(Question::TableCheck);
-    };
+    let left = left_of(table, k, node.size)?;
     let last = k - 1;
     let x = value(table, memory, left);
     // Kept: (a) document 01 opens an evaluation answer by let .. else.
@@ -235,7 +247,7 @@ fn simple(table: &[u64], memory: &Memory, k: usize) -> Result<bool, Question>
     match kind {
         Node::TRUE => Ok(true),
         Node::FALSE => Ok(false),
-        Node::EQUAL..=Node::AT_LEAST => { compared_at(table, memory, k) }
+        Node::EQUAL..=Node::AT_LEAST => compared_at(table, memory, k),
         _ => Err(Question::TableCheck),
     }
 }
@@ -299,9 +311,7 @@ pub fn truth(table: &[u64], memory: &Memory, k: usize) -> Result<bool, Question>
     if Node::OR < kind {
         return Err(Question::TableCheck);
     }
-    let Some(left) = left_of(table, end, node.size) else {
-        return Err(Question::TableCheck);
-    };
+    let left = left_of(table, end, node.size)?;
     let last = end - 1;
     let one = truth(table, memory, left);
     // Kept: (a) document 01 opens an evaluation answer by let .. else.

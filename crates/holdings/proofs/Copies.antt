@@ -103,15 +103,17 @@ module _ (held : List ℕ) (zs : List ℤ) (full : length held ≡ 16) where
             ∙ sym (take-append-le 16 (take 16 held) b g ∙ take_all 16 (take 16 held) f);
       }
 
-  -- and the four amounts set after them
-  pub holdings_made : {out : List ℕ} {i : ℕ} (a b c d : ℕ) → Copied (holdings_of held zs) out 20 i → i ≡ 16 → a ≡ get_or (amounts zs) 0 0
-      → b ≡ get_or (amounts zs) 1 0 → c ≡ get_or (amounts zs) 2 0 → d ≡ get_or (amounts zs) 3 0
-      → set (set (set (set out 16 a) 17 b) 18 c) 19 d ≡ holdings_of held zs
-  holdings_made {out} a b c d m e ea eb ec ed =
+  -- one amount more set after them
+  pub holding_more : {out : List ℕ} {i : ℕ} (j a : ℕ) → Copied (holdings_of held zs) out 20 i → i ≡ 16 + j → j < 4 → a ≡ get_or (amounts zs) j 0
+      → Copied (holdings_of held zs) (set out (16 + j) a) 20 (16 + (j + 1))
+  holding_more {out} {i} j a m e h q =
       let k : 20 ≤ length (holdings_of held zs) = omega (arith, holdings_length) in
-      let m0 : Copied (holdings_of held zs) out 20 16 = subst (Copied (holdings_of held zs) out 20) e m in
-      let m1 = copied_more a m0 (omega arith) k (ea ∙ parameter_holding 16 (omega arith) (omega arith)) in
-      let m2 = copied_more b m1 (omega arith) k (eb ∙ parameter_holding 17 (omega arith) (omega arith)) in
-      let m3 = copied_more c m2 (omega arith) k (ec ∙ parameter_holding 18 (omega arith) (omega arith)) in
-      let m4 = copied_more d m3 (omega arith) k (ed ∙ parameter_holding 19 (omega arith) (omega arith)) in
-      copied_all m4 refl ∙ take_all 20 (holdings_of held zs) (omega (arith, holdings_length))
+      let z : 16 + j - 16 ≡ j = omega arith in
+      let n : 16 + j + 1 ≡ 16 + (j + 1) = omega arith in
+      let m0 : Copied (holdings_of held zs) out 20 (16 + j) = subst (Copied (holdings_of held zs) out 20) e m in
+      let p = q ∙ ap (λ (x : ℕ). get_or (amounts zs) x 0) (sym z) ∙ parameter_holding (16 + j) (omega arith) (omega arith) in
+      subst (Copied (holdings_of held zs) (set out (16 + j) a) 20) n (copied_more a m0 (omega arith) k p)
+
+  -- all set
+  pub holdings_made : {out : List ℕ} {i : ℕ} → Copied (holdings_of held zs) out 20 i → i ≡ 20 → out ≡ holdings_of held zs
+  holdings_made {out} {i} m e = copied_all m (sym e) ∙ take_all 20 (holdings_of held zs) (omega (arith, holdings_length))

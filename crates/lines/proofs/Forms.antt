@@ -1,12 +1,12 @@
 -- The forms of a line exclude each other; what they hold fits the arrays. Assumes nothing.
 use mathlib.Core.Path.{◌≡◌, refl, sym, ap, subst, ◌∙◌}
 use mathlib.Core.Bool.{Bool, true, false}
-use mathlib.Core.List.{List, [], ◌∷◌, ◌++◌}
-use Prim.Native.Nat.{ℕ, zero, suc, ◌+◌, ◌-◌, ◌*◌, ◌<◌, ◌≤◌}
+use mathlib.Core.List.{List, [], ◌∷◌, ◌++◌, append-nil}
+use Prim.Native.Nat.{ℕ, zero, suc, ◌+◌, ◌-◌, ◌*◌, ◌^◌, ◌<◌, ◌≤◌}
 use native.Mathlib.Nat.{add-zero}
 use native.Mathlib.Omega.{arith}
-use lib.ListN.{length, get_or, drop, replicate, length-replicate, length-append}
-use lib.Seq.{sets, sets-eq, get_or-drop}
+use lib.ListN.{length, get_or, take, drop, replicate, length-replicate, length-append, length-take}
+use lib.Seq.{sets, sets-eq, get_or-drop, take-append_seam}
 use lib.Dec.{eqb, leb}
 use lib.IntN.{ℤ, pos}
 use borrow.Author.Tests.{eqb-true, le-leb, lt-leb}
@@ -15,16 +15,18 @@ use Rattle.laws.specs.Choice.{pick}
 use Rattle.laws.specs.Bytes.{bytes, starts_with}
 use Rattle.laws.proofs.Choice.{true_false, pick_true, pick_false}
 use Rattle.tokens.specs.Classes.{within as in_range, is_letter}
-use Rattle.lines.specs.Lines.{Span, Part, Names, Lists, Asked, refused, call, agreement, Parsed, done, no, and_then, give, otherwise, skipped, is_next, mark, end, name_from, name, verb, integer, list, names, lists, part, parts, tick_line, call_line, agreement_line, or_refused, asked}
-use Rattle.lines.specs.Answers.{padded, plain, line_of, numbers_of, parts_of, fields_of, heads_of, spans_of, values_of, agreement_of}
-use Rattle.std.specs.Prelude.{Option, Some, None}
-use Rattle.lines.specs.Private.{given, request_in, names_from, CallIs, Integers, with_integers}
+use Rattle.lines.specs.Lines.{Span, Part, Names, Lists, Asked, refused, tick, jump, call, agreement, Parsed, done, no, and_then, give, otherwise, skipped, is_next, mark, end, name_from, name, verb, integer, list, names, lists, part, parts, tick_line, call_line, agreement_line, or_refused, asked}
+use Rattle.lines.specs.Answers.{padded, request_of, numbers_of, parts_of, fields_of, heads_of, spans_of, values_of, agreement_of}
+use Rattle.std.specs.Prelude.{Option, Some, None, Result, Ok, Err, ok_or}
+use Rattle.std.specs.Option.{MatchOption, IsSomeAnd}
+use Rattle.questions.specs.declared.Question.{Question}
+use Rattle.lines.specs.Private.{given, count_of, names_from, CallIs, Integers, with_integers}
 use Rattle.lines.specs.declared.Names as declared
 use Rattle.lines.specs.declared.Request.{Request}
 use Rattle.lines.specs.declared.Request.TheVariants as request
-use Rattle.lines.specs.declared.Line.{Line}
+use Rattle.lines.specs.declared.Call.{Call}
 use Rattle.lines.specs.declared.Agreement.{Agreement}
-use Rattle.lines.proofs.Got.{Gave, given_missed}
+use Rattle.lines.proofs.Got.{Gave}
 use Rattle.lines.proofs.Ahead.{then_done, taken, mark_size}
 use Rattle.lines.proofs.Flat.{sets_append, spans_length, values_length, heads_length}
 use Rattle.lines.proofs.Turns.{begin, missing, next_yes}
@@ -207,18 +209,14 @@ module _ (s : List ℕ) (short : length s ≤ 512) where
   unfolding agreement_line
   no_parts_read e = (rw e) ∙ asked_parts
 
-  pub agreement_told : {x : Agreement} → Some x ≡ given agreement_of (parts s 0) → x ≡ agreement_of (parts_of (asked s))
-  agreement_told {x} q = go (parts s 0) refl q
+  pub agreement_told : {x : Agreement} (r : Option Agreement) → r ≡ given agreement_of (parts s 0) → MatchOption r (x ≡ agreement_of []) (λ y. x ≡ y) → x ≡ agreement_of (parts_of (asked s))
+  agreement_told {x} r q m = go (parts s 0) refl r q m
     where
-      go : (p : Parsed (List Part)) → parts s 0 ≡ p → Some x ≡ given agreement_of p → x ≡ agreement_of (parts_of (asked s))
-      go (done ps n) e h = let k : agreement_of ps ≡ x = cc in sym k ∙ ap agreement_of (parts_read e)
-      go no e h = cc
-
--- a tick or a jump asks for nothing else
-pub timed_plain : {a : Asked} → Timed a → plain (line_of a).request ≡ line_of a
-unfolding line_of
-timed_plain ticks = refl
-timed_plain (jumps z) = refl
+      go : (p : Parsed (List Part)) → parts s 0 ≡ p → (t : Option Agreement) → t ≡ given agreement_of p → MatchOption t (x ≡ agreement_of []) (λ y. x ≡ y) → x ≡ agreement_of (parts_of (asked s))
+      go (done ps n) e (Some y) h w = let k : agreement_of ps ≡ y = cc in w ∙ sym k ∙ ap agreement_of (parts_read e)
+      go (done ps n) e None h w = cc
+      go no e (Some y) h w = cc
+      go no e None h w = w ∙ ap agreement_of (no_parts_read e)
 
 -- a tick or a jump has no integers
 pub timed_numbers : {a : Asked} → Timed a → numbers_of a ≡ []
@@ -227,53 +225,94 @@ timed_numbers (jumps z) = refl
 
 -- ---- what a line asks for, told by the first form that reads it
 
+-- a list has the integers of a line in front
+abbrev Front : List ℤ → Asked → Type 0
+Front new a = take (length (numbers_of a)) new ≡ numbers_of a
+
+none_front : (new : List ℤ) (a : Asked) → numbers_of a ≡ [] → Front new a
+none_front new a e = rw e
+
 module _ (s : List ℕ) (short : length s ≤ 512) where
-  pub time_told : {x : Request} → Some x ≡ given request_in (tick_line s 0) → plain x ≡ line_of (asked s)
+  pub time_told : {x : Request} → Some (Ok x) ≡ given request_of (tick_line s 0) → Ok x ≡ request_of (asked s)
   time_told {x} q = go (tick_line s 0) refl q
     where
-      go : (p : Parsed Asked) → tick_line s 0 ≡ p → Some x ≡ given request_in p → plain x ≡ line_of (asked s)
+      go : (p : Parsed Asked) → tick_line s 0 ≡ p → Some (Ok x) ≡ given request_of p → Ok x ≡ request_of (asked s)
       go (done a n) e h =
-          let k : request_in a ≡ x = cc in
-          ap plain (sym k) ∙ timed_plain (tick_alone s e).0 ∙ sym (ap line_of (asked_timed s short e))
+          let k : Ok x ≡ request_of a = cc in
+          k ∙ sym (ap request_of (asked_timed s short e))
       go no e h = cc
 
-  pub timed_numbers_told : {x : Request} → Some x ≡ given request_in (tick_line s 0) → padded (pos 0) 256 [] ≡ padded (pos 0) 256 (numbers_of (asked s))
-  timed_numbers_told {x} q = go (tick_line s 0) refl q
+  pub time_front : (new : List ℤ) {x : Request} → Some (Ok x) ≡ given request_of (tick_line s 0) → Front new (asked s)
+  time_front new {x} q = go (tick_line s 0) refl q
     where
-      go : (p : Parsed Asked) → tick_line s 0 ≡ p → Some x ≡ given request_in p → padded (pos 0) 256 [] ≡ padded (pos 0) 256 (numbers_of (asked s))
-      go (done a n) e h = ap (padded (pos 0) 256) (sym (timed_numbers (tick_alone s e).0) ∙ sym (ap numbers_of (asked_timed s short e)))
+      go : (p : Parsed Asked) → tick_line s 0 ≡ p → Some (Ok x) ≡ given request_of p → Front new (asked s)
+      go (done a n) e h = none_front new (asked s) (ap numbers_of (asked_timed s short e) ∙ timed_numbers (tick_alone s e).0)
       go no e h = cc
 
   module _ (t : tick_line s 0 ≡ no) where
-    pub call_told : {x : Line} {new : List ℤ} → CallIs (call_line s 0) (Some x) new → (x ≡ line_of (asked s)) × (new ≡ padded (pos 0) 256 (numbers_of (asked s)))
-    call_told {x} {new} q = go (call_line s 0) refl q
+    pub call_told : {x : Call} (new : List ℤ) → CallIs (call_line s 0) (Some x) new → (Ok (request.Call x) ≡ request_of (asked s)) × Front new (asked s)
+    call_told {x} new q = go (call_line s 0) refl q
       where
-        go : (p : Parsed Asked) → call_line s 0 ≡ p → CallIs p (Some x) new → (x ≡ line_of (asked s)) × (new ≡ padded (pos 0) 256 (numbers_of (asked s)))
+        go : (p : Parsed Asked) → call_line s 0 ≡ p → CallIs p (Some x) new → (Ok (request.Call x) ≡ request_of (asked s)) × Front new (asked s)
         go (done a n) e h =
-            let k : x ≡ line_of a = let w = h.0 in cc in
-            (k ∙ sym (ap line_of (asked_called s short t e)), h.1 ∙ sym (ap (λ (y : Asked). padded (pos 0) 256 (numbers_of y)) (asked_called s short t e)))
+            let k : Ok (request.Call x) ≡ request_of a = let w = h.0 in cc in
+            (k ∙ sym (ap request_of (asked_called s short t e)), subst (Front new) (sym (asked_called s short t e)) h.1)
         go no e h = cc
 
     module _ (c : call_line s 0 ≡ no) where
-      pub parts_told : {x : Agreement} → Some x ≡ given agreement_of (parts s 0) → plain request.Agreement ≡ line_of (asked s)
-      unfolding line_of
-      parts_told {x} q = go (parts s 0) refl q
+      pub parts_told : {P : Agreement → Request → Type 0} (r : Option Agreement) (m : Option Request) → r ≡ given agreement_of (parts s 0) → ((y : Agreement) (z : Request) → P y z → z ≡ request.Agreement) → MatchOption r (m ≡ None) (λ y. IsSomeAnd m (P y)) → ok_or m ask.LineForm ≡ request_of (asked s)
+      unfolding request_of
+      parts_told {P} r m q f w = go (parts s 0) refl r m q w
         where
-          go : (p : Parsed (List Part)) → parts s 0 ≡ p → Some x ≡ given agreement_of p → plain request.Agreement ≡ line_of (asked s)
-          go (done ps n) e h = sym (ap line_of (asked_agreed s short t c e))
-          go no e h = cc
+          go : (p : Parsed (List Part)) → parts s 0 ≡ p → (t : Option Agreement) (n : Option Request) → t ≡ given agreement_of p → MatchOption t (n ≡ None) (λ y. IsSomeAnd n (P y)) → ok_or n ask.LineForm ≡ request_of (asked s)
+          go (done ps k) e (Some y) (Some z) h w = ap (λ (x : Request). Ok x) (f y z w) ∙ sym (ap request_of (asked_agreed s short t c e))
+          go (done ps k) e (Some y) None h w = absurd w
+          go (done ps k) e None n h w = cc
+          go no e (Some y) n h w = cc
+          go no e None n h w = ap (λ (o : Option Request). ok_or o ask.LineForm) w ∙ sym (ap request_of (asked_none s short t c e))
 
-      pub nothing_told : None ≡ given agreement_of (parts s 0) → plain (request.Refused ask.LineForm) ≡ line_of (asked s)
-      unfolding line_of
-      nothing_told q = sym (ap line_of (asked_none s short t c (given_missed agreement_of (parts s 0) q)))
+      -- what is no tick, no jump and no call has no integers
+      pub other_front : (new : List ℤ) → Front new (asked s)
+      other_front new = go (parts s 0) refl
+        where
+          go : (p : Parsed (List Part)) → parts s 0 ≡ p → Front new (asked s)
+          go (done ps n) e = none_front new (asked s) (ap numbers_of (asked_agreed s short t c e))
+          go no e = none_front new (asked s) (ap numbers_of (asked_none s short t c e))
 
--- what is no tick, no jump and no call has no integers
-pub other_numbers : (s : List ℕ) → length s ≤ 512 → tick_line s 0 ≡ no → call_line s 0 ≡ no → padded (pos 0) 256 [] ≡ padded (pos 0) 256 (numbers_of (asked s))
-other_numbers s short t c = go (parts s 0) refl
-  where
-    go : (p : Parsed (List Part)) → parts s 0 ≡ p → padded (pos 0) 256 [] ≡ padded (pos 0) 256 (numbers_of (asked s))
-    go (done ps n) e = sym (ap (λ (a : Asked). padded (pos 0) 256 (numbers_of a)) (asked_agreed s short t c e))
-    go no e = sym (ap (λ (a : Asked). padded (pos 0) 256 (numbers_of a)) (asked_none s short t c e))
+-- a line that is too long
+pub long_told : (s : List ℕ) → 512 < length s → Err ask.LineLength ≡ request_of (asked s)
+unfolding request_of
+long_told s h = sym (ap request_of (asked_long s h))
+
+pub long_front : (s : List ℕ) (new : List ℤ) → 512 < length s → Front new (asked s)
+long_front s new h = none_front new (asked s) (ap numbers_of (asked_long s h))
+
+-- ---- the rest of the list
+
+-- a line has as many integers as its request says
+counted : (a : Asked) → count_of (request_of a) ≡ length (numbers_of a)
+unfolding request_of
+counted (refused q) = refl
+counted tick = refl
+counted (jump T) = refl
+counted (agreement ps) = refl
+counted (call c) = sym (length-append c.lists.values c.lists.assets)
+
+module _ (a : Asked) (r : Result Request Question) (e : r ≡ request_of a) (new : List ℤ) (full : length new ≡ 256) (front : Front new a) where
+  pub counted_as : count_of r ≡ length (numbers_of a)
+  counted_as = ap count_of e ∙ counted a
+
+  pub count_fits : count_of r ≤ 256
+  count_fits = omega (arith, counted_as, ap length front, length-take (length (numbers_of a)) new)
+
+  pub count_small : count_of r < 2 ^ 63
+  count_small = let h = count_fits in let k : 256 < 2 ^ 63 = omega arith in omega arith
+
+  pub cleared : (k : ℕ) → k ≡ count_of r → (rest tail : List ℤ) → rest ≡ replicate (256 - k) (pos 0) → tail ≡ [] → take k new ++ (rest ++ tail) ≡ padded (pos 0) 256 (numbers_of a)
+  cleared k f rest tail g z =
+      let q : k ≡ length (numbers_of a) = f ∙ counted_as in
+      (λ i. take (q i) new ++ (g i ++ z i))
+      ∙ (λ i. front i ++ append-nil (replicate (256 - q i) (pos 0)) i)
 
 -- ---- a call
 
@@ -297,28 +336,28 @@ module _ (s : List ℕ) {m : Names} {d : ℕ} (e : names s 0 ≡ done m d) where
         unfolding call_line lists
         call_whole = rw (e, v, w, f)
 
-        call_fits : length s ≤ 512 → sets (replicate 256 (pos 0)) 0 (vs ++ hs) ≡ padded (pos 0) 256 (vs ++ hs)
+        call_front : length s ≤ 512 → (old : List ℤ) → length old ≡ 256 → take (length (vs ++ hs)) (sets old 0 (vs ++ hs)) ≡ vs ++ hs
         unfolding lists
-        call_fits short = padded_by (pos 0) 256 (vs ++ hs) (omega (arith, lists_fit s short d (record { values = vs; assets = hs }) j (rw (v, w, f))))
+        call_front short old full =
+            let h : length (vs ++ hs) ≤ 256 = omega (arith, lists_fit s short d (record { values = vs; assets = hs }) j (rw (v, w, f))) in
+            ap (take (length (vs ++ hs))) (sets-eq (vs ++ hs) old 0 (omega arith)) ∙ take-append_seam (vs ++ hs) _
 
-abbrev pub no_integer : Integers
-no_integer = record { count = 0; all = replicate 256 (pos 0) }
-
-pub call_made : {x : declared.Names} {d : ℕ} {zeros first second : Integers} {i j : ℕ} (s : List ℕ) → length s ≤ 512 → zeros ≡ no_integer → names s 0 ≡ done (names_from x) d → Gave (with_integers zeros) (list s (40 ∷ []) (integer s) (41 ∷ []) d) first i → Gave (with_integers first) (list s (91 ∷ []) (integer s) (93 ∷ []) i) second j → end s j ≡ done tt j → CallIs (call_line s 0) (Some (record { request = request.Call; party_start = x.party.start; party_end = x.party.end; function_start = x.function.start; function_end = x.function.end; values = first.count; assets = second.count - first.count })) second.all
-unfolding line_of
-call_made {x} {d} {zeros} {first} {second} {i} {j} s short z e v w f =
-    let u : first ≡ with_integers no_integer v.read = v.stored ∙ ap (λ (y : Integers). with_integers y v.read) z in
+pub call_made : {x : declared.Names} {d : ℕ} {old : List ℤ} {first second : Integers} {i j : ℕ} (s : List ℕ) → length s ≤ 512 → length old ≡ 256 → names s 0 ≡ done (names_from x) d
+    → Gave (with_integers (record { count = 0; all = old })) (list s (40 ∷ []) (integer s) (41 ∷ []) d) first i → Gave (with_integers first) (list s (91 ∷ []) (integer s) (93 ∷ []) i) second j → end s j ≡ done tt j
+    → CallIs (call_line s 0) (Some (record { party = x.party; function = x.function; values = first.count; assets = second.count - first.count })) second.all
+unfolding request_of
+call_made {x} {d} {old} {first} {second} {i} {j} s short full e v w f =
+    let u : first ≡ with_integers (record { count = 0; all = old }) v.read = v.stored in
     let a : first.count ≡ length v.read = ap (λ (y : Integers). y.count) u ∙ (let n : 0 + length v.read ≡ length v.read = omega arith in n) in
     let b : second.count - first.count ≡ length w.read = omega (arith, ap (λ (y : Integers). y.count) w.stored) in
-    let n : second.all ≡ padded (pos 0) 256 (v.read ++ w.read) =
+    let n : second.all ≡ sets old 0 (v.read ++ w.read) =
     ap (λ (y : Integers). y.all) (w.stored ∙ ap (λ (y : Integers). with_integers y w.read) u)
-    ∙ sym (sets_append (replicate 256 (pos 0)) 0 v.read w.read)
-    ∙ call_fits s e v.parsed w.parsed f short in
+    ∙ sym (sets_append old 0 v.read w.read) in
     rw (call_whole s e v.parsed w.parsed f)
-    (λ t. Some (record { request = request.Call; party_start = x.party.start; party_end = x.party.end; function_start = x.function.start; function_end = x.function.end; values = a t; assets = b t }), n)
+    (λ t. Some (Ok (request.Call (record { party = x.party; function = x.function; values = a t; assets = b t }))), ap (take (length (v.read ++ w.read))) n ∙ call_front s e v.parsed w.parsed f short old full)
 
 -- the same list
-pub call_as : (p : Parsed Asked) (r : Option Line) {old new : List ℤ} → CallIs p r old → new ≡ old → CallIs p r new
+pub call_as : (p : Parsed Asked) (r : Option Call) {old new : List ℤ} → CallIs p r old → new ≡ old → CallIs p r new
 call_as p r w e = subst (CallIs p r) (sym e) w
 
 -- a line that is no call

@@ -13,7 +13,8 @@ use Rattle.laws.proofs.Choice.{true_false}
 use Rattle.tokens.specs.Classes.{is_letter, is_name_byte, run}
 use Rattle.lines.specs.Lines as lines
 use Rattle.lines.specs.Lines.{Parsed, done, no, and_then, give, skipped, mark, end, name_from, name, names, integer, field}
-use Rattle.lines.specs.Private.{place_of, is_done, given, read_of, Added, span_in, span_from, field_in, field_from, names_in, names_from}
+use Rattle.lines.specs.Answers.{span_in}
+use Rattle.lines.specs.Private.{place_of, is_done, given, read_of, Added, span_from, field_in, field_from, names_in, names_from}
 use Rattle.lines.specs.declared.Span.{Span}
 use Rattle.lines.specs.declared.Found.{Found}
 use Rattle.lines.specs.declared.Field.{Field}

@@ -1,4 +1,5 @@
 -- Laws that the proofs share.
+pub mod Firsts
 pub mod Parse
 pub mod Got
 pub mod Ahead

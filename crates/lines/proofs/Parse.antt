@@ -20,6 +20,7 @@ use Rattle.tokens.specs.Tokens.{digits_at}
 use Rattle.tokens.specs.declared.Digits.{Digits}
 use Rattle.lines.specs.Lines.{Parsed, done, no, skipped, is_next, mark, end, name_from, name, digits, integer}
 use Rattle.std.specs.Prelude.{Option, Some, None}
+use Rattle.std.specs.Bool.{then_some}
 use Rattle.lines.specs.Private.{place_of, is_done, read_of, ranged, sign_of}
 use Rattle.lines.specs.declared.Found.{Found}
 
@@ -77,11 +78,12 @@ module _ (s : List ℕ) (at : ℕ) {i : ℕ} (skip : i ≡ skipped s at) where
     unfolding is_next
     goes e = sym (e ∙ ap (λ (k : ℕ). starts_with (drop k s) m) skip)
 
-    pub mark_found : {t : Bool} → t ≡ starts_with (drop i s) m → t ≡ true → Some (i + length m) ≡ place_of (mark s m at)
-    mark_found e q = ap (λ (k : ℕ). Some (k + length m)) skip ∙ sym (ap place_of (mark_is s at m (goes e ∙ q)))
-
-    pub mark_other : {t : Bool} → t ≡ starts_with (drop i s) m → t ≡ false → None ≡ place_of (mark s m at)
-    mark_other e q = sym (ap place_of (mark_not s at m (goes e ∙ q)))
+    pub mark_then : {t : Bool} → t ≡ starts_with (drop i s) m → then_some t (i + length m) ≡ place_of (mark s m at)
+    mark_then {t} e = go t refl
+      where
+        go : (b : Bool) → t ≡ b → then_some b (i + length m) ≡ place_of (mark s m at)
+        go true q = ap (λ (k : ℕ). Some (k + length m)) skip ∙ sym (ap place_of (mark_is s at m (goes e ∙ q)))
+        go false q = sym (ap place_of (mark_not s at m (goes e ∙ q)))
 
   pub mark_past : (m : List ℕ) → 0 < length m → length s ≤ i → None ≡ place_of (mark s m at)
   mark_past [] n h = absurd (omega arith)

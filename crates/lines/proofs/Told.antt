@@ -8,29 +8,31 @@ use lib.IntN.{ℤ}
 use lib.Seq.{take-append_seam, drop-append_seam}
 use Rattle.questions.specs.declared.Question.{Question}
 use Rattle.lines.specs.Lines.{Part, Call, Asked, refused, tick, jump, call, agreement}
-use Rattle.lines.specs.Answers.{padded, line_of}
+use Rattle.lines.specs.Answers.{padded, request_of}
+use Rattle.std.specs.Prelude.{Ok, Err}
+use Rattle.lines.specs.declared.Call as declared
 use Rattle.lines.specs.declared.Request.TheVariants as request
 
 -- ---- by the request
 
-pub told_refused : {q : Question} (a : Asked) → (line_of a).request ≡ request.Refused q → a ≡ refused q
-unfolding line_of
+pub told_refused : {q : Question} (a : Asked) → request_of a ≡ Err q → a ≡ refused q
+unfolding request_of
 told_refused {q} (refused p) e = let h : p ≡ q = cc in ap refused h
 told_refused tick e = let z : ◌≡◌ {A = ℕ} 0 1 = cc in absurd (omega arith)
 told_refused (jump y) e = let z : ◌≡◌ {A = ℕ} 0 1 = cc in absurd (omega arith)
 told_refused (call c) e = let z : ◌≡◌ {A = ℕ} 0 1 = cc in absurd (omega arith)
 told_refused (agreement ps) e = let z : ◌≡◌ {A = ℕ} 0 1 = cc in absurd (omega arith)
 
-pub told_tick : (a : Asked) → (line_of a).request ≡ request.Tick → a ≡ tick
-unfolding line_of
+pub told_tick : (a : Asked) → request_of a ≡ Ok request.Tick → a ≡ tick
+unfolding request_of
 told_tick (refused p) e = let z : ◌≡◌ {A = ℕ} 0 1 = cc in absurd (omega arith)
 told_tick tick e = refl
 told_tick (jump y) e = let z : ◌≡◌ {A = ℕ} 0 1 = cc in absurd (omega arith)
 told_tick (call c) e = let z : ◌≡◌ {A = ℕ} 0 1 = cc in absurd (omega arith)
 told_tick (agreement ps) e = let z : ◌≡◌ {A = ℕ} 0 1 = cc in absurd (omega arith)
 
-pub told_jump : {z : ℤ} (a : Asked) → (line_of a).request ≡ request.Jump z → a ≡ jump z
-unfolding line_of
+pub told_jump : {z : ℤ} (a : Asked) → request_of a ≡ Ok (request.Jump z) → a ≡ jump z
+unfolding request_of
 told_jump (refused p) e = let z : ◌≡◌ {A = ℕ} 0 1 = cc in absurd (omega arith)
 told_jump tick e = let z : ◌≡◌ {A = ℕ} 0 1 = cc in absurd (omega arith)
 told_jump {z} (jump y) e = let h : y ≡ z = cc in ap jump h
@@ -41,8 +43,8 @@ pub record IsCall (a : Asked) : Type 0 where
   pub asks : Call
   pub is : a ≡ call asks
 
-pub told_call : (a : Asked) → (line_of a).request ≡ request.Call → IsCall a
-unfolding line_of
+pub told_call : {x : declared.Call} (a : Asked) → request_of a ≡ Ok (request.Call x) → IsCall a
+unfolding request_of
 told_call (refused p) e = let z : ◌≡◌ {A = ℕ} 0 1 = cc in absurd (omega arith)
 told_call tick e = let z : ◌≡◌ {A = ℕ} 0 1 = cc in absurd (omega arith)
 told_call (jump y) e = let z : ◌≡◌ {A = ℕ} 0 1 = cc in absurd (omega arith)
@@ -53,8 +55,8 @@ pub record IsAgreement (a : Asked) : Type 0 where
   pub asks : List Part
   pub is : a ≡ agreement asks
 
-pub told_agreement : (a : Asked) → (line_of a).request ≡ request.Agreement → IsAgreement a
-unfolding line_of
+pub told_agreement : (a : Asked) → request_of a ≡ Ok request.Agreement → IsAgreement a
+unfolding request_of
 told_agreement (refused p) e = let z : ◌≡◌ {A = ℕ} 0 1 = cc in absurd (omega arith)
 told_agreement tick e = let z : ◌≡◌ {A = ℕ} 0 1 = cc in absurd (omega arith)
 told_agreement (jump y) e = let z : ◌≡◌ {A = ℕ} 0 1 = cc in absurd (omega arith)

@@ -1,9 +1,10 @@
 -- What `read` and `agreement_of` answer for what a line asks.
-use Rattle.std.specs.Prelude.{ℕ, ◌-◌, List, [], ◌∷◌, ◌++◌, length, replicate, ℤ, pos}
-use Rattle.lines.specs.Lines.{Verb, set, ok, Field, Part, Asked, refused, tick, jump, call, agreement}
-use Rattle.lines.specs.declared.Request as declared
+use Rattle.std.specs.Prelude.{ℕ, ◌-◌, List, [], ◌∷◌, ◌++◌, length, replicate, ℤ, pos, Result, Ok, Err}
+use Rattle.lines.specs.Lines.{Span, Verb, set, ok, Field, Part, Asked, refused, tick, jump, call, agreement}
+use Rattle.questions.specs.declared.Question.{Question}
+use Rattle.lines.specs.declared.Span as declared
+use Rattle.lines.specs.declared.Request.{Request}
 use Rattle.lines.specs.declared.Request.TheVariants as request
-use Rattle.lines.specs.declared.Line.{Line}
 use Rattle.lines.specs.declared.Agreement.{Agreement}
 
 -- the numbers given, then zeros until there are n in all; no number is cut off
@@ -12,34 +13,23 @@ padded none n xs = xs ++ replicate (n - length xs) none
 
 -- ---- a line's answer
 
--- nothing but what is asked for
-abbrev pub plain : declared.Request → Line
-plain r =
-    record {
-      request = r;
-      party_start = 0;
-      party_end = 0;
-      function_start = 0;
-      function_end = 0;
-      values = 0;
-      assets = 0;
-    }
+-- where a name stands
+abbrev pub span_in : Span → declared.Span
+span_in x = record { start = x.start; end = x.end }
 
-unfoldable pub line_of : Asked → Line
-line_of (refused q) = plain (request.Refused q)
-line_of tick = plain request.Tick
-line_of (jump T) = plain (request.Jump T)
-line_of (agreement ps) = plain request.Agreement
-line_of (call c) =
-    record {
-      request = request.Call;
-      party_start = c.names.party.start;
-      party_end = c.names.party.end;
-      function_start = c.names.function.start;
-      function_end = c.names.function.end;
+-- what it asks for, or the question that refuses it
+unfoldable pub request_of : Asked → Result Request Question
+request_of (refused q) = Err q
+request_of tick = Ok request.Tick
+request_of (jump T) = Ok (request.Jump T)
+request_of (agreement ps) = Ok request.Agreement
+request_of (call c) =
+    Ok (request.Call (record {
+      party = span_in c.names.party;
+      function = span_in c.names.function;
       values = length c.lists.values;
       assets = length c.lists.assets;
-    }
+    }))
 
 -- a call's values and then its assets; no other line has any
 abbrev pub numbers_of : Asked → List ℤ

@@ -1,12 +1,15 @@
 -- What private functions answer: serves their contracts only.
-use Rattle.std.specs.Prelude.{ℕ, ◌+◌, ◌*◌, ◌≡◌, Bool, true, false, List, [], ◌∷◌, length, ℤ, pos, neg_ℤ, Option, Some, None}
+use Rattle.std.specs.Prelude.{ℕ, ◌+◌, ◌*◌, ◌≡◌, Bool, true, false, List, [], ◌∷◌, length, ℤ, neg_ℤ, take, Option, Some, None, Result, Ok, Err}
 use Rattle.std.proofs.lemmas.List.Edits.{sets}
 use Rattle.laws.specs.Choice.{pick}
 use Rattle.numbers.specs.Numbers.{within}
 use Rattle.lines.specs.Lines as lines
 use Rattle.lines.specs.Lines.{Part, Asked, Parsed, done, no}
-use Rattle.lines.specs.Answers.{padded, line_of, numbers_of, verb_number, spans_of, values_of}
+use Rattle.questions.specs.declared.Question.{Question}
+use Rattle.lines.specs.Answers.{span_in, request_of, numbers_of, verb_number, spans_of, values_of}
 use Rattle.lines.specs.declared.Request.{Request}
+use Rattle.lines.specs.declared.Request.TheVariants as request
+use Rattle.lines.specs.declared.Call.{Call}
 use Rattle.lines.specs.declared.Agreement.{Agreement}
 use Rattle.lines.specs.declared.Span.{Span}
 use Rattle.lines.specs.declared.Found.{Found}
@@ -15,7 +18,6 @@ use Rattle.lines.specs.declared.Verb.TheVariants as verb
 use Rattle.lines.specs.declared.Field.{Field}
 use Rattle.lines.specs.declared.Names.{Names}
 use Rattle.lines.specs.declared.Integers as declared
-use Rattle.lines.specs.declared.Line.{Line}
 
 -- ---- what a parser gave
 
@@ -46,9 +48,6 @@ Added add no r new = r ≡ None
 
 -- ---- what is read, as code has it
 
-abbrev pub span_in : lines.Span → Span
-span_in x = record { start = x.start; end = x.end }
-
 abbrev pub span_from : Span → lines.Span
 span_from x = record { start = x.start; end = x.end }
 
@@ -72,8 +71,18 @@ names_in n = record { party = span_in n.party; function = span_in n.function }
 abbrev pub names_from : Names → lines.Names
 names_from n = record { party = span_from n.party; function = span_from n.function }
 
-abbrev pub request_in : Asked → Request
-request_in a = (line_of a).request
+-- a request that no question refused
+abbrev pub asked_in : Option Request → Option (Result Request Question)
+asked_in None = None
+asked_in (Some x) = Some (Ok x)
+
+-- how many integers it has
+abbrev pub count_of : Result Request Question → ℕ
+count_of (Ok (request.Call x)) = x.values + x.assets
+count_of (Ok request.Agreement) = 0
+count_of (Ok request.Tick) = 0
+count_of (Ok (request.Jump T)) = 0
+count_of (Err q) = 0
 
 -- an integer, if it is within 64 bits
 abbrev pub ranged : ℤ → Option ℤ
@@ -84,9 +93,13 @@ abbrev pub sign_of : Bool → ℤ → ℤ
 sign_of true z = neg_ℤ z
 sign_of false z = z
 
--- a call's answer and its integers; after a no what was lent is free
-abbrev pub CallIs : Parsed Asked → Option Line → List ℤ → Type 0
-CallIs (done a n) r new = (r ≡ Some (line_of a)) × (new ≡ padded (pos 0) 256 (numbers_of a))
+-- a call, and its integers in front of a list; after a no what was lent is free
+abbrev pub called_in : Option Call → Option (Result Request Question)
+called_in None = None
+called_in (Some x) = Some (Ok (request.Call x))
+
+abbrev pub CallIs : Parsed Asked → Option Call → List ℤ → Type 0
+CallIs (done a n) r new = (called_in r ≡ Some (request_of a)) × (take (length (numbers_of a)) new ≡ numbers_of a)
 CallIs no r new = r ≡ None
 
 -- ---- what was read so far

@@ -1,41 +1,47 @@
 // A reader of one session line, the bytes before its LF: an agreement, a call, a tick or a jump, or the question that refuses it.
 #![tactic(auto)]
 
-ghost use Rattle.std.specs.Prelude.{◌≡◌, [], ◌∷◌, ◌≤◌, ◌<◌, ◌^◌, length, set, pos};
+ghost use Rattle.std.specs.Prelude.{◌≡◌, [], ◌∷◌, ◌≤◌, ◌<◌, ◌^◌, length, take, set, pos, None};
 ghost use Rattle.laws.specs.Bytes.{same_bytes};
 ghost use Rattle.words.specs.Words.{spelled};
 ghost use Rattle.tokens.specs.Tokens.{between};
 ghost use Rattle.lines.specs.Lines.{asked, skipped, mark, end, name, digits, integer, verb, field, list, items, names, part, parts, jump_end, tick_line, call_line};
-ghost use Rattle.lines.specs.Answers.{padded, plain, line_of, numbers_of, agreement_of, parts_of};
-ghost use Rattle.lines.specs.Private.{place_of, is_done, given, read_of, span_in, sign_of, ranged, verb_in, verb_word, field_in, field_from, request_in, names_in, Added, CallIs, integers_in, SameList, with_integers, with_fields, with_head, with_part};
+ghost use Rattle.lines.specs.Answers.{padded, span_in, request_of, numbers_of, agreement_of, parts_of};
+ghost use Rattle.lines.specs.Private.{place_of, is_done, given, read_of, sign_of, ranged, verb_in, verb_word, field_in, field_from, asked_in, count_of, names_in, Added, CallIs, integers_in, SameList, with_integers, with_fields, with_head, with_part};
 
 use questions::Question;
+
+// Where a name stands in the line: its first byte, and the place after its last.
+#[derive(Clone, Copy)]
+pub struct Span {
+    pub start: usize,
+    pub end: usize,
+}
+
+// A call: where its names stand, and how many values and assets it has.
+// Kept: (b) a call's numbers stand in a list that is lent to `read`. With them in here a desk took 49 per cent more instructions for a session
+// of calls and ticks (two builds without proof of one tree): the room of an option of it is cleared at each line.
+#[derive(Clone, Copy)]
+pub struct Call {
+    pub party: Span,
+    pub function: Span,
+    pub values: usize,
+    pub assets: usize,
+}
 
 // What a session line asks for.
 #[derive(Clone, Copy)]
 pub enum Request {
     Agreement,
-    Call,
+    Call(Call),
     Tick,
     // To this clock.
     Jump(i64),
-    Refused(Question),
 }
 
-// Kept: (b) a call's numbers stand in a list that is lent to `read`. With them in here a desk took 263,259,701 instructions for the mixed
-// session of session-cost at level 5 and 176,242,978 without (two builds without proof of one tree): the room of an `Option<Line>`, 2,112
-// bytes then, is cleared at each line.
+// A session line, for its limits.
 #[derive(Clone, Copy)]
-pub struct Line {
-    pub request: Request,
-    // Of a call: where its party's and its function's name stand in the line; how many values and assets it has. Else zeros.
-    pub party_start: usize,
-    pub party_end: usize,
-    pub function_start: usize,
-    pub function_end: usize,
-    pub values: usize,
-    pub assets: usize,
-}
+pub struct Line {}
 
 impl Line {
     // The most bytes of a line, and the numbers that there is room for.
@@ -69,13 +75,6 @@ impl Agreement {
     pub const HEADS: usize = 4 * Agreement::PARTS;
 
     pub const SPANS: usize = 2 * Agreement::FIELDS;
-}
-
-// Where a name stands in the line: its first byte, and the place after its last.
-#[derive(Clone, Copy)]
-struct Span {
-    start: usize,
-    end: usize,
 }
 
 // What was read, and the place after it.
@@ -117,12 +116,9 @@ struct Integers<'a> {
 fn skip(line: &[u8], at: usize) -> usize
     ensures { result ≡ skipped line.now at }
 {
-    for i in at..line.len() {
-        if line[i] != b' ' {
-            return i;
-        }
-    }
-    at.max(line.len())
+    let rest = line.get(at..).unwrap_or(&[]);
+    let spaces = rest.iter().position(|b| *b != b' ').unwrap_or(rest.len());
+    at + spaces
 }
 
 // The place after a mark.
@@ -132,11 +128,7 @@ fn mark(line: &[u8], at: usize, m: &[u8]) -> Option<usize>
 {
     let i = skip(line, at);
     let rest = line.get(i..)?;
-    if rest.starts_with(m) {
-        Some(i + m.len())
-    } else {
-        None
-    }
+    rest.starts_with(m).then_some(i + m.len())
 }
 
 // The place after a fixed word.
@@ -250,7 +242,7 @@ fn field_at(line: &[u8], at: usize) -> Option<Found<Field>>
 
 // `T]` and the line's end, after `[TICK`.
 fn jump_end(line: &[u8], at: usize) -> Option<Request>
-    ensures { result ≡ given request_in (jump_end line.now at) }
+    ensures { asked_in result ≡ given request_of (jump_end line.now at) }
 {
     let clock = integer(line, at)?;
     let i = mark(line, clock.next, b"]")?;
@@ -262,7 +254,7 @@ fn jump_end(line: &[u8], at: usize) -> Option<Request>
 
 // `[TICK]` or `[TICK T]`
 fn time_line(line: &[u8]) -> Option<Request>
-    ensures { result ≡ given request_in (tick_line line.now 0) }
+    ensures { asked_in result ≡ given request_of (tick_line line.now 0) }
 {
     let i = mark(line, 0, b"[")?;
     let word = name(line, i)?;
@@ -307,6 +299,7 @@ fn integers_from(line: &[u8], at: usize, close: &[u8], out: &mut Integers) -> Op
     ensures same_list { SameList out.old out.new }
 {
     let mut i = at;
+    // A bound on the turns, here and below: no turn uses its number.
     for turn in 0..line.len() {
         let read = integer(line, i)?;
         add_integer(out, read.value);
@@ -331,18 +324,17 @@ fn integer_list(
     ensures same_list { SameList out.old out.new }
 {
     let i = mark(line, at, opening)?;
-    let Some(end) = mark(line, i, close) else {
-        return integers_from(line, i, close, out);
-    };
-    Some(end)
+    match mark(line, i, close) {
+        None => integers_from(line, i, close, out),
+        end => end,
+    }
 }
 
-// A call: its names, its two lists, whose integers are stored into the lent list of zeros, and the line's end.
-// Kept: (d) this, `part`, `parts` and `other` require a short line, which `read` and `agreement_of` test. A type for a short line would be
-// taken apart ten times in these, at each call of what reads any line.
-fn call_line(line: &[u8], numbers: &mut [i64; Line::NUMBERS]) -> Option<Line>
-    requires few { length line.now ≤ 512 }
-    requires zeros { numbers.old ≡ padded (pos 0) 256 [] }
+// A call: its names, its two lists, whose integers are stored into the lent list, and the line's end.
+// Kept: (d) this, `part`, `parts` and `other` require a short line, which `requested` and `agreement_of` test. A type for a short line would
+// be taken apart ten times in these, at each call of what reads any line.
+fn call_line(line: &[u8], numbers: &mut [i64; Line::NUMBERS]) -> Option<Call>
+    requires { length line.now ≤ 512 }
     ensures { CallIs (call_line line.now 0) result numbers.new }
 {
     let names = call_names(line)?;
@@ -356,12 +348,9 @@ fn call_line(line: &[u8], numbers: &mut [i64; Line::NUMBERS]) -> Option<Line>
     if !ends(line, j) {
         return None;
     }
-    Some(Line {
-        request: Request::Call,
-        party_start: names.party.start,
-        party_end: names.party.end,
-        function_start: names.function.start,
-        function_end: names.function.end,
+    Some(Call {
+        party: names.party,
+        function: names.function,
         values,
         assets: read.count - values,
     })
@@ -374,16 +363,16 @@ fn add_field(out: &mut Agreement, field: Field)
     requires { out.old.fields < 2 ^ 63 }
     ensures { out.new ≡ with_fields out.old (field_from field ∷ []) }
 {
-    items::set(&mut out.spans, 2 * out.fields, field.name.start);
-    items::set(&mut out.spans, 2 * out.fields + 1, field.name.end);
+    let span = [field.name.start, field.name.end];
+    items::store_all(&mut out.spans, 2 * out.fields, &span);
     items::set(&mut out.values, out.fields, field.value);
     out.fields += 1;
 }
 
 // One field or more with commas between them, then `]`.
 // Kept: (d) this, `field_list` and `part` take a line, a place and what is filled: a struct of line and agreement would be taken apart at each
-// call of `name`, `mark` and `verb_at`, which fill nothing. This loop, `integers_from` and `parts` read other items, add them elsewhere and
-// close otherwise: one loop for them would take a closure for each of the three.
+// call of `name`, `mark` and `verb_at`, which fill nothing. This and `integers_from`, `field_list` and `integer_list` differ in the item's type
+// and in what is filled: one function would take a closure that reads an item, one that adds it, and a clause of what they do, for two callers.
 fn fields_from(line: &[u8], at: usize, out: &mut Agreement) -> Option<usize>
     requires { out.old.fields ≤ at }
     ensures { Added (with_fields out.old) (items line.now (field line.now) (44 ∷ []) (mark line.now (93 ∷ [])) (length line.now) at) result out.new }
@@ -406,10 +395,10 @@ fn field_list(line: &[u8], at: usize, out: &mut Agreement) -> Option<usize>
     ensures { Added (with_fields out.old) (list line.now (91 ∷ []) (field line.now) (93 ∷ []) at) result out.new }
 {
     let i = mark(line, at, b"[")?;
-    let Some(end) = mark(line, i, b"]") else {
-        return fields_from(line, i, out);
-    };
-    Some(end)
+    match mark(line, i, b"]") {
+        None => fields_from(line, i, out),
+        end => end,
+    }
 }
 
 // The four numbers of one part more.
@@ -417,11 +406,8 @@ fn add_head(out: &mut Agreement, party: Span, verb: Verb, count: usize)
     requires { out.old.parts ≤ 512 }
     ensures { out.new ≡ with_head out.old (party.start ∷ party.end ∷ verb_word verb ∷ count ∷ []) }
 {
-    let at = 4 * out.parts;
-    items::set(&mut out.heads, at, party.start);
-    items::set(&mut out.heads, at + 1, party.end);
-    items::set(&mut out.heads, at + 2, verb as usize);
-    items::set(&mut out.heads, at + 3, count);
+    let head = [party.start, party.end, verb as usize, count];
+    items::store_all(&mut out.heads, 4 * out.parts, &head);
     out.parts += 1;
 }
 
@@ -461,77 +447,74 @@ fn parts(line: &[u8]) -> Option<Agreement>
     for turn in 0..line.len() {
         let next = part(line, i, &mut read)?;
         let Some(after) = word_mark(line, next, words::OR) else {
-            if ends(line, next) {
-                return Some(read);
-            }
-            return None;
+            return ends(line, next).then_some(read);
         };
         i = after;
     }
     None
 }
 
-// The parts of an agreement; nothing for any other line.
+// The parts of an agreement; nothing for any other line. A line that agrees is read twice, by `read` and by this: an answer of `read` has no
+// room for its parts, which would be cleared at each line, and a contract is agreed on once.
 pub fn agreement_of(line: &[u8]) -> Agreement
     ensures { result ≡ agreement_of (parts_of (asked line.now)) }
 {
     if Line::BYTES < line.len() {
         return no_agreement();
     }
-    match parts(line) {
-        Some(read) => read,
-        None => no_agreement(),
-    }
+    parts(line).unwrap_or_else(no_agreement)
 }
 
 // ---- a line
 
-// Nothing but what is asked for.
-fn plain(request: Request) -> Line
-    ensures { result ≡ plain request }
+// A line that is no tick, no jump and no call.
+// Kept: (b) apart from `requested`, since the room for an agreement's parts is cleared at each call of the function that has it: with this in
+// there a desk takes twice the instructions for a session of calls and ticks (two builds without proof of one tree).
+fn other(line: &[u8]) -> Result<Request, Question>
+    requires few { length line.now ≤ 512 }
+    requires no_time { None ≡ given request_of (tick_line line.now 0) }
+    requires no_call { None ≡ given request_of (call_line line.now 0) }
+    ensures { result ≡ request_of (asked line.now) }
 {
-    Line {
-        request,
-        party_start: 0,
-        party_end: 0,
-        function_start: 0,
-        function_end: 0,
-        values: 0,
-        assets: 0,
-    }
+    parts(line)
+        .map(|_| Request::Agreement)
+        .ok_or(Question::LineForm)
 }
 
-// A line that is no tick, no jump and no call.
-// Kept: (b) apart from `read`, since the room for an agreement's parts is cleared at each call of the function that has it: with this in
-// `read` a desk took 236,566,377 instructions for the mixed session of session-cost at level 5, apart 155,267,204 (two builds without proof).
-#[inline(never)]
-fn other(line: &[u8]) -> Line
-    requires few { length line.now ≤ 512 }
-    requires no_time { None ≡ given request_in (tick_line line.now 0) }
-    requires no_call { None ≡ given line_of (call_line line.now 0) }
-    ensures { result ≡ line_of (asked line.now) }
+// What a line asks for; a call's integers come first in the lent list.
+fn requested(line: &[u8], numbers: &mut [i64; Line::NUMBERS]) -> Result<Request, Question>
+    ensures value { result ≡ request_of (asked line.now) }
+    ensures numbers_first { take (length (numbers_of (asked line.now))) numbers.new ≡ numbers_of (asked line.now) }
 {
-    match parts(line) {
-        Some(_) => plain(Request::Agreement),
-        None => plain(Request::Refused(Question::LineForm)),
+    if Line::BYTES < line.len() {
+        return Err(Question::LineLength);
+    }
+    if let Some(request) = time_line(line) {
+        return Ok(request);
+    }
+    if let Some(call) = call_line(line, numbers) {
+        return Ok(Request::Call(call));
+    }
+    other(line)
+}
+
+// How many integers it has.
+fn count(request: Result<Request, Question>) -> usize
+    requires { count_of request < 2 ^ 63 }
+    ensures { result ≡ count_of request }
+{
+    match request {
+        Ok(Request::Call(call)) => call.values + call.assets,
+        _ => 0,
     }
 }
 
 // What a line asks for.
-pub fn read(line: &[u8], numbers: &mut [i64; Line::NUMBERS]) -> Line
-    ensures value { result ≡ line_of (asked line.now) }
+pub fn read(line: &[u8], numbers: &mut [i64; Line::NUMBERS]) -> Result<Request, Question>
+    ensures value { result ≡ request_of (asked line.now) }
     ensures numbers_after { numbers.new ≡ padded (pos 0) 256 (numbers_of (asked line.now)) }
 {
-    *numbers = [0; Line::NUMBERS];
-    if Line::BYTES < line.len() {
-        return plain(Request::Refused(Question::LineLength));
-    }
-    if let Some(request) = time_line(line) {
-        return plain(request);
-    }
-    if let Some(call) = call_line(line, numbers) {
-        return call;
-    }
-    *numbers = [0; Line::NUMBERS];
-    other(line)
+    let request = requested(line, numbers);
+    numbers[count(request)..].fill(0);
+    request
 }

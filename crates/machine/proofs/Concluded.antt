@@ -65,18 +65,23 @@ all_more s qs (p ∷ ps) h =
     ∙ ap (with_pending s) (append_assoc qs (p ∷ []) ps)
 
 -- ---- the call's end
-module _ (s : State) (w : Work) (q : ℕ) (room : s.pending ≤ 64) (full : length s.events ≡ 64) (x : Scheduled) (ps : List Pending) (e : x ≡ times ps) where
-  count : length (live s) ≡ s.pending
-  count = omega (arith, length-take s.pending s.events)
+-- how many are left where none leaves
+pub left_count : (s : State) (x : State) → x ≡ removed s s.pending → x.pending ≡ length (live s)
+unfolding with_pending
+left_count s x e = ap (λ (y : State). y.pending) (e ∙ nothing_leaves s)
 
-  pub over_full : 64 - s.pending < length ps → refused s ask.PendingRoom ≡ with_scheduled s w q x
+pub left_few : (s : State) (x : State) → x ≡ removed s s.pending → length s.events ≡ 64 → x.pending ≤ 64
+left_few s x e full = omega (arith, left_count s x e, length-take s.pending s.events)
+
+module _ (s : State) (w : Work) (q : ℕ) (room n : ℕ) (so : n ≡ length (live s)) (few : n ≤ 64) (left : room ≡ 64 - n) (x : Scheduled) (ps : List Pending) (e : x ≡ times ps) where
+  pub over_full : room < length ps → refused s ask.PendingRoom ≡ with_scheduled s w q x
   over_full h =
-      let l : 64 < length (live s) + length ps = omega (arith, count) in
+      let l : 64 < length (live s) + length ps = omega (arith, so) in
       sym (ap (with_scheduled s w q) e ∙ pick_false _ _ _ (lt-leb (length (live s) + length ps) 64 l))
 
-  pub call_ends : length ps ≤ 64 - s.pending → (next r : State) → next ≡ joined_all (with_pending s (live s)) ps → r ≡ reached next w q → accepted Call r w ≡ with_scheduled s w q x
+  pub call_ends : length ps ≤ room → (next r : State) → next ≡ joined_all (with_pending s (live s)) ps → r ≡ reached next w q → accepted Call r w ≡ with_scheduled s w q x
   call_ends h next r y z =
-      let l : length (live s) + length ps ≤ 64 = omega (arith, count) in
+      let l : length (live s) + length ps ≤ 64 = omega (arith, so) in
       let a : r ≡ ended s w q (live s ++ ps) =
       z ∙ ap (λ (i : State). reached i w q) (y ∙ all_more s (live s) ps l) ∙ with_reached s w q (live s ++ ps) in
       ap (λ (i : State). accepted Call i w) a

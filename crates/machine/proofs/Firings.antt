@@ -1,26 +1,30 @@
 -- The cases of a firing. Assumes nothing.
 use mathlib.Core.Path.{◌≡◌, refl, sym, ap, ◌∙◌}
 use mathlib.Core.Bool.{true, false}
-use mathlib.Core.List.{List}
+use mathlib.Core.List.{List, []}
 use Prim.Native.Nat.{ℕ}
 use lib.ListN.{get_or}
 use Rattle.laws.specs.Choice.{pick}
 use Rattle.laws.proofs.Choice.{pick_true}
-use Rattle.contract.specs.Tree.{Contract, Event}
+use Rattle.contract.specs.Tree.{Contract, Event, Block}
 use Rattle.contract.specs.Decode.{block_between, contract_of}
 use Rattle.state.specs.declared.State.{State}
 use Rattle.state.specs.declared.Pending.{Pending}
 use Rattle.std.specs.Prelude.{Option, Some, None}
 use Rattle.state.specs.States.{blank, live, event_of, due_in, with_pending, removed}
 use Rattle.state.proofs.Within.{live_with}
+use lib.IntN.{ℤ}
+use Rattle.statements.specs.declared.Runner.{Runner}
+use Rattle.statements.specs.Running.{work_from, work_of}
+use Rattle.machine.proofs.Replies.{left_in}
 use Rattle.statements.specs.declared.Work.{Work}
 use Rattle.machine.specs.declared.Handler.{Handler}
 use Rattle.outcomes.specs.declared.Rule.TheVariants.{EventMatch}
-use Rattle.outcomes.specs.declared.Outcome.TheVariants.{Failed}
+use Rattle.outcomes.specs.declared.Outcome.TheVariants.{Accepted, Failed}
 use Rattle.outcomes.specs.Outcomes.{answered, refused}
 use Rattle.machine.specs.Steps.{unless_refused, accepted, ended, handled, fire_by_due, fired}
 use Rattle.holdings.specs.Holdings.{reached}
-use Rattle.machine.specs.Private.{HandlerOf, ran_on, handled_by}
+use Rattle.machine.specs.Private.{stepped_in, HandlerOf, ran_on, handled_by}
 use Rattle.questions.specs.declared.Question.{Question}
 use Rattle.questions.specs.declared.Question.TheVariants as ask
 
@@ -43,16 +47,30 @@ module _ (l : State) (q : ℕ) (x y : Work) (run : x ≡ y) where
       ∙ sym (ap (λ (p : Option Question). unless_refused p (λ z. answered (Failed z) l) (accepted EventMatch (reached l x q) x)) e)
       ∙ ap (handled_by l q) run
 
+-- the same, from the lists that were lent
+pub handler_ends : (s : State) (q : ℕ) (y : Work) (r : Runner) → work_of r ≡ y → {x : State} {kinds : List ℕ} {numbers : List ℤ} {texts holdings : List ℕ} {words : List ℤ}
+    → x ≡ reached s (work_from kinds numbers texts holdings [] 0 None) q → kinds ≡ r.kinds.now → numbers ≡ r.numbers.now → texts ≡ r.texts.now → holdings ≡ r.holdings.now → words ≡ r.labels.now
+    → stepped_in (record { outcome = Accepted EventMatch; count = r.count }) x words ≡ handled_by s q y
+handler_ends s q y r run {x} {kinds} {numbers} {texts} {holdings} {words} e ea eb ed ee ef =
+    let w = left_in r kinds numbers texts holdings words ea eb ed ee ef in
+    handler_done s q _ y (w ∙ run) refl x e
+
+-- statements begin alike without an event
+ran_removed : (s : State) (k : ℕ) (b : Block) → ran_on (removed s k) b ≡ ran_on s b
+unfolding removed with_pending
+ran_removed s k b = refl
+
 -- the event at place k, and its handler
 pub fired_at : (w : List ℕ) (s : State) (k : ℕ) (p : Pending) → p ≡ get_or (live s) k blank → (h : Handler) → HandlerOf w (event_of (contract_of w) p) h → (l : State) → l ≡ removed s k
-    → handled_by l h.last (ran_on s (block_between w h.from h.end)) ≡ fire_by_due (contract_of w) s (Some k)
+    → handled_by l h.last (ran_on l (block_between w h.from h.end)) ≡ fire_by_due (contract_of w) s (Some k)
 unfolding handled
 fired_at w s k p at h g l left =
     let of : Pending → Event = event_of (contract_of w) in
     let b : block_between w h.from h.end ≡ (of (get_or (live s) k blank)).handler = g.block ∙ ap (λ (y : Pending). (of y).handler) at in
     let q : h.last ≡ (of (get_or (live s) k blank)).last = g.last ∙ ap (λ (y : Pending). (of y).last) at in
     let x : Work = ran_on s (of (get_or (live s) k blank)).handler in
-    (λ i. handled_by (left i) (q i) (ran_on s (b i)))
+    (λ i. handled_by (left i) (q i) (ran_on (left i) (b i)))
+    ∙ ap (handled_by (removed s k) (of (get_or (live s) k blank)).last) (ran_removed s k (of (get_or (live s) k blank)).handler)
     ∙ ap (λ (z : State). unless_refused x.refusal (λ p. answered (Failed p) (removed s k)) (accepted EventMatch z x)) (removed_reached s x (of (get_or (live s) k blank)).last k)
 
 module _ (c : Contract) (s : State) where

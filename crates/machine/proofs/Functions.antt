@@ -2,7 +2,7 @@
 use mathlib.Core.Path.{◌≡◌, refl, sym, ap, ◌∙◌}
 use mathlib.Core.Bool.{true, false, ◌&&◌}
 use mathlib.Core.List.{List, [], ◌∷◌}
-use Prim.Native.Nat.{ℕ, suc, ◌+◌, ◌-◌, ◌*◌, ◌<◌, ◌≤◌}
+use Prim.Native.Nat.{ℕ, zero, suc, ◌+◌, ◌-◌, ◌*◌, ◌<◌, ◌≤◌}
 use native.Mathlib.Omega.{arith}
 use lib.ListN.{length, get_or}
 use lib.Dec.{eqb, leb, ltb}
@@ -24,7 +24,8 @@ use Rattle.state.specs.declared.State.{State}
 use Rattle.state.specs.States.{no_event}
 use Rattle.state.proofs.Decoded.{each_length, each_at}
 use Rattle.agreements.proofs.Clauses.{party_name}
-use Rattle.std.specs.Prelude.{Some, None}
+use Rattle.std.specs.Prelude.{Some, None, Option}
+use Rattle.std.specs.Option.{MatchOption}
 use Rattle.machine.specs.Steps.{Invocation, Chosen, chosen, unknown, choose, answers_to}
 use Rattle.machine.specs.Private.{naming, in_state, FoundIn}
 
@@ -108,44 +109,60 @@ module _ (c : Contract) (q : State) (m : Invocation) (f : ℕ → Function) (n i
       ap (λ (k : ℕ). choose c q m i (each_from i k f)) e
       ∙ ap (λ (k : ℕ). pick (answers_to c q m (f i)) (chosen i (f i)) (choose c q m k (each_from k (n - (i + 1)) f))) d
 
-  pub choose_hit : i < n → answers_to c q m (f i) ≡ true → choose c q m i (each_from i (n - i) f) ≡ chosen i (f i)
+  choose_hit : i < n → answers_to c q m (f i) ≡ true → choose c q m i (each_from i (n - i) f) ≡ chosen i (f i)
   unfolding pick
   choose_hit h e = choose_at h ∙ rw e
 
-  pub choose_miss : i < n → answers_to c q m (f i) ≡ false → choose c q m i (each_from i (n - i) f) ≡ choose c q m (i + 1) (each_from (i + 1) (n - (i + 1)) f)
+  choose_miss : i < n → answers_to c q m (f i) ≡ false → choose c q m i (each_from i (n - i) f) ≡ choose c q m (i + 1) (each_from (i + 1) (n - (i + 1)) f)
   unfolding pick
   choose_miss h e = choose_at h ∙ rw e
 
-  pub choose_end : n ≤ i → choose c q m i (each_from i (n - i) f) ≡ unknown
+  choose_end : n ≤ i → choose c q m i (each_from i (n - i) f) ≡ unknown
   unfolding choose each_from
   choose_end h =
       let e : n - i ≡ 0 = omega arith in
       ap (λ (k : ℕ). choose c q m i (each_from i k f)) e
 
 -- from number i on
-abbrev pub onward : List ℕ → ℕ → Invocation → ℕ → Chosen
+abbrev onward : List ℕ → ℕ → Invocation → ℕ → Chosen
 onward w q m i = choose (contract_of w) (in_state q) m i (each_from i (word_at w 6 - i) (function_at w))
 
-pub onward_first : (w : List ℕ) (q : ℕ) (m : Invocation) → choose (contract_of w) (in_state q) m 0 (contract_of w).functions ≡ onward w q m 0
+onward_first : (w : List ℕ) (q : ℕ) (m : Invocation) → choose (contract_of w) (in_state q) m 0 (contract_of w).functions ≡ onward w q m 0
 unfolding contract_of
 onward_first w q m =
     let e : word_at w 6 ≡ word_at w 6 - 0 = omega arith in
     ap (λ (k : ℕ). choose (contract_of w) (in_state q) m 0 (each_from 0 k (function_at w))) e
 
 module _ (w : List ℕ) (q : ℕ) (m : Invocation) (i : ℕ) (e : choose (contract_of w) (in_state q) m 0 (contract_of w).functions ≡ onward w q m i) where
-  pub found_here : i < word_at w 6 → answers_to (contract_of w) (in_state q) m (function_at w i) ≡ true → FoundIn w q m (Some i)
+  found_here : i < word_at w 6 → answers_to (contract_of w) (in_state q) m (function_at w i) ≡ true → FoundIn w q m (Some i)
   found_here h t =
       record {
         same = e ∙ choose_hit (contract_of w) (in_state q) m (function_at w) (word_at w 6) i h t;
         within = λ n r. let d : i ≡ n = cc in omega arith;
       }
 
-  pub found_none : word_at w 6 ≤ i → FoundIn w q m None
+  found_none : word_at w 6 ≤ i → FoundIn w q m None
   found_none h =
       record {
         same = e ∙ choose_end (contract_of w) (in_state q) m (function_at w) (word_at w 6) i h;
         within = λ n r. let z : ◌≡◌ {A = ℕ} 0 1 = cc in absurd (omega arith);
       }
+
+-- none of the first i functions is called
+none_before : (w : List ℕ) (q : ℕ) (m : Invocation) (i : ℕ) → i ≤ word_at w 6 → ((k : ℕ) → 0 ≤ k → k < i → answers_to (contract_of w) (in_state q) m (function_at w k) ≡ false)
+    → choose (contract_of w) (in_state q) m 0 (contract_of w).functions ≡ onward w q m i
+none_before w q m zero h n = onward_first w q m
+none_before w q m (suc i) h n =
+    let d : i + 1 ≡ suc i = omega arith in
+    none_before w q m i (omega arith) (λ k a b. n k a (omega arith))
+    ∙ choose_miss (contract_of w) (in_state q) m (function_at w) (word_at w 6) i (omega arith) (n i (omega arith) (omega arith))
+    ∙ ap (onward w q m) d
+
+pub found_first : (w : List ℕ) (q : ℕ) (m : Invocation) (n : ℕ) (r : Option ℕ) → n ≡ word_at w 6
+    → MatchOption r ((k : ℕ) → 0 ≤ k → k < n → answers_to (contract_of w) (in_state q) m (function_at w k) ≡ false) (λ i. (0 ≤ i) × (i < n) × (answers_to (contract_of w) (in_state q) m (function_at w i) ≡ true) × ((k : ℕ) → 0 ≤ k → k < i → answers_to (contract_of w) (in_state q) m (function_at w k) ≡ false))
+    → FoundIn w q m r
+found_first w q m n None e h = found_none w q m n (none_before w q m n (omega arith) h) (omega arith)
+found_first w q m n (Some i) e h = found_here w q m i (none_before w q m i (omega (arith, h.1)) h.3) (omega (arith, h.1)) h.2
 
 -- the arguments of a call, and all of a state but its state, do not matter for which function is called
 pub choose_named : (c : Contract) (s : State) (m : Invocation) (n : ℕ) (fs : List Function) → choose c s m n fs ≡ choose c (in_state s.state) (naming m.caller m.function) n fs

@@ -7,6 +7,7 @@ use native.Mathlib.Omega.{arith}
 use lib.Dec.{leb}
 use borrow.Author.Tests.{le-leb, lt-leb}
 use Rattle.laws.specs.Choice.{pick}
+use Rattle.laws.proofs.Choice.{true_false}
 use Rattle.contract.specs.Tree.{Contract}
 use Rattle.contract.specs.Decode.{contract_of}
 use Rattle.contract.specs.Check.{passes}
@@ -14,7 +15,7 @@ use Rattle.state.specs.declared.State.{State}
 use Rattle.state.specs.States.{state_ok}
 use Rattle.outcomes.specs.declared.Stepped.{Stepped}
 use Rattle.outcomes.specs.Outcomes.{refused}
-use Rattle.std.specs.Prelude.{Option, Some, None}
+use Rattle.std.specs.Prelude.{Option, Some, None, is_some}
 use Rattle.questions.specs.declared.Question.{Question}
 use Rattle.questions.specs.declared.Question.TheVariants as ask
 use Rattle.machine.specs.Steps.{step}
@@ -46,6 +47,15 @@ same_question p q e = cc
 
 pub none_some : {A : Type 0} (q : Question) → Some q ≡ None → A
 none_some q e = let z : ◌≡◌ {A = ℕ} 0 1 = cc in absurd (omega arith)
+
+-- whether there is one, by a test
+pub some_is : (d : Option ℕ) → is_some d ≡ true → (k : ℕ) × (d ≡ Some k)
+some_is (Some k) e = (k, refl)
+some_is None e = true_false (sym e)
+
+pub none_is : (d : Option ℕ) → is_some d ≡ false → d ≡ None
+none_is (Some k) e = true_false e
+none_is None e = refl
 
 -- the three tests, and what they lead to
 module _ {A : Type 0} (no : Question → A) (x : A) where

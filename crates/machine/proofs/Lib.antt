@@ -8,7 +8,7 @@ pub mod Schedules
 pub mod Concluded
 pub mod Calls
 pub mod Performed
-pub mod Answers
+pub mod Replies
 pub mod Taken
 pub mod Pendings
 pub mod Playing

@@ -1,27 +1,22 @@
--- Steps keep the number of pending events within its bound, and the arrays of a state and of an answer at their lengths. Assumes nothing.
+-- Steps keep the labels of an answer at their number. Assumes nothing.
 use mathlib.Core.Path.{◌≡◌, refl, ◌∙◌}
-use mathlib.Core.Bool.{true, false, not}
+use mathlib.Core.Bool.{true, false}
 use mathlib.Core.List.{List, [], ◌∷◌, ◌++◌}
-use Prim.Native.Nat.{ℕ, zero, suc, ◌+◌, ◌-◌, ◌≤◌}
-use native.Mathlib.Omega.{arith}
-use lib.ListN.{length, get_or, length-set, length-append, length-take, drop}
+use Prim.Native.Nat.{ℕ, suc, ◌+◌, ◌-◌, ◌≤◌}
+use lib.ListN.{length, get_or, length-set, drop}
 use lib.Dec.{eqb}
 use lib.IntN.{ℤ, pos, negsuc, nat_abs}
 use borrow.Author.Tests.{leb-true}
 use Rattle.laws.proofs.Choice.{by_cases}
 use Rattle.numbers.specs.declared.Value.{Value}
 use Rattle.numbers.specs.declared.Value.TheVariants.{Integer, Text}
-use Rattle.contract.specs.Tree.{Verb, Clause, Function, Contract, held, Action, assign, send, move, pay, move_all, pay_all, Block, none, perform, conditional, broken_block}
-use Rattle.contract.specs.Tree as tree
+use Rattle.contract.specs.Tree.{Function, Contract, held, Action, assign, send, move, pay, move_all, pay_all, Block, none, perform, conditional, broken_block}
 use Rattle.evaluation.specs.Meaning.{value_of, truth_of}
 use Rattle.state.specs.declared.State.{State}
 use Rattle.state.specs.declared.Pending.{Pending}
 use Rattle.std.specs.Prelude.{Option, Some, None, Ok, Err}
-use Rattle.state.specs.States.{blank, live, event_of, due_in, with_pending, lapsed, removed, with_integer, opened, time_passed, passed_times, times_until_due}
-use Rattle.laws.proofs.Members.{keep_length}
-use Rattle.laws.specs.Lists.{every, repeated, keep}
-use Rattle.state.proofs.Each.{without_length}
-use Rattle.state.proofs.Kept.{without}
+use Rattle.state.specs.States.{blank, live, event_of, due_in, removed, opened, time_passed, passed_times, times_until_due}
+use Rattle.laws.specs.Lists.{every}
 use Rattle.statements.specs.declared.Work.{Work}
 use Rattle.statements.specs.Running.{integer_label, string_label, asset_label, memory_in, onward, stored, labelled, sent, receiver, place, moved, paid, with_value, with_amount, performed, by_truth, ran}
 use Rattle.statements.proofs.Silent.{ran_silent}
@@ -33,7 +28,7 @@ use Rattle.outcomes.specs.declared.Stepped.{Stepped}
 use Rattle.outcomes.specs.Outcomes.{no_label, no_labels, answered, refused}
 use Rattle.holdings.specs.Holdings.{amounts}
 use Rattle.machine.specs.Steps.{accepted, begun, ended, Invocation, Chosen, chosen, answers_to, choose, precondition_holds, Scheduled, times, no, schedule, with_scheduled, finished, by_precondition, invoked, by_chosen, call_by_due, called, handled, fire_by_due, fired, tick_by_due, ticked, jump_by_due, jumped}
-use Rattle.agreements.specs.Agreement.{Part, set_fields, set_clause, set_clauses, agreed_on}
+use Rattle.agreements.specs.Agreement.{Part, set_clauses, agreed_on}
 use Rattle.machine.specs.Sessions.{parts_said, invocation_in}
 use Rattle.machine.specs.Private.{taken_by, taken}
 use Rattle.laws.proofs.Members.{repeated_length}
@@ -144,74 +139,6 @@ module _ (c : Contract) (s : State) where
   taken_outcomes line (lines.call k) = call_outcomes (invocation_in line k)
   taken_outcomes line (lines.agreement ps) = agreement_outcomes (parts_said line ps)
 
--- ---- the slots of pending events
-
-pub record Slotted (s : State) : Type 0 where
-  pub events : length s.events ≡ 64
-  pub pending : s.pending ≤ 64
-
--- few pending events in 64 slots
-with_slotted : (s : State) (ps : List Pending) → length ps ≤ 64 → Slotted (with_pending s ps)
-unfolding with_pending
-with_slotted s ps h =
-    record {
-      events = length-append ps (repeated (64 - length ps) blank) ∙ (let r = repeated_length (64 - length ps) blank in omega (arith, r));
-      pending = h;
-    }
-
-module _ (s : State) (h : s.pending ≤ 64) where
-  live_few : length (live s) ≤ 64
-  live_few = omega (arith, length-take s.pending s.events)
-
-  without_few : (k : ℕ) → length (without k (live s)) ≤ 64
-  without_few k = omega (arith, without_length k (live s), live_few)
-
-  removed_slotted : (k : ℕ) → Slotted (removed s k)
-  unfolding removed
-  removed_slotted k = with_slotted s (without k (live s)) (without_few k)
-
-  removed_few : (k : ℕ) → length (live (removed s k)) ≤ 64
-  removed_few k = omega (arith, length-take (removed s k).pending (removed s k).events, (removed_slotted k).pending)
-
-  lapsed_slotted : Slotted (time_passed s)
-  unfolding lapsed
-  lapsed_slotted =
-      let p : Pending → _ = λ x. not (eqb x.time s.clock) in
-      let o = with_slotted s (keep p (live s)) (omega (arith, keep_length p (live s), live_few)) in
-      record { events = o.events; pending = o.pending }
-
--- and so after any number of them
-passed_slotted : (n : ℕ) (s : State) → Slotted s → Slotted (passed_times n s)
-unfolding passed_times
-passed_slotted zero s h = h
-passed_slotted (suc n) s h = passed_slotted n (time_passed s) (lapsed_slotted s h.pending)
-
--- an agreement leaves them
-fields_slotted : (s : State) (xs : List ℕ) (zs : List ℤ) → Slotted s → Slotted (set_fields s xs zs)
-unfolding set_fields
-fields_slotted s [] zs h = h
-fields_slotted s (x ∷ xs) [] h = h
-fields_slotted s (x ∷ xs) (z ∷ zs) h = fields_slotted (with_integer s x z) xs zs (record { events = h.events; pending = h.pending })
-
-clause_slotted : (s : State) (k : Clause) (p : Part) (v : Verb) → Slotted s → Slotted (set_clause s k p v)
-clause_slotted s k p tree.set h = fields_slotted s k.fields p.values h
-clause_slotted s k p tree.ok h = h
-
-clauses_slotted : (s : State) (ks : List Clause) (ps : List Part) → Slotted s → Slotted (set_clauses s ks ps)
-unfolding set_clauses
-clauses_slotted s [] ps h = h
-clauses_slotted s (k ∷ ks) [] h = h
-clauses_slotted s (k ∷ ks) (p ∷ ps) h = clauses_slotted (set_clause s k p k.verb) ks ps (clause_slotted s k p k.verb h)
-
-outcome_slotted : {s : State} {r : Stepped} → Slotted s → Outcomes s r → Slotted r.state
-outcome_slotted h (refusal n) = h
-outcome_slotted {s} h (agrees c ps) = let o = clauses_slotted s c.clauses ps h in record { events = o.events; pending = o.pending }
-outcome_slotted {s} h (calls v hs b q ps l) = with_slotted _ (live s ++ ps) (omega (arith, length-append (live s) ps))
-outcome_slotted {s} h (fires k b q) = with_slotted _ (live (removed s k)) (removed_few s h.pending k)
-outcome_slotted {s} h (fails k n) = removed_slotted s h.pending k
-outcome_slotted {s} h ticks = lapsed_slotted s h.pending
-outcome_slotted {s} h (jumps n) = passed_slotted n s h
-
 -- ---- the labels
 
 abbrev Labels : Work → Type 0
@@ -298,12 +225,6 @@ outcome_blank (jumps n) e = refl
 -- ---- firings and lines
 
 module _ (c : Contract) (s : State) where
-  pub slotted_fired : Slotted s → Slotted (fired c s).state
-  slotted_fired h = outcome_slotted h (fired_outcomes c s)
-
-  pub slotted_taken : (line : List ℕ) → Slotted s → Slotted (taken c s line).state
-  slotted_taken line h = outcome_slotted h (taken_outcomes c s line (asked line))
-
   pub labels_fired : length (fired c s).labels ≡ 64
   labels_fired = outcome_labels (fired_outcomes c s)
 

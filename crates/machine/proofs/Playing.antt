@@ -18,7 +18,6 @@ use Rattle.contract.specs.Check.{passes}
 use Rattle.state.specs.declared.State.{State}
 use Rattle.std.specs.Prelude.{Option, Some, None, IfSome}
 use Rattle.state.specs.States.{state_ok, due_in}
-use Rattle.statements.specs.declared.Label.{Label}
 use Rattle.statements.specs.Running.{labels_from}
 use Rattle.results.specs.declared.Report.{Report}
 use Rattle.results.specs.Coded.{coded_all, integers_of}
@@ -29,12 +28,12 @@ use Rattle.machine.specs.declared.Next.{Next}
 use Rattle.machine.specs.declared.Next.TheVariants as next
 use Rattle.machine.specs.declared.Played.{Played}
 use Rattle.machine.specs.Sessions.{Said, said, heard, end_of_line, Turn, takes, wait, turn_by_due, turn_at, Session, here, before, on_turn, session_for, session, not_played, played, reports_of}
-use Rattle.machine.specs.Private.{first_no, reply_of, taken_by, taken, said_of, turn_of, EndsWithin, PlayedIs}
+use Rattle.machine.specs.Private.{first_no, stepped_in, taken_by, taken, said_of, turn_of, EndsWithin, PlayedIs}
 use Rattle.step_reports.specs.Reports.{report_of, label_reports, told as lines_told, room_in, has_room, step_reports}
 use Rattle.step_reports.proofs.Reports.{Told, told_none, told_more, numbers_kept, integers_kept, sent_length, words_told}
 use Rattle.questions.specs.declared.Question.{Question}
 use Rattle.machine.proofs.Gates.{first_of, stops, goes}
-use Rattle.machine.proofs.Pendings.{Slotted, slotted_fired, slotted_taken, labels_fired, labels_taken, blank_fired, blank_taken}
+use Rattle.machine.proofs.Pendings.{labels_fired, labels_taken, blank_fired, blank_taken}
 
 -- ---- what a turn takes up
 
@@ -76,27 +75,26 @@ module _ (c : Contract) (s : State) where
   abbrev Kept : Turn → Type 0
   Kept wait = Unit
   Kept (takes x next) =
-      (length (heard c s x).labels ≡ 64) × Slotted (heard c s x).state × ((heard c s x).count ≡ 0 → (heard c s x).labels ≡ no_labels)
+      (length (heard c s x).labels ≡ 64) × ((heard c s x).count ≡ 0 → (heard c s x).labels ≡ no_labels)
 
-  module _ (bytes : List ℕ) (at : ℕ) (h : Slotted s) where
+  module _ (bytes : List ℕ) (at : ℕ) where
     line_kept : (line : List ℕ) (next : ℕ) → Kept (takes (said line) next)
     unfolding taken_by
-    line_kept line next = (labels_taken c s line, slotted_taken c s line h, blank_taken c s line)
+    line_kept line next = (labels_taken c s line, blank_taken c s line)
 
     kept_by : (d : Option ℕ) → Kept (turn_by_due bytes at d)
-    kept_by (Some k) = (labels_fired c s, slotted_fired c s h, blank_fired c s)
+    kept_by (Some k) = (labels_fired c s, blank_fired c s)
     kept_by None = by_cases Kept _ _ _ (λ _. line_kept (between bytes at (end_of_line bytes at)) (suc (end_of_line bytes at))) (λ _. tt)
 
     kept : Kept (turn_at c bytes s at)
     unfolding turn_at
     kept = kept_by (due_in c s)
 
-  -- a turn that took something up: where the next line starts, the step and its labels
-  pub record Made (at : ℕ) (came : Reply) (labels : List Label) (turn : Turn) : Type 0 where
+  -- a turn that took something up: where the next line starts, and the step
+  pub record Made (at : ℕ) (came : Stepped) (turn : Turn) : Type 0 where
     pub taken_up : Said
     pub turned : turn ≡ takes taken_up at
-    pub came_so : came ≡ reply_of (heard c s taken_up)
-    pub labelled : labels ≡ (heard c s taken_up).labels
+    pub came_so : came ≡ heard c s taken_up
 
 -- ---- a session from its turns
 
@@ -125,8 +123,8 @@ before_before : (a b : List Report) (e : Session) → before a (before b e) ≡ 
 before_before a b e = ap (λ l. record { state = e.state; at = e.at; reports = l }) (sym (append_assoc a b e.reports))
 
 -- the result lines of an answer whose labels stand in these words
-abbrev pub replies_of : Reply → List ℤ → List Report
-replies_of r ws = step_reports r.outcome r.state.state r.state.clock r.count ws
+abbrev pub replies_of : Reply → State → List ℤ → List Report
+replies_of r s ws = step_reports r.outcome s.state s.clock r.count ws
 
 -- what is told so far, followed by the session from here on, is the whole session
 pub record Going (c : Contract) (bytes : List ℕ) (room : ℕ) (e : Session) (numbers : List ℕ) (integers : List ℤ) (told : List ℕ) (values : List ℤ) (s : State) (at n : ℕ) : Type 0 where
@@ -137,11 +135,10 @@ pub record Going (c : Contract) (bytes : List ℕ) (room : ℕ) (e : Session) (n
   pub enough : room ≤ n + turns
   pub same : e ≡ before so (session_for turns (heard c) c bytes (room - n) s at)
   pub written : Told numbers integers 0 so told values
-  pub slotted : Slotted s
 
 module _ {c : Contract} {bytes : List ℕ} {room : ℕ} {numbers : List ℕ} {integers : List ℤ} where
-  pub going_first : (whole : ℕ) → room ≡ whole → (s : State) → Slotted s → Going c bytes room (session c bytes whole s) numbers integers numbers integers s 0 0
-  going_first whole e s h =
+  pub going_first : (whole : ℕ) → room ≡ whole → (s : State) → Going c bytes room (session c bytes whole s) numbers integers numbers integers s 0 0
+  going_first whole e s =
       let z : room ≡ room - 0 = omega arith in
       record {
         so = [];
@@ -151,7 +148,6 @@ module _ {c : Contract} {bytes : List ℕ} {room : ℕ} {numbers : List ℕ} {in
         enough = omega arith;
         same = ap (λ k. session_for k (heard c) c bytes k s 0) (sym e) ∙ ap (λ k. session_for room (heard c) c bytes k s 0) z;
         written = told_none;
-        slotted = h;
       }
 
   module _ {e : Session} {told : List ℕ} {values : List ℤ} {s : State} {at n : ℕ} (g : Going c bytes room e numbers integers told values s at n) where
@@ -175,10 +171,10 @@ module _ {c : Contract} {bytes : List ℕ} {room : ℕ} {numbers : List ℕ} {in
         ended (g.same ∙ ap (before g.so) (session_wait (heard c) c bytes (room - n) s at g.turns h))
 
     -- a turn that sent no label left none
-    pub left_blank : {next : ℕ} {r : Reply} {labels : List Label} → Made c s next r labels (turn_at c bytes s at) → r.count ≡ 0 → labels ≡ no_labels
-    left_blank {next} {r} {labels} w z =
-        let k = subst (Kept c s) w.turned (kept c s bytes at g.slotted) in
-        w.labelled ∙ k.2 (sym (ap (λ (x : Reply). x.count) w.came_so) ∙ z)
+    pub left_blank : {next : ℕ} (r : Reply) (now : State) (ws : List ℤ) → Made c s next (stepped_in r now ws) (turn_at c bytes s at) → r.count ≡ 0 → labels_from ws ≡ no_labels
+    left_blank {next} r now ws w z =
+        let k = subst (Kept c s) w.turned (kept c s bytes at) in
+        ap (λ (x : Stepped). x.labels) w.came_so ∙ k.1 (sym (ap (λ (x : Stepped). x.count) w.came_so) ∙ z)
 
     -- there is room for the result lines of a step
     module _ (enough : 65 ≤ room - n) (whole : room ≡ room_in (length numbers) (length integers)) where
@@ -191,20 +187,20 @@ module _ {c : Contract} {bytes : List ℕ} {room : ℕ} {numbers : List ℕ} {in
       pub goes_up : (k m : ℕ) → m ≡ pick (has_room told values n) (n + 1 + k) n → room - m < room - n
       goes_up k m e = let d : m ≡ n + 1 + k = e ∙ pick_true _ _ _ fit in omega arith
 
-      pub going_on : {next : ℕ} {r : Reply} (ws : List ℤ) → Made c s next r (labels_from ws) (turn_at c bytes s at)
+      pub going_on : {next : ℕ} (r : Reply) (now : State) (ws : List ℤ) → Made c s next (stepped_in r now ws) (turn_at c bytes s at)
           → {m : ℕ} {more : List ℕ} {others : List ℤ}
           → m ≡ pick (has_room told values n) (n + 1 + min r.count 64) n
-          → more ≡ pick (has_room told values n) (sets told (4 * n) (coded_all (replies_of r ws))) told
-          → others ≡ pick (has_room told values n) (sets values n (integers_of (replies_of r ws))) values
-          → Going c bytes room e numbers integers more others r.state next m
+          → more ≡ pick (has_room told values n) (sets told (4 * n) (coded_all (replies_of r now ws))) told
+          → others ≡ pick (has_room told values n) (sets values n (integers_of (replies_of r now ws))) values
+          → Going c bytes room e numbers integers more others now next m
       unfolding lines_told
-      going_on {next} {r} ws w {m} {more} {others} up a b =
+      going_on {next} r now ws w {m} {more} {others} up a b =
           let t : Stepped = heard c s w.taken_up in
-          let k = subst (Kept c s) w.turned (kept c s bytes at g.slotted) in
-          let l : length (labels_from ws) ≡ 64 = ap length w.labelled ∙ k.0 in
-          let f : replies_of r ws ≡ lines_told t =
-          ap (λ (z : List Report). report_of r.outcome r.state.state r.state.clock ∷ z) (words_told r.count ws l)
-          ∙ (λ i. report_of (w.came_so i).outcome (w.came_so i).state.state (w.came_so i).state.clock ∷ label_reports (take (w.came_so i).count (w.labelled i))) in
+          let k = subst (Kept c s) w.turned (kept c s bytes at) in
+          let l : length (labels_from ws) ≡ 64 = ap (λ (x : Stepped). length x.labels) w.came_so ∙ k.0 in
+          let f : replies_of r now ws ≡ lines_told t =
+          ap (λ (z : List Report). report_of r.outcome now.state now.clock ∷ z) (words_told r.count ws l)
+          ∙ (λ i. report_of (w.came_so i).outcome (w.came_so i).state.state (w.came_so i).state.clock ∷ label_reports (take (w.came_so i).count (w.came_so i).labels)) in
           let y : Told told values n (lines_told t) more others =
           subst (λ (z : List Report). Told told values n z more others) f (record { numbers_after = a ∙ pick_true _ _ _ fit; integers_after = b ∙ pick_true _ _ _ fit }) in
           let len : length (lines_told t) ≡ suc (min r.count 64) = ap length (sym f) ∙ ap suc (sent_length (min r.count 64) ws) in
@@ -223,9 +219,8 @@ module _ {c : Contract} {bytes : List ℕ} {room : ℕ} {numbers : List ℕ} {in
                 ∙ ap (before g.so) (session_step (heard c) c bytes (room - n) s at g.turns (g.turns - 1) w.taken_up next o enough w.turned)
                 ∙ before_before g.so (lines_told t) _
                 ∙ ap (λ x. before (g.so ++ lines_told t) (session_for (g.turns - 1) (heard c) c bytes x t.state next)) j
-                ∙ ap (λ (x : Reply). before (g.so ++ lines_told t) (session_for (g.turns - 1) (heard c) c bytes (room - m) x.state next)) (sym w.came_so);
+                ∙ ap (λ (x : Stepped). before (g.so ++ lines_told t) (session_for (g.turns - 1) (heard c) c bytes (room - m) x.state next)) (sym w.came_so);
             written = told_more g.written (sym i) y;
-            slotted = subst (λ (x : Reply). Slotted x.state) (sym w.came_so) k.1;
           }
 
 -- ---- the first questions of a session

@@ -1,42 +1,37 @@
 -- What a line that was read does, by what was told of it. Assumes nothing.
 use mathlib.Core.Path.{◌≡◌, refl, sym, ap, subst, ◌∙◌}
-use mathlib.Core.Bool.{true, not}
+use mathlib.Core.Bool.{true}
 use mathlib.Core.List.{List, [], ◌∷◌, ◌++◌}
-use Prim.Native.Nat.{ℕ, ◌+◌, ◌*◌, ◌/◌, ◌<◌, ◌≤◌}
+use Prim.Native.Nat.{ℕ, ◌+◌, ◌*◌, ◌/◌, ◌≤◌}
 use native.Mathlib.Omega.{arith}
-use lib.ListN.{length, get_or, take, drop, length-append}
+use lib.ListN.{length, take, drop, length-append}
 use lib.Seq.{take-append_seam, drop-append_seam}
 use lib.Dec.{eqb}
 use lib.IntN.{ℤ, pos}
 use mir.Val.{Val}
 use denote.Laws.{Is}
-use borrow.Author.Tests.{eq-eqb, ne_eqb}
 use Rattle.laws.specs.Choice.{pick}
 use Rattle.laws.proofs.Choice.{pick_true, by_cases}
-use Rattle.laws.proofs.Lists.{past}
 use Rattle.contract.specs.Tree.{Word, Verb, Contract}
 use Rattle.contract.specs.Tree as tree
-use Rattle.tokens.specs.Classes.{run}
 use Rattle.tokens.specs.Tokens.{between}
-use Rattle.tokens.proofs.Laws.{run_go, run_stop}
 use Rattle.state.specs.declared.State.{State}
-use Rattle.std.specs.Prelude.{Option, Some, None}
-use Rattle.state.specs.States.{due_in}
 use Rattle.lines.specs.Lines.{Field, Asked, set, ok}
 use Rattle.lines.specs.Lines as lines
-use Rattle.lines.specs.Answers.{verb_number, padded, line_of, numbers_of, agreement_of, parts_of, heads_of, spans_of, values_of, fields_of}
-use Rattle.lines.specs.declared.Line.{Line}
+use Rattle.lines.specs.Answers.{verb_number, padded, span_in, request_of, numbers_of, agreement_of, parts_of, heads_of, spans_of, values_of, fields_of}
+use Rattle.lines.specs.declared.Call as read
+use Rattle.std.specs.Prelude.{Ok, Err}
 use Rattle.lines.specs.declared.Agreement.{Agreement}
 use Rattle.lines.specs.declared.Request.TheVariants as request
 use Rattle.lines.specs.contracts.Agreement as agreement
 use Rattle.lines.proofs.Flat.{spans_append, values_append, spans_length, values_length, heads_length}
 use Rattle.lines.proofs.Told.{told_refused, told_tick, told_jump, told_call, told_agreement, padded_room, padded_front, padded_first, padded_second}
 use Rattle.outcomes.specs.declared.Stepped.{Stepped}
-use Rattle.outcomes.specs.Outcomes.{no_labels, answered, refused}
-use Rattle.machine.specs.Steps.{tick_by_due, ticked, jump_by_due, jumped}
+use Rattle.outcomes.specs.Outcomes.{answered, refused}
+use Rattle.machine.specs.Steps.{ticked, jumped}
 use Rattle.agreements.specs.Agreement.{Part, words_in, parts_in, agreed_on}
-use Rattle.machine.specs.Private.{reply_of, called_by, taken_by}
-use Rattle.machine.specs.Sessions.{name_in, verb_in, names_in, parts_said, end_of_line}
+use Rattle.machine.specs.Private.{called_by, taken_by}
+use Rattle.machine.specs.Sessions.{name_in, verb_in, names_in, parts_said}
 use Rattle.questions.specs.declared.Question.{Question}
 use Rattle.questions.specs.declared.Question.TheVariants as ask
 
@@ -105,90 +100,57 @@ module _ (line : List ℕ) where
       ∙ ap (λ (l : List ℤ). part_with p (verb_in p.verb) (names_in line p.fields) (values_of p.fields) ∷ parts_in line (length ps) (heads_of ps) (spans_of (fields_of ps)) l) (values_left p.fields (fields_of ps))
       ∙ ap (λ (l : List Part). part_with p (verb_in p.verb) (names_in line p.fields) (values_of p.fields) ∷ l) (parts_same ps)
 
--- ---- steps that send nothing
+-- ---- an agreement sends nothing
+abbrev Plain : Stepped → Type 0
+Plain t = answered t.outcome t.state ≡ t
 
-pub record Silent (t : Stepped) : Type 0 where
-  pub labels : t.labels ≡ no_labels
-  pub count : t.count ≡ 0
-
-silent_refused : (s : State) (q : Question) → Silent (refused s q)
-silent_refused s n = record { labels = refl; count = refl }
-
-silent_ticked : (c : Contract) (s : State) → Silent (ticked c s)
-unfolding ticked
-silent_ticked c s = by_cases Silent _ _ _ (λ _. go (due_in c s)) (λ _. silent_refused s ask.Agreed)
-  where
-    go : (d : Option ℕ) → Silent (tick_by_due s d)
-    go (Some k) = silent_refused s ask.NothingDue
-    go None = by_cases Silent _ _ _ (λ _. record { labels = refl; count = refl }) (λ _. silent_refused s ask.ClockBelowTop)
-
-silent_jumped : (c : Contract) (s : State) (T : ℤ) → Silent (jumped c s T)
-unfolding jumped
-silent_jumped c s T = by_cases Silent _ _ _ (λ _. go (due_in c s)) (λ _. silent_refused s ask.Agreed)
-  where
-    go : (d : Option ℕ) → Silent (jump_by_due c s T d)
-    go (Some k) = silent_refused s ask.NothingDue
-    go None = by_cases Silent _ _ _ (λ _. record { labels = refl; count = refl }) (λ _. silent_refused s ask.TimeNotPast)
-
-silent_agreed : (c : Contract) (s : State) (ps : List Part) → Silent (agreed_on c s ps)
+plain_agreed : (c : Contract) (s : State) (ps : List Part) → Plain (agreed_on c s ps)
 unfolding agreed_on
-silent_agreed c s ps =
-    by_cases Silent _ _ _ (λ _. silent_refused s ask.NotAgreed) λ _.
-    by_cases Silent _ _ _
-    (λ _. by_cases Silent _ _ _ (λ _. record { labels = refl; count = refl }) (λ _. silent_refused s ask.SameValues))
-    (λ _. silent_refused s ask.SameClauses)
-
--- its outcome and its state are all that it answers
-silent_came : (t : Stepped) → Silent t → reply_of (answered t.outcome t.state) ≡ reply_of t
-silent_came t h = ap (λ (n : ℕ). record { outcome = t.outcome; state = t.state; count = n }) (sym h.count)
+plain_agreed c s ps =
+    by_cases Plain _ _ _ (λ _. refl) λ _. by_cases Plain _ _ _ (λ _. by_cases Plain _ _ _ (λ _. refl) (λ _. refl)) (λ _. refl)
 
 module _ (c : Contract) (s : State) (line : List ℕ) where
-  pub does_refused : {q : Question} (a : Asked) → (line_of a).request ≡ request.Refused q → refused s q ≡ taken_by c s line a
+  pub does_refused : {q : Question} (a : Asked) → request_of a ≡ Err q → refused s q ≡ taken_by c s line a
   unfolding taken_by
   does_refused {q} a e = ap (taken_by c s line) (sym (told_refused a e))
 
-  pub does_tick : (a : Asked) → (line_of a).request ≡ request.Tick → ticked c s ≡ taken_by c s line a
+  pub does_tick : (a : Asked) → request_of a ≡ Ok request.Tick → ticked c s ≡ taken_by c s line a
   unfolding taken_by
   does_tick a e = ap (taken_by c s line) (sym (told_tick a e))
 
-  pub does_jump : {T : ℤ} (a : Asked) → (line_of a).request ≡ request.Jump T → jumped c s T ≡ taken_by c s line a
+  pub does_jump : {T : ℤ} (a : Asked) → request_of a ≡ Ok (request.Jump T) → jumped c s T ≡ taken_by c s line a
   unfolding taken_by
   does_jump a e = ap (taken_by c s line) (sym (told_jump a e))
 
-  -- lines that send nothing
-  pub silent_refusal : {q : Question} (a : Asked) → (line_of a).request ≡ request.Refused q → Silent (taken_by c s line a)
-  silent_refusal {q} a e = subst Silent (does_refused a e) (silent_refused s q)
-
-  pub silent_tick : (a : Asked) → (line_of a).request ≡ request.Tick → Silent (taken_by c s line a)
-  silent_tick a e = subst Silent (does_tick a e) (silent_ticked c s)
-
-  pub silent_jump : {T : ℤ} (a : Asked) → (line_of a).request ≡ request.Jump T → Silent (taken_by c s line a)
-  silent_jump {T} a e = subst Silent (does_jump a e) (silent_jumped c s T)
-
-  pub silent_agreement : (a : Asked) → (line_of a).request ≡ request.Agreement → Silent (taken_by c s line a)
+  pub agreement_came : (a : Asked) (t : Stepped) → request_of a ≡ Ok request.Agreement → t ≡ taken_by c s line a → answered t.outcome t.state ≡ taken_by c s line a
   unfolding taken_by
-  silent_agreement a e =
-      let k = told_agreement a e in
-      subst (λ (x : Asked). Silent (taken_by c s line x)) (sym k.is) (silent_agreed c s (parts_said line k.asks))
+  agreement_came a t f e =
+      let k = told_agreement a f in
+      (λ i. answered (e i).outcome (e i).state) ∙ subst (λ (x : Asked). Plain (taken_by c s line x)) (sym k.is) (plain_agreed c s (parts_said line k.asks))
 
-  pub agreement_came : (a : Asked) (t : Stepped) → (line_of a).request ≡ request.Agreement → t ≡ taken_by c s line a → reply_of (answered t.outcome t.state) ≡ reply_of (taken_by c s line a)
-  agreement_came a t f e = silent_came t (subst Silent (sym e) (silent_agreement a f)) ∙ ap reply_of e
-
-  pub agreed_before : (a : Asked) → (line_of a).request ≡ request.Agreement → s.agreed ≡ true → reply_of (refused s ask.NotAgreed) ≡ reply_of (taken_by c s line a)
+  pub agreed_before : (a : Asked) → request_of a ≡ Ok request.Agreement → s.agreed ≡ true → refused s ask.NotAgreed ≡ taken_by c s line a
   unfolding taken_by agreed_on
   agreed_before a f e =
       let k = told_agreement a f in
-      ap reply_of (sym (pick_true s.agreed _ _ e) ∙ ap (taken_by c s line) (sym k.is))
+      sym (pick_true s.agreed _ _ e) ∙ ap (taken_by c s line) (sym k.is)
 
   -- ---- a call
 
-  -- what was read of a call, and its integers
-  pub record CallRead (a : Asked) (r : Line) (zs : List ℤ) : Type 0 where
-    pub room : r.values + r.assets ≤ 256
-    pub does : called_by c s (between line r.party_start r.party_end) (between line r.function_start r.function_end) (take r.values zs) (take r.assets (drop r.values zs)) ≡ taken_by c s line a
+  -- as it is read
+  abbrev call_of : lines.Call → read.Call
+  call_of k = record { party = span_in k.names.party; function = span_in k.names.function; values = length k.lists.values; assets = length k.lists.assets }
 
-  call_read : (k : lines.Call) → length (padded (pos 0) 256 (k.lists.values ++ k.lists.assets)) ≡ 256 → CallRead (lines.call k) (line_of (lines.call k)) (padded (pos 0) 256 (k.lists.values ++ k.lists.assets))
-  unfolding line_of taken_by
+  call_same : (k : lines.Call) (r : read.Call) → Ok (request.Call r) ≡ request_of (lines.call k) → call_of k ≡ r
+  unfolding request_of
+  call_same k r e = cc
+
+  -- what was read of a call, and its integers
+  pub record CallRead (a : Asked) (r : read.Call) (zs : List ℤ) : Type 0 where
+    pub room : r.values + r.assets ≤ 256
+    pub does : called_by c s (between line r.party.start r.party.end) (between line r.function.start r.function.end) (take r.values zs) (take r.assets (drop r.values zs)) ≡ taken_by c s line a
+
+  call_read : (k : lines.Call) → length (padded (pos 0) 256 (k.lists.values ++ k.lists.assets)) ≡ 256 → CallRead (lines.call k) (call_of k) (padded (pos 0) 256 (k.lists.values ++ k.lists.assets))
+  unfolding taken_by
   call_read k l =
       let vs = k.lists.values in
       let hs = k.lists.assets in
@@ -200,16 +162,15 @@ module _ (c : Contract) (s : State) (line : List ℕ) where
             ∙ ap (λ (x : List ℤ). called_by c s (name_in line n.party) (name_in line n.function) vs x) (padded_second (pos 0) 256 vs hs);
       }
 
-  pub does_call : (a : Asked) (r : Line) (zs : List ℤ) → r ≡ line_of a → r.request ≡ request.Call → zs ≡ padded (pos 0) 256 (numbers_of a) → length zs ≡ 256 → CallRead a r zs
-  does_call a r zs e f g l =
-      let h : (line_of a).request ≡ request.Call = ap (λ (x : Line). x.request) (sym e) ∙ f in
-      let k = told_call a h in
-      let p : line_of (lines.call k.asks) ≡ r = sym (e ∙ ap line_of k.is) in
+  pub does_call : (a : Asked) (r : read.Call) (zs : List ℤ) → Ok (request.Call r) ≡ request_of a → zs ≡ padded (pos 0) 256 (numbers_of a) → length zs ≡ 256 → CallRead a r zs
+  does_call a r zs f g l =
+      let k = told_call a (sym f) in
+      let p : call_of k.asks ≡ r = call_same k.asks r (f ∙ ap request_of k.is) in
       let z : zs ≡ padded (pos 0) 256 (k.asks.lists.values ++ k.asks.lists.assets) = g ∙ ap (λ (x : Asked). padded (pos 0) 256 (numbers_of x)) k.is in
       let m : length (padded (pos 0) 256 (k.asks.lists.values ++ k.asks.lists.assets)) ≡ 256 = ap length (sym z) ∙ l in
       subst (λ (x : Asked). CallRead x r zs) (sym k.is)
-      (subst (λ (x : Line). CallRead (lines.call k.asks) x zs) p
-      (subst (λ (x : List ℤ). CallRead (lines.call k.asks) (line_of (lines.call k.asks)) x) (sym z) (call_read k.asks m)))
+      (subst (λ (x : read.Call). CallRead (lines.call k.asks) x zs) p
+      (subst (λ (x : List ℤ). CallRead (lines.call k.asks) (call_of k.asks) x) (sym z) (call_read k.asks m)))
 
   -- ---- an agreement
 
@@ -245,24 +206,8 @@ module _ (c : Contract) (s : State) (line : List ℕ) where
             ∙ ap (agreed_on c s) (parts_same line ps);
       }
 
-  pub does_agreement : (a : Asked) (g : Agreement) → g ≡ agreement_of (parts_of a) → (line_of a).request ≡ request.Agreement → Arrays g → AgreementRead a g
+  pub does_agreement : (a : Asked) (g : Agreement) → g ≡ agreement_of (parts_of a) → request_of a ≡ Ok request.Agreement → Arrays g → AgreementRead a g
   does_agreement a g e f h =
       let k = told_agreement a f in
       let p : agreement_of k.asks ≡ g = sym (e ∙ ap (λ (x : Asked). agreement_of (parts_of x)) k.is) in
       subst (λ (x : Asked). AgreementRead x g) (sym k.is) (subst (AgreementRead (lines.agreement k.asks)) p (agreement_read k.asks (subst Arrays (sym p) h)))
-
--- ---- the end of a line
-
--- the place and the line's end from there on are the same all along
-module _ (s : List ℕ) (i : ℕ) where
-  pub end_go : i < length s → (get_or s i 0 ≡ 10 → ⊥) → end_of_line s i ≡ end_of_line s (i + 1)
-  unfolding end_of_line
-  end_go h n = omega (arith, run_go s i h (λ b. not (eqb b 10)) (ap not (ne_eqb (get_or s i 0) 10 n)))
-
-  pub end_here : i < length s → get_or s i 0 ≡ 10 → end_of_line s i ≡ i
-  unfolding end_of_line
-  end_here h e = omega (arith, run_stop s i h (λ b. not (eqb b 10)) (ap not (eq-eqb (get_or s i 0) 10 e)))
-
-  pub end_past : length s ≤ i → end_of_line s i ≡ i
-  unfolding end_of_line run
-  end_past h = omega (arith, past (run (λ b. not (eqb b 10))) s i h)

@@ -1,5 +1,5 @@
 -- What the parts of the code work out.
-use Rattle.std.specs.Prelude.{ℕ, suc, ◌<◌, Bool, true, false, ◌≡◌, List, [], length, leb, ℤ, Option, Some, None}
+use Rattle.std.specs.Prelude.{ℕ, suc, ◌<◌, true, ◌≡◌, List, [], length, leb, ℤ, Option, Some, None, Result, Ok, Err}
 use Rattle.std.proofs.lemmas.List.Edits.{sets}
 use Rattle.laws.specs.Choice.{pick}
 use Rattle.contract.specs.Tree.{Block, Function, Event, Contract}
@@ -10,15 +10,16 @@ use Rattle.lines.specs.Lines.{Asked, asked}
 use Rattle.state.specs.declared.State.{State}
 use Rattle.state.specs.States.{fresh_at, with_state, state_ok}
 use Rattle.statements.specs.declared.Work.{Work}
-use Rattle.statements.specs.Running.{memory_in, ran}
-use Rattle.outcomes.specs.declared.Rule.TheVariants.{EventMatch}
-use Rattle.outcomes.specs.Outcomes.{answered}
+use Rattle.statements.specs.declared.Label.{Label}
+use Rattle.statements.specs.Running.{memory_in, ran, labels_from}
+use Rattle.outcomes.specs.declared.Rule.TheVariants.{Call, EventMatch}
+use Rattle.outcomes.specs.Outcomes.{answered, refused}
 use Rattle.holdings.specs.Holdings.{reached}
 use Rattle.tokens.specs.Tokens.{between}
 use Rattle.machine.specs.Steps.{firing, accepted, begun, unless_refused, schedule, with_scheduled, room_needed}
 use Rattle.machine.specs.declared.Handler.{Handler}
 use Rattle.outcomes.specs.declared.Outcome.{Outcome}
-use Rattle.outcomes.specs.declared.Outcome.TheVariants.{Accepted, Failed}
+use Rattle.outcomes.specs.declared.Outcome.TheVariants.{Accepted}
 use Rattle.outcomes.specs.declared.Outcome.TheVariants as outcome
 use Rattle.outcomes.specs.declared.Stepped.{Stepped}
 use Rattle.machine.specs.declared.Reply.{Reply}
@@ -38,22 +39,27 @@ first_no w room s =
     (pick (state_ok (contract_of w) s) (pick (leb (room_needed (contract_of w)) room) None (Some ask.LabelRoom)) (Some ask.StateRanges))
     (Some ask.TableCheck)
 
--- a step's answer without its labels
-abbrev pub reply_of : Stepped → Reply
-reply_of t = record { outcome = t.outcome; state = t.state; count = t.count }
+-- what came of a step that sends nothing
+abbrev pub silent : Outcome → Reply
+silent o = record { outcome = o; count = 0 }
+
+-- what came of a call
+abbrev pub reply_of : Result ℕ Question → Reply
+reply_of (Ok n) = record { outcome = Accepted Call; count = n }
+reply_of (Err q) = silent (outcome.Refused q)
+
+-- a step's answer, whose state and labels stand apart
+abbrev pub stepped_in : Reply → State → List ℤ → Stepped
+stepped_in r s words = record { outcome = r.outcome; state = s; labels = labels_from words; count = r.count }
+
+-- how a call ends in a state, after its body has sent so many labels
+abbrev pub ended_call : Result Unit Question → State → List Label → ℕ → Stepped
+ended_call (Ok x) s labels n = record { outcome = Accepted Call; state = s; labels = labels; count = n }
+ended_call (Err q) s labels n = refused s q
 
 -- a call by its names and arguments
 abbrev pub called_by : Contract → State → List ℕ → List ℕ → List ℤ → List ℤ → Stepped
 called_by c s caller function values assets = called c s (record { caller = caller; function = function; values = values; assets = assets })
-
-abbrev pub is_accepted : Outcome → Bool
-is_accepted (Accepted r) = true
-is_accepted (Failed n) = false
-is_accepted (outcome.Refused n) = false
-
--- the question that refuses a jump of an agreed state, by whether an event is due and whether the jump's time is before the clock
-abbrev pub jump_no : Bool → Bool → Option Question
-jump_no due past = pick due (Some ask.NothingDue) (pick past (Some ask.TimeNotPast) None)
 
 -- what a line does, by what it asks
 unfoldable pub taken_by : Contract → State → List ℕ → Asked → Stepped

@@ -1,7 +1,7 @@
 // The five steps of the machine. Each answers with the state, what came of it, and the labels sent.
 #![tactic(auto)]
 
-ghost use Rattle.std.specs.Prelude.{◌≡◌, true, [], ◌+◌, ◌*◌, ◌/◌, ◌≤◌, ◌<◌, length, pos, nat_abs, None, Some};
+ghost use Rattle.std.specs.Prelude.{ℕ, List, ◌≡◌, true, [], ◌+◌, ◌*◌, ◌/◌, ◌≤◌, ◌<◌, length, pos, nat_abs, None, Some};
 ghost use Rattle.std.proofs.lemmas.List.Edits.{sets};
 ghost use Rattle.std.specs.Int.Signed.{le_z};
 ghost use Rattle.contract.specs.Table.{word_at};
@@ -11,6 +11,7 @@ ghost use Rattle.contract.specs.Check.{passes};
 ghost use Rattle.evaluation.specs.Memory.{lent};
 ghost use Rattle.evaluation.specs.Meaning.{value_of};
 ghost use Rattle.state.specs.States.{live, event_of};
+ghost use Rattle.statements.specs.declared.Label.{Label};
 ghost use Rattle.statements.specs.Running.{ran, labels_from, work_from};
 ghost use Rattle.outcomes.specs.Outcomes.{no_labels, answered, refused};
 ghost use Rattle.holdings.specs.Holdings.{amounts};
@@ -19,7 +20,7 @@ ghost use Rattle.results.specs.Coded.{coded_all, integers_of};
 ghost use Rattle.step_reports.specs.Reports.{room_in};
 ghost use Rattle.machine.specs.Sessions.{played, reports_of};
 ghost use Rattle.agreements.specs.Agreement.{parts_in, agreed_on};
-ghost use Rattle.machine.specs.Private.{first_no, reply_of, is_accepted, jump_no, naming, in_state, arguments, FoundIn, HandlerOf, ran_on, handled_by, concluded};
+ghost use Rattle.machine.specs.Private.{first_no, silent, reply_of, stepped_in, ended_call, naming, in_state, arguments, FoundIn, HandlerOf, ran_on, handled_by, concluded};
 
 use contract::{Contract, Event, Function};
 use evaluation::{Holdings, Memory};
@@ -27,7 +28,7 @@ use numbers::Value;
 use outcomes::{Outcome, Rule, Stepped};
 use questions::Question;
 use state::{Pending, State};
-use statements::Label;
+use statements::{Label, Runner};
 
 mod turns;
 
@@ -41,11 +42,10 @@ pub struct Played {
     pub many: usize,
 }
 
-// A step's answer without its labels, which stand in a lent array of words.
+// What came of a step, and how many labels it sent; they stand in a lent array of words.
 #[derive(Clone, Copy)]
 struct Reply {
     outcome: Outcome,
-    state: State,
     count: usize,
 }
 
@@ -58,7 +58,8 @@ enum Next {
 }
 
 // Where a handler's block stands, and the state after it.
-// Kept: a rule of the project: reading the table is total, so an event that is not there reads as zeros.
+// Kept: (a) `handler_of` is total, as the definition is: an event that is not there has an empty block, and state 0 after it. No step gets
+// there, since question 4 refuses a state with such an event.
 #[derive(Clone, Copy)]
 struct Handler {
     from: usize,
@@ -66,9 +67,14 @@ struct Handler {
     last: usize,
 }
 
+// A table that passes.
+#[derive(Clone, Copy)]
+struct Whole<'a> {
+    table: &'a [u64],
+    ghost whole: { passes table.now ≡ true },
+}
+
 // Function n of a table that passes, which is called, and its row.
-// Kept: (b) the state goes by value beside it, so that four methods ask for its pending events to be in range: with a reference to it in
-// here (callgrind) a session of refused calls takes 43,263,983 instructions for 39,353,453, and a mixed one 151,208,678 for 145,910,761.
 #[derive(Clone, Copy)]
 struct Called<'a> {
     table: &'a [u64],
@@ -79,7 +85,7 @@ struct Called<'a> {
     ghost inside: { n < word_at table.now 6 },
 }
 
-// ---- Labels in words.
+// ---- Answers.
 
 // No labels.
 fn clear(labels: &mut [i64; Label::ROOM])
@@ -88,136 +94,104 @@ fn clear(labels: &mut [i64; Label::ROOM])
     *labels = [0i64; Label::ROOM];
 }
 
-// An answer with its labels.
-fn with_labels(r: Reply, labels: &[i64; Label::ROOM]) -> Stepped
-    ensures { result ≡ record { outcome = r.outcome; state = r.state; labels = labels_from labels.now; count = r.count } }
+// What came of a call, by how many labels it sent.
+fn call_reply(r: Result<usize, Question>) -> Reply
+    ensures { result ≡ reply_of r }
+{
+    match r {
+        Ok(count) => Reply {
+            outcome: Outcome::Accepted(Rule::Call),
+            count,
+        },
+        Err(question) => silent(Outcome::Refused(question)),
+    }
+}
+
+// What came of a step that sends nothing.
+fn silent(outcome: Outcome) -> Reply
+    ensures { result ≡ silent outcome }
+{
+    Reply { outcome, count: 0 }
+}
+
+// An answer with its state and its labels.
+fn with_labels(r: Reply, s: State, labels: &[i64; Label::ROOM]) -> Stepped
+    ensures { result ≡ stepped_in r s labels.now }
 {
     Stepped {
         outcome: r.outcome,
-        state: r.state,
-        labels: outcomes::labels_of(*labels),
+        state: s,
+        labels: outcomes::labels_of(labels),
         count: r.count,
     }
-}
-
-// An answer that sends nothing.
-fn without_labels(outcome: Outcome, s: State) -> Reply
-    ensures { result ≡ reply_of (answered outcome s) }
-{
-    Reply {
-        outcome,
-        state: s,
-        count: 0,
-    }
-}
-
-// A refused step hands back the state it was given.
-fn turn_down(s: State, q: Question) -> Reply
-    ensures { result ≡ reply_of (refused s q) }
-{
-    without_labels(Outcome::Refused(q), s)
-}
-
-fn is_accepted(outcome: Outcome) -> bool
-    ensures { result ≡ is_accepted outcome }
-{
-    matches!(outcome, Outcome::Accepted(_))
 }
 
 // ---- Tick.
 
 // A tick on a contract's state.
-fn tick_on(table: &[u64], s: State) -> Reply
-    ensures { result ≡ reply_of (ticked (contract_of table.now) s) }
+// Kept: (d) this, `jump_on` and `call_on` begin with the same two questions, each as its definition says them, with a third of its own after them:
+// one function for both would hand out a question, to be turned into an `Outcome` in two and into an `Err` in the third, and its contract would need a
+// definition of its own.
+fn tick_on(table: &[u64], s: &mut State) -> Outcome
+    ensures { answered result s.new ≡ ticked (contract_of table.now) s.old }
 {
     if !s.agreed {
-        return turn_down(s, Question::Agreed);
+        return Outcome::Refused(Question::Agreed);
     }
-    let due = state::first_due(table, s);
-    let None = due else {
-        return turn_down(s, Question::NothingDue);
-    };
+    if state::first_due(table, s).is_some() {
+        return Outcome::Refused(Question::NothingDue);
+    }
     let clock = s.clock;
     if State::TOP <= clock {
-        return turn_down(s, Question::ClockBelowTop);
+        return Outcome::Refused(Question::ClockBelowTop);
     }
-    let next = state::pass(s, clock + 1);
-    without_labels(Outcome::Accepted(Rule::Tick), next)
+    state::pass(s, clock + 1);
+    Outcome::Accepted(Rule::Tick)
 }
 
 // ---- Jump.
 
-// The question that refuses a jump of an agreed state.
-fn jump_no(due: bool, past: bool) -> Option<Question>
-    ensures { result ≡ jump_no due past }
-{
-    let first = due;
-    if first {
-        return Some(Question::NothingDue);
-    }
-    let second = past;
-    if second {
-        return Some(Question::TimeNotPast);
-    }
-    None
-}
-
 // A jump on a contract's state: its cost goes by the pending events, however far it goes.
-fn jump_on(table: &[u64], s: State, to: i64) -> Reply
-    ensures { result ≡ reply_of (jumped (contract_of table.now) s to) }
+fn jump_on(table: &[u64], s: &mut State, to: i64) -> Outcome
+    ensures { answered result s.new ≡ jumped (contract_of table.now) s.old to }
 {
     if !s.agreed {
-        return turn_down(s, Question::Agreed);
+        return Outcome::Refused(Question::Agreed);
     }
-    let due = state::first_due(table, s);
-    if let Some(q) = jump_no(due.is_some(), !not_before(s.clock, to)) {
-        return turn_down(s, q);
+    let due = state::first_due(table, s).is_some();
+    if due {
+        return Outcome::Refused(Question::NothingDue);
+    }
+    if !not_before(s.clock, to) {
+        return Outcome::Refused(Question::TimeNotPast);
     }
     let stop = state::next_stop(table, s, numbers::magnitude(to));
-    let next = state::pass(s, stop);
-    without_labels(Outcome::Accepted(Rule::Tick), next)
+    state::pass(s, stop);
+    Outcome::Accepted(Rule::Tick)
 }
 
 // ---- Firing.
 
-// Event j of those from `first` on. A row past the table's end holds zeros.
+// Event j of those from `first` on. A row past the table's end holds zeros, and no table is so long that the greatest place is in it.
+// Kept: (d) `state::event_row` looks for a pending event, which has its time; this is asked for the guard that gives the time.
 fn event_row(table: &[u64], first: usize, j: usize) -> Event
     ensures { result ≡ event_row_of table.now (first + j) }
 {
-    let none = Event {
-        state: 0,
-        last: 0,
-        node: 0,
-    };
-    if table.len() <= first {
-        return none;
-    }
-    if table.len() <= j {
-        return none;
-    }
-    contract::event_at(table, first + j)
+    contract::event_at(table, first.saturating_add(j))
 }
 
 // The handler of a pending event; of none where the contract has no such event.
 fn handler_of(table: &[u64], p: Pending) -> Handler
     ensures { HandlerOf table.now (event_of (contract_of table.now) p) result }
 {
-    let function = p.function as usize;
-    let event = p.event as usize;
-    let none = Handler {
-        from: 0,
-        end: 0,
-        last: 0,
+    let found = state::event_row(table, p);
+    let Some(e) = found else {
+        return Handler {
+            from: 0,
+            end: 0,
+            last: 0,
+        };
     };
-    let c = contract::head(table);
-    if c.functions <= function {
-        return none;
-    }
-    let row = contract::function_at(table, function);
-    if row.events <= event {
-        return none;
-    }
-    let e = event_row(table, row.event, event);
     let node = contract::node_at(table, e.node);
     Handler {
         from: e.node.saturating_sub(node.argument as usize),
@@ -226,118 +200,111 @@ fn handler_of(table: &[u64], p: Pending) -> Handler
     }
 }
 
-// A handler runs with no value parameters and no asset parameters; `left` is the state without its event.
-// Kept: (d) that the lent labels are blank is no fact of the list that a struct around it could hold, but of the moment before a step: the
-// step then fills the same list.
-fn run_handler(
-    table: &[u64],
-    s: State,
-    left: State,
-    h: Handler,
-    labels: &mut [i64; Label::ROOM],
-) -> Reply
+// A handler runs with no value parameters and no asset parameters, on the state without its event.
+// Kept: (d) that the lent labels are blank holds at the start of a step alone: a struct that holds the list with this fact would be made anew
+// at each turn and taken apart here, where the runner fills the list, and what the list holds after would be a clause as it is now.
+// `perform` too makes a runner and then a memory of the same copies, which the last step reads again; but the runner's holdings are lent to it, and
+// what comes last is `finish`, which may refuse. One function would lend four copies to a closure, and say in a clause what that does.
+fn run_handler(table: &[u64], s: &mut State, h: Handler, labels: &mut [i64; Label::ROOM]) -> Reply
     requires { labels_from labels.old ≡ no_labels }
-    ensures value { result ≡ reply_of (handled_by left h.last (ran_on s (block_between table.now h.from h.end))) }
-    ensures labels_after { labels_from labels.new ≡ (handled_by left h.last (ran_on s (block_between table.now h.from h.end))).labels }
+    ensures { stepped_in result s.new labels.new ≡ handled_by s.old h.last (ran_on s.old (block_between table.now h.from h.end)) }
 {
     let none = [0i64; 0];
     let mut kinds = s.kinds;
     let mut numbers = s.numbers;
     let mut texts = s.texts;
-    let held = s.assets;
-    let mut holdings = holdings::holdings_of(held, &none);
-    let ran = statements::run(
+    let mut holdings = holdings::holdings_of(&s.assets, &none);
+    let mut runner = Runner {
         table,
-        &mut kinds,
-        &mut numbers,
-        &mut texts,
-        &mut holdings,
-        labels,
-        0,
-        &none,
-        s.clock,
-        h.from,
-        h.end,
-    );
-    match ran {
-        Ok(count) => Reply {
-            outcome: Outcome::Accepted(Rule::EventMatch),
-            state: holdings::reach(left, &kinds, &numbers, &texts, &holdings, h.last),
-            count,
-        },
-        Err(halt) => {
-            clear(labels);
-            without_labels(Outcome::Failed(halt.question), left)
-        }
+        kinds: &mut kinds,
+        numbers: &mut numbers,
+        texts: &mut texts,
+        holdings: &mut holdings,
+        labels: &mut *labels,
+        count: 0,
+        values: &none,
+        clock: s.clock,
+    };
+    let ran = runner.run(h.from, h.end);
+    let count = runner.count;
+    if let Err(question) = ran {
+        clear(labels);
+        return silent(Outcome::Failed(question));
+    }
+    let memory = Memory {
+        kinds: &kinds,
+        numbers: &numbers,
+        texts: &texts,
+        holdings: &holdings,
+        values: &none,
+        clock: s.clock,
+    };
+    holdings::reach(s, &memory, h.last);
+    Reply {
+        outcome: Outcome::Accepted(Rule::EventMatch),
+        count,
     }
 }
 
 // The event at place k is fired.
-fn handle(table: &[u64], s: State, k: usize, labels: &mut [i64; Label::ROOM]) -> Reply
-    requires k_in_bounds { k < length (live s) }
-    requires labels_value { labels_from labels.old ≡ no_labels }
-    ensures value { result ≡ reply_of (fire_by_due (contract_of table.now) s (Some k)) }
-    ensures labels_after { labels_from labels.new ≡ (fire_by_due (contract_of table.now) s (Some k)).labels }
+fn handle(table: &[u64], s: &mut State, k: usize, labels: &mut [i64; Label::ROOM]) -> Reply
+    requires k_in_bounds { k < length (live s.old) }
+    requires no_labels { labels_from labels.old ≡ no_labels }
+    ensures { stepped_in result s.new labels.new ≡ fire_by_due (contract_of table.now) s.old (Some k) }
 {
-    let h = handler_of(table, s.events[k]);
-    let left = state::remove(s, k);
-    run_handler(table, s, left, h, labels)
+    let p = s.live()[k];
+    let h = handler_of(table, p);
+    state::remove(s, k);
+    run_handler(table, s, h, labels)
 }
 
 // A firing on a contract's state.
-fn fire_on(table: &[u64], s: State, labels: &mut [i64; Label::ROOM]) -> Reply
+fn fire_on(table: &[u64], s: &mut State, labels: &mut [i64; Label::ROOM]) -> Reply
     requires { labels_from labels.old ≡ no_labels }
-    ensures value { result ≡ reply_of (fired (contract_of table.now) s) }
-    ensures labels_after { labels_from labels.new ≡ (fired (contract_of table.now) s).labels }
+    ensures { stepped_in result s.new labels.new ≡ fired (contract_of table.now) s.old }
 {
     if !s.agreed {
-        return turn_down(s, Question::Agreed);
+        return silent(Outcome::Refused(Question::Agreed));
     }
     let due = state::first_due(table, s);
     let Some(k) = due else {
-        return turn_down(s, Question::SomethingDue);
+        return silent(Outcome::Refused(Question::SomethingDue));
     };
     handle(table, s, k, labels)
 }
 
 // ---- Call: the function that is called.
 
-// Whether function i is called by this name, by this party, in this state.
-fn answers_to(table: &[u64], i: usize, state: usize, caller: &[u8], function: &[u8]) -> bool
-    requires { (passes table.now ≡ true) × (i < word_at table.now 6) }
-    ensures { result ≡ answers_to (contract_of table.now) (in_state state) (naming caller.now function.now) (function_at table.now i) }
-{
-    let row = contract::function_at(table, i);
-    if row.state != state {
-        return false;
+impl Whole<'_> {
+    // Whether function i is called by this name, by this party, in this state.
+    // Kept: (d) here, in `find_function` and in `call_on` caller and function go side by side as the public `call` has them: a struct of both would be
+    // made twice, there and in `take_call`, to be taken apart here.
+    fn answers_to(&self, i: usize, state: usize, caller: &[u8], function: &[u8]) -> bool
+        requires { i < word_at self.now.table.now 6 }
+        ensures { result ≡ answers_to (contract_of self.now.table.now) (in_state state) (naming caller.now function.now) (function_at self.now.table.now i) }
+    {
+        let table = self.table;
+        let row = contract::function_at(table, i);
+        row.state == state
+            && table_names::same_name(
+                table,
+                contract::PARTIES + row.party * contract::NAME_WORDS,
+                caller,
+            )
+            && table_names::same_name(
+                table,
+                contract::FUNCTIONS + i * Function::WORDS + Function::NAME,
+                function,
+            )
     }
-    if table_names::same_name(
-        table,
-        contract::PARTIES + row.party * contract::NAME_WORDS,
-        caller,
-    ) {
-        return table_names::same_name(
-            table,
-            contract::FUNCTIONS + i * Function::WORDS + Function::NAME,
-            function,
-        );
-    }
-    false
-}
 
-// The first function that is called.
-fn find_function(table: &[u64], state: usize, caller: &[u8], function: &[u8]) -> Option<usize>
-    requires { passes table.now ≡ true }
-    ensures { FoundIn table.now state (naming caller.now function.now) result }
-{
-    let c = contract::head(table);
-    let count = c.functions;
-    for i in 0..count {
-        if answers_to(table, i, state, caller, function) {
-            return Some(i);
-        }
+    // The first function that is called.
+    fn find_function(&self, state: usize, caller: &[u8], function: &[u8]) -> Option<usize>
+        ensures { FoundIn self.now.table.now state (naming caller.now function.now) result }
+    {
+        let count = contract::head(self.table).functions;
+        (0..count).find(|i| self.answers_to(*i, state, caller, function))
     }
-    None
 }
 
 // ---- Call: its arguments, its body, its events.
@@ -391,201 +358,181 @@ fn pending(n: usize, j: usize, z: i64) -> Pending
 
 impl Called<'_> {
     // Its events are scheduled, and the call ends.
-    // Kept: (b) that the state's pending events are in range: as `Called` says.
-    fn conclude(&self, s: State, memory: &Memory, count: usize) -> Reply
-        requires { s.pending ≤ 64 }
-        ensures { result ≡ reply_of (concluded s self.now.n (function_at self.now.table.now self.now.n) memory.now.values.now (work_from memory.now.kinds.now memory.now.numbers.now memory.now.texts.now memory.now.holdings.now [] count None)) }
+    fn conclude(&self, s: &mut State, memory: &Memory) -> Result<(), Question>
+        ensures { (n : ℕ) → (ls : List Label) → ended_call result s.new ls n ≡ concluded s.old self.now.n (function_at self.now.table.now self.now.n) memory.now.values.now (work_from memory.now.kinds.now memory.now.numbers.now memory.now.texts.now memory.now.holdings.now ls n None) }
     {
         let table = self.table;
         let row = self.row;
         let clock = s.clock;
+        // The caller's memory has this clock too; so no clause has to say it.
         let memory = Memory { clock, ..*memory };
-        // Nothing leaves the pending events, and the slots after them become blank.
-        let mut next = state::remove(s, s.pending);
+        // `remove` past the last pending event takes none away, and makes the slots after them blank, as the definition has them.
+        let mut next = *s;
+        state::remove(&mut next, s.pending);
+        let room = State::PENDING - next.pending;
         let mut joined: usize = 0;
         for j in 0..row.events {
             let answer = guard(table, &memory, row.event, j);
+            // Kept: (a) document 01 opens an evaluation answer by let .. else.
             let Ok(value) = answer else {
-                return turn_down(s, answer.unwrap_err());
+                return Err(answer.unwrap_err());
             };
             let Value::Integer(z) = value else {
-                return turn_down(s, Question::OperandKind);
+                return Err(Question::OperandKind);
             };
             if not_before(clock, z) {
-                next = state::join(next, pending(self.n, j, z));
+                state::join(&mut next, pending(self.n, j, z));
                 joined += 1;
             }
         }
-        let full = State::PENDING - s.pending < joined;
+        let full = room < joined;
         if full {
-            return turn_down(s, Question::PendingRoom);
+            return Err(Question::PendingRoom);
         }
-        let after = holdings::reach(
-            next,
-            memory.kinds,
-            memory.numbers,
-            memory.texts,
-            memory.holdings,
-            row.last,
-        );
-        Reply {
-            outcome: Outcome::Accepted(Rule::Call),
-            state: after,
-            count,
-        }
+        holdings::reach(&mut next, &memory, row.last);
+        *s = next;
+        Ok(())
     }
 
     // The body has run, and no question refused.
-    fn finish(&self, s: State, memory: &Memory, count: usize) -> Reply
-        requires { s.pending ≤ 64 }
-        ensures { result ≡ reply_of (finished s self.now.n (function_at self.now.table.now self.now.n) memory.now.values.now (work_from memory.now.kinds.now memory.now.numbers.now memory.now.texts.now memory.now.holdings.now [] count None)) }
+    fn finish(&self, s: &mut State, memory: &Memory) -> Result<(), Question>
+        ensures { (n : ℕ) → (ls : List Label) → ended_call result s.new ls n ≡ finished s.old self.now.n (function_at self.now.table.now self.now.n) memory.now.values.now (work_from memory.now.kinds.now memory.now.numbers.now memory.now.texts.now memory.now.holdings.now ls n None) }
     {
-        if holdings::parameters_empty(*memory.holdings) {
-            self.conclude(s, memory, count)
+        if holdings::parameters_empty(memory.holdings) {
+            self.conclude(s, memory)
         } else {
-            turn_down(s, Question::ParametersEmpty)
+            Err(Question::ParametersEmpty)
         }
     }
 
     // Its body runs, and the call ends.
     fn perform(
         &self,
-        s: State,
-        holdings: [u64; Holdings::MOST],
+        s: &mut State,
+        holdings: &mut [u64; Holdings::MOST],
         values: &[i64],
         labels: &mut [i64; Label::ROOM],
-    ) -> Reply
-        requires room { s.pending ≤ 64 }
-        requires labels_value { labels_from labels.old ≡ no_labels }
-        ensures value { result ≡ reply_of (finished s self.now.n (function_at self.now.table.now self.now.n) values.now (ran values.now s.clock (work_from s.kinds s.numbers s.texts holdings no_labels 0 None) (function_at self.now.table.now self.now.n).body)) }
-        ensures labels_after { labels_from labels.new ≡ (finished s self.now.n (function_at self.now.table.now self.now.n) values.now (ran values.now s.clock (work_from s.kinds s.numbers s.texts holdings no_labels 0 None) (function_at self.now.table.now self.now.n).body)).labels }
+    ) -> Result<usize, Question>
+        requires { labels_from labels.old ≡ no_labels }
+        ensures { stepped_in (reply_of result) s.new labels.new ≡ finished s.old self.now.n (function_at self.now.table.now self.now.n) values.now (ran values.now s.old.clock (work_from s.old.kinds s.old.numbers s.old.texts holdings.old no_labels 0 None) (function_at self.now.table.now self.now.n).body) }
     {
-        let table = self.table;
         let row = self.row;
         let mut kinds = s.kinds;
         let mut numbers = s.numbers;
         let mut texts = s.texts;
-        let mut held = holdings;
         let from = row.first + row.precondition;
-        let ran = statements::run(
-            table,
-            &mut kinds,
-            &mut numbers,
-            &mut texts,
-            &mut held,
-            labels,
-            0,
+        let mut runner = Runner {
+            table: self.table,
+            kinds: &mut kinds,
+            numbers: &mut numbers,
+            texts: &mut texts,
+            holdings: &mut *holdings,
+            labels: &mut *labels,
+            count: 0,
             values,
-            s.clock,
-            from,
-            from + row.body,
-        );
-        let Ok(count) = ran else {
-            clear(labels);
-            return turn_down(s, ran.unwrap_err().question);
+            clock: s.clock,
         };
+        let ran = runner.run(from, from + row.body);
+        let count = runner.count;
+        if let Err(question) = ran {
+            clear(labels);
+            return Err(question);
+        }
         let memory = Memory {
             kinds: &kinds,
             numbers: &numbers,
             texts: &texts,
-            holdings: &held,
+            holdings: &*holdings,
             values,
             clock: s.clock,
         };
-        let r = self.finish(s, &memory, count);
-        if is_accepted(r.outcome) {
-            return r;
+        if let Err(question) = self.finish(s, &memory) {
+            clear(labels);
+            return Err(question);
         }
-        clear(labels);
-        r
+        Ok(count)
     }
 
     // It is called with these arguments.
     fn invoke(
         &self,
-        s: State,
+        s: &mut State,
         values: &[i64],
         assets: &[i64],
         labels: &mut [i64; Label::ROOM],
-    ) -> Reply
-        requires room { s.pending ≤ 64 }
-        requires labels_value { labels_from labels.old ≡ no_labels }
-        ensures value { result ≡ reply_of (invoked s (arguments values.now assets.now) self.now.n (function_at self.now.table.now self.now.n)) }
-        ensures labels_after { labels_from labels.new ≡ (invoked s (arguments values.now assets.now) self.now.n (function_at self.now.table.now self.now.n)).labels }
+    ) -> Result<usize, Question>
+        requires { labels_from labels.old ≡ no_labels }
+        ensures { stepped_in (reply_of result) s.new labels.new ≡ invoked s.old (arguments values.now assets.now) self.now.n (function_at self.now.table.now self.now.n) }
     {
-        let table = self.table;
         let row = self.row;
         if values.len() != row.values {
-            return turn_down(s, Question::ArgumentCount);
+            return Err(Question::ArgumentCount);
         }
         if assets.len() != row.parameters {
-            return turn_down(s, Question::ArgumentCount);
+            return Err(Question::ArgumentCount);
         }
         if !holdings::none_negative(assets) {
-            return turn_down(s, Question::AssetArguments);
+            return Err(Question::AssetArguments);
         }
-        let kinds = s.kinds;
-        let numbers = s.numbers;
-        let texts = s.texts;
-        let held = s.assets;
-        let holdings = holdings::holdings_of(held, assets);
+        let mut holdings = holdings::holdings_of(&s.assets, assets);
         let memory = Memory {
-            kinds: &kinds,
-            numbers: &numbers,
-            texts: &texts,
+            kinds: &s.kinds,
+            numbers: &s.numbers,
+            texts: &s.texts,
             holdings: &holdings,
             values,
             clock: s.clock,
         };
-        let truth = precondition(table, &memory, row.first, row.precondition);
+        let truth = precondition(self.table, &memory, row.first, row.precondition);
+        // Kept: (a) document 01 opens an evaluation answer by let .. else.
         let Ok(holds) = truth else {
-            return turn_down(s, truth.unwrap_err());
+            return Err(truth.unwrap_err());
         };
         if !holds {
-            return turn_down(s, Question::Precondition);
+            return Err(Question::Precondition);
         }
-        self.perform(s, holdings, values, labels)
+        self.perform(s, &mut holdings, values, labels)
     }
 }
 
-// A call on a contract's state.
-fn call_on(
-    table: &[u64],
-    s: State,
-    caller: &[u8],
-    function: &[u8],
-    values: &[i64],
-    assets: &[i64],
-    labels: &mut [i64; Label::ROOM],
-) -> Reply
-    requires table_value { (passes table.now ≡ true) × (s.pending ≤ 64) }
-    requires labels_value { labels_from labels.old ≡ no_labels }
-    ensures value { result ≡ reply_of (called (contract_of table.now) s (record { caller = caller.now; function = function.now; values = values.now; assets = assets.now })) }
-    ensures labels_after { labels_from labels.new ≡ (called (contract_of table.now) s (record { caller = caller.now; function = function.now; values = values.now; assets = assets.now })).labels }
-{
-    if !s.agreed {
-        return turn_down(s, Question::Agreed);
+impl Whole<'_> {
+    // A call on a contract's state.
+    fn call_on(
+        &self,
+        s: &mut State,
+        caller: &[u8],
+        function: &[u8],
+        values: &[i64],
+        assets: &[i64],
+        labels: &mut [i64; Label::ROOM],
+    ) -> Result<usize, Question>
+        requires { labels_from labels.old ≡ no_labels }
+        ensures { stepped_in (reply_of result) s.new labels.new ≡ called (contract_of self.now.table.now) s.old (record { caller = caller.now; function = function.now; values = values.now; assets = assets.now }) }
+    {
+        let table = self.table;
+        if !s.agreed {
+            return Err(Question::Agreed);
+        }
+        if state::first_due(table, s).is_some() {
+            return Err(Question::NothingDue);
+        }
+        let found = self.find_function(s.state, caller, function);
+        let Some(n) = found else {
+            return Err(Question::FunctionKnown);
+        };
+        let row = contract::function_at(table, n);
+        let called = Called { table, n, row };
+        called.invoke(s, values, assets, labels)
     }
-    let due = state::first_due(table, s);
-    let None = due else {
-        return turn_down(s, Question::NothingDue);
-    };
-    let found = find_function(table, s.state, caller, function);
-    let Some(n) = found else {
-        return turn_down(s, Question::FunctionKnown);
-    };
-    let row = contract::function_at(table, n);
-    let called = Called { table, n, row };
-    called.invoke(s, values, assets, labels)
 }
 
 // ---- The steps.
 
 // The first question of every step that is answered by no.
-// Kept: (a) the public steps take table, state and room each by itself, as document 01 has them; this asks the first questions of
-// each.
-fn first_no(table: &[u64], s: State, room: usize) -> Option<Question>
-    ensures { result ≡ first_no table.now room s }
+// Kept: (d) each public step, here and below, begins with the same three lines, a call of this: one function around the five would take a
+// closure, with a function of the contract beside it in its contract, in place of them.
+fn first_no(table: &[u64], s: &State, room: usize) -> Option<Question>
+    ensures { result ≡ first_no table.now room s.now }
 {
     if !tables::table_passes(table) {
         return Some(Question::TableCheck);
@@ -601,6 +548,8 @@ fn first_no(table: &[u64], s: State, room: usize) -> Option<Question>
 }
 
 // Agreement: the parties' clauses, with the fields' values.
+// Kept: (a) the public steps take table, state and room, a line with its parts, spans and values, or a call's names, values and assets, each
+// by itself, as document 01 has them: a struct of them would ask more of callers.
 pub fn agree(
     table: &[u64],
     s: State,
@@ -612,7 +561,7 @@ pub fn agree(
 ) -> Stepped
     ensures { result ≡ step table.now room s (λ c. agreed_on c s (parts_in line.now (length parts.now / 4) parts.now spans.now values.now)) }
 {
-    if let Some(q) = first_no(table, s, room) {
+    if let Some(q) = first_no(table, &s, room) {
         return outcomes::refuse(s, q);
     }
     agreements::agree_on(table, s, line, parts, spans, values)
@@ -630,46 +579,51 @@ pub fn call(
 ) -> Stepped
     ensures { result ≡ step table.now room s (λ c. called c s (record { caller = caller.now; function = function.now; values = values.now; assets = assets.now })) }
 {
-    if let Some(q) = first_no(table, s, room) {
+    if let Some(q) = first_no(table, &s, room) {
         return outcomes::refuse(s, q);
     }
+    let mut next = s;
     let mut labels = [0i64; Label::ROOM];
-    let r = call_on(table, s, caller, function, values, assets, &mut labels);
-    with_labels(r, &labels)
+    let whole = Whole { table };
+    let r = whole.call_on(&mut next, caller, function, values, assets, &mut labels);
+    with_labels(call_reply(r), next, &labels)
 }
 
 // The first due event is fired.
 pub fn fire(table: &[u64], s: State, room: usize) -> Stepped
     ensures { result ≡ step table.now room s (λ c. fired c s) }
 {
-    if let Some(q) = first_no(table, s, room) {
+    if let Some(q) = first_no(table, &s, room) {
         return outcomes::refuse(s, q);
     }
+    let mut next = s;
     let mut labels = [0i64; Label::ROOM];
-    let r = fire_on(table, s, &mut labels);
-    with_labels(r, &labels)
+    let r = fire_on(table, &mut next, &mut labels);
+    with_labels(r, next, &labels)
 }
 
 // The clock rises by 1.
 pub fn tick(table: &[u64], s: State, room: usize) -> Stepped
     ensures { result ≡ step table.now room s (λ c. ticked c s) }
 {
-    if let Some(q) = first_no(table, s, room) {
+    if let Some(q) = first_no(table, &s, room) {
         return outcomes::refuse(s, q);
     }
-    let r = tick_on(table, s);
-    outcomes::answer(r.outcome, r.state)
+    let mut next = s;
+    let outcome = tick_on(table, &mut next);
+    outcomes::answer(outcome, next)
 }
 
 // The clock rises until an event is due, and to `to` at most.
 pub fn jump(table: &[u64], s: State, room: usize, to: i64) -> Stepped
     ensures { result ≡ step table.now room s (λ c. jumped c s to) }
 {
-    if let Some(q) = first_no(table, s, room) {
+    if let Some(q) = first_no(table, &s, room) {
         return outcomes::refuse(s, q);
     }
-    let r = jump_on(table, s, to);
-    outcomes::answer(r.outcome, r.state)
+    let mut next = s;
+    let outcome = jump_on(table, &mut next, to);
+    outcomes::answer(outcome, next)
 }
 
 // Whenever an event is due it is fired, else the next whole line of these bytes is taken, while there is room for the result lines of any
@@ -689,7 +643,7 @@ pub fn play(
     ensures integers_after { integers.new ≡ sets integers.old 0 (integers_of (reports_of table.now s input.now (room_in (length numbers.old) (length integers.old)))) }
 {
     let room = turns::label_room(numbers, integers);
-    if let Some(q) = first_no(table, s, room) {
+    if let Some(q) = first_no(table, &s, room) {
         return Played {
             question: Some(q),
             state: s,

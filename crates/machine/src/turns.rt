@@ -1,163 +1,142 @@
 // A session: due events are fired, lines are taken, and the result lines of it are handed on as numbers.
-ghost use Rattle.std.specs.Prelude.{◌≡◌, true, ◌+◌, ◌-◌, ◌*◌, ◌≤◌, ◌<◌, ◌^◌, length, take, drop, pos, IfSome};
+ghost use Rattle.std.specs.Prelude.{◌≡◌, true, ◌+◌, ◌-◌, ◌*◌, ◌≤◌, ◌<◌, ◌^◌, length, pos, IfSome, Ok};
 ghost use Rattle.contract.specs.Decode.{contract_of};
 ghost use Rattle.contract.specs.Check.{passes};
 ghost use Rattle.statements.specs.Running.{labels_from};
 ghost use Rattle.lines.specs.Lines.{asked};
-ghost use Rattle.lines.specs.Answers.{padded, line_of, numbers_of};
+ghost use Rattle.lines.specs.Answers.{padded, request_of, numbers_of};
 ghost use Rattle.lines.specs.declared.Request.TheVariants as request;
-ghost use Rattle.outcomes.specs.Outcomes.{no_labels};
-ghost use Rattle.machine.specs.Private.{reply_of, called_by, taken, turn_of, said_of, place_after, EndsWithin, PlayedIs};
+ghost use Rattle.outcomes.specs.Outcomes.{no_labels, answered};
+ghost use Rattle.machine.specs.Private.{stepped_in, taken, turn_of, said_of, place_after, EndsWithin, PlayedIs};
 ghost use Rattle.step_reports.specs.Reports.{room_in};
 ghost use Rattle.machine.specs.Sessions.{heard, end_of_line, turn_at, session};
 
-use crate::{Next, Played, Reply};
-use lines::{Line, Request};
-use outcomes::Stepped;
+use crate::{Next, Played, Reply, Whole};
+use lines::{Call, Line, Request};
+use outcomes::{Outcome, Stepped};
 use questions::Question;
 use state::State;
 use statements::Label;
 
 // ---- A turn.
 
-// A moment of a session: the table, which passes, and the state that was come to.
-#[derive(Clone, Copy)]
-struct Moment<'a> {
-    table: &'a [u64],
-    s: &'a State,
-    ghost whole: { passes table.now ≡ true },
-    ghost room: { s.now.pending ≤ 64 },
-}
-
 // The place of the LF that ends the line from `at` on, or the end.
 fn line_end(input: &[u8], at: usize) -> usize
     ensures { result ≡ end_of_line input.now at }
 {
-    for i in at..input.len() {
-        if input[i] == b'\n' {
-            return i;
-        }
-    }
-    at.max(input.len())
+    let rest = input.get(at..).unwrap_or(&[]);
+    let many = rest.iter().position(|b| *b == b'\n').unwrap_or(rest.len());
+    at + many
 }
 
-impl Moment<'_> {
-    // A call with the first of these numbers as values, and the next ones as assets.
-    fn call_with(
-        &self,
-        caller: &[u8],
-        function: &[u8],
-        all: &[i64],
-        values: usize,
-        assets: usize,
-        labels: &mut [i64; Label::ROOM],
-    ) -> Reply
-        requires numbers_value { values + assets ≤ length all.now }
-        requires labels_value { labels_from labels.old ≡ no_labels }
-        ensures value { result ≡ reply_of (called_by (contract_of self.now.table.now) self.now.s.now caller.now function.now (take values all.now) (take assets (drop values all.now))) }
-        ensures labels_after { labels_from labels.new ≡ (called_by (contract_of self.now.table.now) self.now.s.now caller.now function.now (take values all.now) (take assets (drop values all.now))).labels }
-    {
-        let end = values + assets;
-        crate::call_on(
-            self.table,
-            *self.s,
-            caller,
-            function,
-            &all[..values],
-            &all[values..end],
-            labels,
-        )
+// What is taken up next: a due event, else a line; none if nothing is due and no line is whole.
+fn next(table: &[u64], s: &State, input: &[u8], at: usize) -> Option<Next>
+    ensures turn { turn_at (contract_of table.now) input.now s.now at ≡ turn_of input.now at result }
+    ensures within { IfSome result (λ n. EndsWithin (length input.now) n) }
+{
+    if state::first_due(table, s).is_some() {
+        return Some(Next::Event);
     }
+    let end = line_end(input, at);
+    if end < input.len() {
+        return Some(Next::Line(end));
+    }
+    None
+}
 
-    // A line that calls, as it was read.
+impl Whole<'_> {
+    // A line that calls, as it was read, with its integers.
     fn take_call(
         &self,
+        s: &mut State,
         line: &[u8],
-        read: Line,
+        call: Call,
         numbers: &[i64; Line::NUMBERS],
         labels: &mut [i64; Label::ROOM],
     ) -> Reply
-        requires labels_value { labels_from labels.old ≡ no_labels }
-        requires read_value { read ≡ line_of (asked line.now) }
-        requires request_value { read.request ≡ request.Call }
-        requires numbers_value { numbers.now ≡ padded (pos 0) 256 (numbers_of (asked line.now)) }
-        ensures value { result ≡ reply_of (taken (contract_of self.now.table.now) self.now.s.now line.now) }
-        ensures labels_after { labels_from labels.new ≡ (taken (contract_of self.now.table.now) self.now.s.now line.now).labels }
+        requires no_labels { labels_from labels.old ≡ no_labels }
+        requires call { Ok (request.Call call) ≡ request_of (asked line.now) }
+        requires numbers { numbers.now ≡ padded (pos 0) 256 (numbers_of (asked line.now)) }
+        ensures { stepped_in result s.new labels.new ≡ taken (contract_of self.now.table.now) s.old line.now }
     {
-        let caller = tokens::between(line, read.party_start, read.party_end);
-        let function = tokens::between(line, read.function_start, read.function_end);
-        self.call_with(caller, function, numbers, read.values, read.assets, labels)
+        let caller = tokens::between(line, call.party.start, call.party.end);
+        let function = tokens::between(line, call.function.start, call.function.end);
+        let end = call.values + call.assets;
+        let values = &numbers[..call.values];
+        let assets = &numbers[call.values..end];
+        crate::call_reply(self.call_on(s, caller, function, values, assets, labels))
     }
 
     // A line that agrees, on a state that is not agreed yet.
-    fn take_agreement(&self, line: &[u8]) -> Reply
-        requires { (line_of (asked line.now)).request ≡ request.Agreement }
-        ensures { result ≡ reply_of (taken (contract_of self.now.table.now) self.now.s.now line.now) }
+    fn take_agreement(&self, s: &mut State, line: &[u8]) -> Outcome
+        requires { Ok request.Agreement ≡ request_of (asked line.now) }
+        ensures { answered result s.new ≡ taken (contract_of self.now.table.now) s.old line.now }
     {
-        let s = self.s;
         if s.agreed {
-            return crate::turn_down(*s, Question::NotAgreed);
+            return Outcome::Refused(Question::NotAgreed);
         }
         let a = lines::agreement_of(line);
-        let heads = a.heads;
-        let spans = a.spans;
-        let values = a.values;
-        let parts = 4 * a.parts;
-        let ends = 2 * a.fields;
-        let fields = a.fields;
         let t = agreements::agree_on(
             self.table,
             *s,
             line,
-            &heads[..parts],
-            &spans[..ends],
-            &values[..fields],
+            &a.heads[..4 * a.parts],
+            &a.spans[..2 * a.fields],
+            &a.values[..a.fields],
         );
-        crate::without_labels(t.outcome, t.state)
+        *s = t.state;
+        t.outcome
+    }
+
+    // What a line asks for, as it was read, with its integers.
+    fn take_request(
+        &self,
+        s: &mut State,
+        line: &[u8],
+        request: Request,
+        numbers: &[i64; Line::NUMBERS],
+        labels: &mut [i64; Label::ROOM],
+    ) -> Reply
+        requires no_labels { labels_from labels.old ≡ no_labels }
+        requires request { Ok request ≡ request_of (asked line.now) }
+        requires numbers { numbers.now ≡ padded (pos 0) 256 (numbers_of (asked line.now)) }
+        ensures { stepped_in result s.new labels.new ≡ taken (contract_of self.now.table.now) s.old line.now }
+    {
+        match request {
+            Request::Tick => crate::silent(crate::tick_on(self.table, s)),
+            Request::Jump(to) => crate::silent(crate::jump_on(self.table, s, to)),
+            Request::Call(call) => self.take_call(s, line, call, numbers, labels),
+            Request::Agreement => crate::silent(self.take_agreement(s, line)),
+        }
     }
 
     // What a line, the bytes before its LF, does.
-    fn take_line(&self, line: &[u8], labels: &mut [i64; Label::ROOM]) -> Reply
+    fn take_line(&self, s: &mut State, line: &[u8], labels: &mut [i64; Label::ROOM]) -> Reply
         requires { labels_from labels.old ≡ no_labels }
-        ensures value { result ≡ reply_of (taken (contract_of self.now.table.now) self.now.s.now line.now) }
-        ensures labels_after { labels_from labels.new ≡ (taken (contract_of self.now.table.now) self.now.s.now line.now).labels }
+        ensures { stepped_in result s.new labels.new ≡ taken (contract_of self.now.table.now) s.old line.now }
     {
         let mut numbers = [0i64; Line::NUMBERS];
-        let read = lines::read(line, &mut numbers);
-        match read.request {
-            Request::Refused(q) => crate::turn_down(*self.s, q),
-            Request::Tick => crate::tick_on(self.table, *self.s),
-            Request::Jump(to) => crate::jump_on(self.table, *self.s, to),
-            Request::Call => self.take_call(line, read, &numbers, labels),
-            Request::Agreement => self.take_agreement(line),
+        match lines::read(line, &mut numbers) {
+            Err(q) => crate::silent(Outcome::Refused(q)),
+            Ok(request) => self.take_request(s, line, request, &numbers, labels),
         }
-    }
-
-    // What is taken up next: a due event, else a line; none if nothing is due and no line is whole.
-    fn next(&self, input: &[u8], at: usize) -> Option<Next>
-        ensures turn { turn_at (contract_of self.now.table.now) input.now self.now.s.now at ≡ turn_of input.now at result }
-        ensures within { IfSome result (λ n. EndsWithin (length input.now) n) }
-    {
-        let due = state::first_due(self.table, *self.s);
-        if let Some(_) = due {
-            return Some(Next::Event);
-        }
-        let end = line_end(input, at);
-        if end < input.len() {
-            return Some(Next::Line(end));
-        }
-        None
     }
 
     // It is fired or taken.
-    fn take_up(&self, input: &[u8], at: usize, next: Next, labels: &mut [i64; Label::ROOM]) -> Reply
+    fn take_up(
+        &self,
+        s: &mut State,
+        input: &[u8],
+        at: usize,
+        next: Next,
+        labels: &mut [i64; Label::ROOM],
+    ) -> Reply
         requires { labels_from labels.old ≡ no_labels }
-        ensures value { result ≡ reply_of (heard (contract_of self.now.table.now) self.now.s.now (said_of input.now at next)) }
-        ensures labels_after { labels_from labels.new ≡ (heard (contract_of self.now.table.now) self.now.s.now (said_of input.now at next)).labels }
+        ensures { stepped_in result s.new labels.new ≡ heard (contract_of self.now.table.now) s.old (said_of input.now at next) }
     {
         match next {
-            Next::Event => crate::fire_on(self.table, *self.s, labels),
-            Next::Line(end) => self.take_line(tokens::between(input, at, end), labels),
+            Next::Event => crate::fire_on(self.table, s, labels),
+            Next::Line(end) => self.take_line(s, tokens::between(input, at, end), labels),
         }
     }
 }
@@ -203,7 +182,7 @@ pub(crate) fn play_on(
     numbers: &mut [u64],
     integers: &mut [i64],
 ) -> Played
-    requires { (passes table.now ≡ true) × (s.pending ≤ 64) }
+    requires { passes table.now ≡ true }
     ensures { PlayedIs (session (contract_of table.now) input.now (room_in (length numbers.old) (length integers.old)) s) result numbers.old integers.old numbers.new integers.new }
 {
     let mut labels = [0i64; Label::ROOM];
@@ -214,19 +193,17 @@ pub(crate) fn play_on(
     // Kept: (d) each turn takes as many of the lent places as its step has reports, so that no range or iterator counts the turns; they go on
     // while there is room for the reports of any step.
     while Stepped::REPORTS <= room - n {
-        let moment = Moment { table, s: &state };
-        let Some(taken) = moment.next(input, at) else {
+        let Some(taken) = next(table, &state, input, at) else {
             break;
         };
-        let r = moment.take_up(input, at, taken, &mut labels);
-        let outcome = r.outcome;
+        let whole = Whole { table };
+        let r = whole.take_up(&mut state, input, at, taken, &mut labels);
         at = place_after(at, taken);
-        state = r.state;
         n = step_reports::report(
             numbers,
             integers,
             n,
-            outcome,
+            r.outcome,
             state.state,
             state.clock,
             &labels,

@@ -19,6 +19,7 @@ pub enum Rule {
 }
 
 // What came of a step: accepted by a rule, a failed firing with its question, or refused with the question.
+// Kept: (d) no Result: three cases, and a failed firing is a step that was taken.
 #[derive(Clone, Copy, PartialEq, Eq)]
 pub enum Outcome {
     Accepted(Rule),
@@ -52,6 +53,7 @@ pub fn blank_labels() -> [Label; Label::MOST]
 }
 
 // An answer without labels.
+// Kept: (d) a function of the crate, as `refuse` is, named as the documents' definitions are: as methods they would read no plainer.
 pub fn answer(outcome: Outcome, s: State) -> Stepped
     ensures { result ≡ answered outcome s }
 {
@@ -70,9 +72,10 @@ pub fn refuse(s: State, q: Question) -> Stepped
     answer(Outcome::Refused(q), s)
 }
 
-// The labels of these words.
-pub fn labels_of(words: [i64; Label::ROOM]) -> [Label; Label::MOST]
-    ensures { result ≡ labels_from words }
+// The labels of these words. A kind and a party's number are whole numbers, put among the integers of one list.
+// Kept: (c) tried by `array::from_fn`; the check found no proof of it. (d) `magnitude` is the definition's word, and needs no proof of a sign.
+pub fn labels_of(words: &[i64; Label::ROOM]) -> [Label; Label::MOST]
+    ensures { result ≡ labels_from words.now }
 {
     let mut out = blank_labels();
     for i in 0..Label::MOST {

@@ -6,7 +6,7 @@ use Prim.Native.Nat.{ℕ, zero, suc, ◌+◌, ◌-◌, ◌<◌, ◌≤◌}
 use native.Mathlib.Numerals.{add-one}
 use native.Mathlib.Omega.{arith}
 use lib.ListN.{length, take, drop, get_or, set, length-append}
-use lib.Seq.{take-suc, take-append_seam, drop-append-add, set-append_seam, append_snoc}
+use lib.Seq.{take-suc, set-append_seam, append_snoc}
 use Rattle.laws.specs.Choice.{pick}
 use Rattle.state.specs.States.{max_pending, blank, with_times}
 use Rattle.laws.specs.Lists.{repeated, keep}

@@ -1,11 +1,14 @@
 -- The state of a contract: fresh, within its ranges (question 4), which pending events are due and which of them comes first, and how time
 -- passes.
-use Rattle.std.specs.Prelude.{ℕ, zero, suc, ◌-◌, ◌≤◌, ◌<◌, Bool, true, false, not, ◌&&◌, List, [], ◌∷◌, ◌++◌, ◌≡◌, length, get_or, take, drop, set, eqb, leb, ltb, ℤ, pos, Option, Some, None}
+use Rattle.std.specs.Prelude.{ℕ, zero, suc, ◌+◌, ◌-◌, ◌≤◌, ◌<◌, Bool, true, false, not, ◌&&◌, List, [], ◌∷◌, ◌++◌, ◌≡◌, length, get_or, take, drop, set, eqb, leb, ltb, ℤ, pos, Option, Some, None}
 use Rattle.laws.specs.Choice.{pick}
 use Rattle.numbers.specs.Numbers.{eq_z}
 use Rattle.contract.specs.Limits.{top, max_assets, max_fields}
 use Rattle.laws.specs.Lists.{all_below}
 use Rattle.contract.specs.Tree.{Word, Contract, Function, Event, none, omitted, broken_expression}
+use Rattle.contract.specs.Table.{word_at}
+use Rattle.contract.specs.Rows.{function_row_of, event_row_of}
+use Rattle.contract.specs.declared.Event.{Event as Row}
 use Rattle.state.specs.declared.State.{State}
 use Rattle.state.specs.declared.Pending.{Pending}
 use Rattle.laws.specs.Lists.{every, repeated, keep}
@@ -44,6 +47,13 @@ no_event = record { guard = broken_expression; state = 0; handler = none; last =
 -- a pending event in the contract's text: an event of one of its functions
 unfoldable pub event_of : Contract → Pending → Event
 event_of c p = get_or (get_or c.functions p.function no_function).events p.event no_event
+
+-- its row in the table, if the contract has it
+unfoldable pub row_of : List ℕ → Pending → Option Row
+row_of w p =
+    pick (ltb p.function (word_at w 6))
+    (pick (ltb p.event (function_row_of w p.function).events) (Some (event_row_of w ((function_row_of w p.function).event + p.event))) None)
+    None
 
 -- the pending events, oldest first
 abbrev pub live : State → List Pending

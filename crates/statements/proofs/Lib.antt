@@ -3,4 +3,3 @@ pub mod Moves
 pub mod Actions
 pub mod Blocks
 pub mod Silent
-pub mod Ended

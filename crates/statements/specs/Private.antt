@@ -1,5 +1,5 @@
 -- What the parts of the code work out: where blocks stand, and what a statement does with a value.
-use Rattle.std.specs.Prelude.{ℕ, ◌≡◌, ◌-◌, Bool, false, List, eqb, leb, ltb, ℤ, pos, negsuc, Option, None, Result, Ok, Err}
+use Rattle.std.specs.Prelude.{ℕ, ◌-◌, Bool, false, List, get_or, eqb, leb, ltb, ℤ, pos, negsuc, Result, Ok, Err}
 use Rattle.laws.specs.Choice.{pick}
 use Rattle.numbers.specs.declared.Value.{Value}
 use Rattle.numbers.specs.declared.Value.TheVariants.{Integer, Text}
@@ -12,8 +12,7 @@ use Rattle.contract.specs.Decode.{holder_at, expression_at, condition_at, value_
 use Rattle.evaluation.specs.Memory.{Memory}
 use Rattle.evaluation.specs.Meaning.{value_of, truth_of}
 use Rattle.statements.specs.declared.Work.{Work}
-use Rattle.statements.specs.declared.Runner.{Runner}
-use Rattle.statements.specs.Running.{memory_in, stored, sent, moved, paid, receiver, place, with_value, with_amount, performed, by_truth, ran, work_in}
+use Rattle.statements.specs.Running.{memory_in, stored, sent, moved, paid, receiver, place, with_value, with_amount, performed, by_truth, ran}
 
 -- where the block before the statement at node k ends
 unfoldable pub end_before : List ℕ → ℕ → ℕ
@@ -28,33 +27,15 @@ action_at w k =
     pick (eqb (kind_at w k) value_move_kind) (value_move_at w k)
     (pick (eqb (kind_at w k) asset_move_kind) (asset_move_at w k) (whole_move_at w k))
 
--- what a runner has reached, with the question that refuses, if one does
-abbrev pub reached : Runner → Option Question → Work
-reached r o = work_in r.kinds.now r.numbers.now r.texts.now r.holdings.now r.labels.now r.count o
-
-abbrev pub work_of : Runner → Work
-work_of r = reached r None
-
--- what its expressions and conditions are worked out in
-abbrev pub memory_of : Runner → Memory
-memory_of r = memory_in r.values.now r.clock (work_of r)
-
--- it has the same table and lists
-pub record SameLists (a b : Runner) : Type 0 where
-  pub table : b.table ≡ a.table
-  pub kinds : b.kinds.ghost_name ≡ a.kinds.ghost_name
-  pub numbers : b.numbers.ghost_name ≡ a.numbers.ghost_name
-  pub texts : b.texts.ghost_name ≡ a.texts.ghost_name
-  pub holdings : b.holdings.ghost_name ≡ a.holdings.ghost_name
-  pub labels : b.labels.ghost_name ≡ a.labels.ghost_name
-  pub values : b.values ≡ a.values
-  pub clock : b.clock ≡ a.clock
-
 -- a value as an amount: an integer that is 0 or more
 abbrev pub amount_in : Value → Result ℕ Question
 amount_in (Text n) = Err ask.OperandKind
 amount_in (Integer (pos n)) = Ok n
 amount_in (Integer (negsuc n)) = Err ask.AmountSign
+
+-- what place i holds once n is taken from it
+abbrev pub left_of : List ℕ → ℕ → ℕ → Result ℕ Question
+left_of hs i n = pick (ltb (get_or hs i 0) n) (Err ask.AmountHeld) (Ok (get_or hs i 0 - n))
 
 -- E -> t at node k, with the answer of E
 unfoldable pub value_given : Work → List ℕ → ℕ → Answer → Work

@@ -9,23 +9,24 @@ ghost use Rattle.contract.specs.Table.{argument_at, size_at};
 ghost use Rattle.contract.specs.Decode.{holder_of, block_between, condition_at};
 ghost use Rattle.evaluation.specs.Memory.{lent, place_of};
 ghost use Rattle.evaluation.specs.Meaning.{truth_of};
-ghost use Rattle.statements.specs.Running.{receiver, place, filled, stored, labelled, sent, moved, paid, performed, ran, work_in, end_of, ended_in};
-ghost use Rattle.statements.specs.Private.{end_before, action_at, amount_in, value_given, amount_given, answer_at, statement_at, branched, performed_at, reached, work_of, memory_of, SameLists};
+ghost use Rattle.statements.specs.Running.{receiver, place, filled, stored, labelled, sent, moved, paid, performed, ran, work_by, work_of, memory_by, SameLists};
+ghost use Rattle.statements.specs.Private.{end_before, action_at, amount_in, left_of, value_given, amount_given, answer_at, statement_at, branched, performed_at};
 
 use contract::{Contract, Node};
-use evaluation::{Holdings, Memory};
+use evaluation::{FieldKind, Holdings, Memory};
 use numbers::Value;
 use questions::Question;
 
 // What a send leaves: kind (1 integer, 2 string, 3 asset), party, and value, a string's being its number.
-#[derive(Clone, Copy)]
+#[derive(Clone, Copy, PartialEq, Eq)]
 pub struct Label {
     pub kind: u64,
     pub party: usize,
     pub value: i64,
 }
 
-// Kept: (a) below the core a label is three words of one lent array, whatever they hold, so that its kind is a number.
+// Kept: (a) document 01 wants an array of labels filled by value, and it is made of the words of one lent array (`outcomes::labels_of`,
+// docs/DECISIONS.md 54). Any three words are a label, so that this fails for none; an enum of kinds would have no variant for most words.
 impl Label {
     pub const INTEGER: u64 = 1;
 
@@ -42,7 +43,7 @@ impl Label {
 }
 
 // A memory that statements work on, with the labels that they have sent and the question that refused, if one did.
-// Kept: (d) no code holds it, definitions alone do, and they say what each array and the count is; `Runner` has the parts by reference.
+// Kept: (a) it is public, and theorems of crates above are said of it. Definitions alone use it: `Runner` has the parts by reference.
 #[derive(Clone, Copy)]
 pub struct Work {
     pub kinds: [u8; Contract::FIELDS],
@@ -55,25 +56,21 @@ pub struct Work {
     pub refusal: Option<Question>,
 }
 
-// What ends a run: the question that refused, and how many labels were sent by then.
-#[derive(Clone, Copy)]
-pub struct Halt {
-    pub question: Question,
-    pub count: usize,
-}
-
 // What runs statements: the table, the lists that they read and write, how many labels they have sent, and what they only read.
+// Where a question refuses, the lists hold what was reached by then: the caller drops them.
+// Kept: (a) a library has no heap: the lists are copies of the state's columns, which are public, and the labels are words of one lent array
+// with room for all (docs/DECISIONS.md 54), so that a count says how many are sent.
 #[derive(Drop)]
-struct Runner<'a> {
-    table: &'a [u64],
-    kinds: &'a mut [u8; Contract::FIELDS],
-    numbers: &'a mut [i64; Contract::FIELDS],
-    texts: &'a mut [u8; Contract::FIELDS],
-    holdings: &'a mut [u64; Holdings::MOST],
-    labels: &'a mut [i64; Label::ROOM],
-    count: usize,
-    values: &'a [i64],
-    clock: u64,
+pub struct Runner<'a> {
+    pub table: &'a [u64],
+    pub kinds: &'a mut [u8; Contract::FIELDS],
+    pub numbers: &'a mut [i64; Contract::FIELDS],
+    pub texts: &'a mut [u8; Contract::FIELDS],
+    pub holdings: &'a mut [u64; Holdings::MOST],
+    pub labels: &'a mut [i64; Label::ROOM],
+    pub count: usize,
+    pub values: &'a [i64],
+    pub clock: u64,
 }
 
 // The number of the party that a node names; past the last one, of no contract that was read.
@@ -103,6 +100,15 @@ fn held_amount(holdings: &[u64; Holdings::MOST], kind: u64, argument: u64) -> u6
     items::get_or(holdings, place_of(kind, argument), 0)
 }
 
+// What place i holds once n is taken from it, unless a question refuses it.
+fn left_of(holdings: &[u64; Holdings::MOST], i: usize, n: u64) -> Result<u64, Question>
+    ensures { result ≡ left_of holdings.now i n }
+{
+    items::get_or(holdings, i, 0)
+        .checked_sub(n)
+        .ok_or(Question::AmountHeld)
+}
+
 // A value as an amount: an integer that is 0 or more.
 fn amount(value: Value) -> Result<u64, Question>
     ensures { result ≡ amount_in value }
@@ -124,7 +130,9 @@ fn size_at(table: &[u64], k: usize) -> usize
     node.size
 }
 
-// The argument of node k. It is read where it is needed, so that other nodes don't pay for it.
+// The argument of node k.
+// Kept: (b) by `node.argument` in `end_before` and `perform`, which have the node, its argument is read for every kind of statement, and a desk
+// takes 5 per cent more instructions for a session of calls that send 64 labels each (two builds without proof of one tree).
 fn argument_at(table: &[u64], k: usize) -> usize
     ensures { result ≡ argument_at table.now k }
 {
@@ -138,21 +146,19 @@ fn end_before(table: &[u64], k: usize) -> usize
     ensures { result ≡ end_before table.now k }
 {
     let node = contract::node_at(table, k);
-    if node.kind == Node::VALUE_MOVE {
-        return k
+    match node.kind {
+        Node::VALUE_MOVE => k
             .saturating_sub(1)
-            .saturating_sub(size_at(table, k.saturating_sub(2)));
-    }
-    if node.kind == Node::ASSET_MOVE {
-        return k
+            .saturating_sub(size_at(table, k.saturating_sub(2))),
+        Node::ASSET_MOVE => k
             .saturating_sub(2)
-            .saturating_sub(size_at(table, k.saturating_sub(3)));
+            .saturating_sub(size_at(table, k.saturating_sub(3))),
+        Node::WHOLE_MOVE => k.saturating_sub(2),
+        _ => {
+            let first = k.saturating_sub(argument_at(table, k));
+            first.saturating_sub(size_at(table, first.saturating_sub(1)))
+        }
     }
-    if node.kind == Node::WHOLE_MOVE {
-        return k.saturating_sub(2);
-    }
-    let first = k.saturating_sub(argument_at(table, k));
-    first.saturating_sub(size_at(table, first.saturating_sub(1)))
 }
 
 // Whether a statement ends at node k.
@@ -196,8 +202,8 @@ impl Runner<'_> {
         ensures same_lists { SameLists self.old self.new }
     {
         match value {
-            Value::Integer(z) => self.fill(x, 1, z, 0),
-            Value::Text(n) => self.fill(x, 2, 0, n),
+            Value::Integer(z) => self.fill(x, FieldKind::INTEGER, z, 0),
+            Value::Text(n) => self.fill(x, FieldKind::STRING, 0, n),
         }
     }
 
@@ -232,14 +238,11 @@ impl Runner<'_> {
     // n goes from place i to place j, unless a question refuses it.
     #[tactic(auto, unfolding(laws::specs::Choice::pick, crate::specs::Running::moved))]
     fn transfer(&mut self, i: usize, j: usize, n: u64) -> Result<(), Question>
-        ensures value { reached self.new (result_err result) ≡ moved (work_of self.old) i j n }
+        ensures value { work_by self.new (result_err result) ≡ moved (work_of self.old) i j n }
         ensures same_lists { SameLists self.old self.new }
     {
         let holdings = &mut *self.holdings;
-        let source = items::get_or(holdings, i, 0);
-        if source < n {
-            return Err(Question::AmountHeld);
-        }
+        let left = left_of(holdings, i, n)?;
         if Holdings::MOST <= j {
             return Err(Question::TableCheck);
         }
@@ -251,7 +254,7 @@ impl Runner<'_> {
         if Contract::TOP < target || Contract::TOP - target < n {
             return Err(Question::SumFits);
         }
-        items::set(holdings, i, source - n);
+        items::set(holdings, i, left);
         holdings[j] = target + n;
         Ok(())
     }
@@ -260,15 +263,12 @@ impl Runner<'_> {
     #[tactic(auto, unfolding(laws::specs::Choice::pick, crate::specs::Running::paid))]
     fn pay(&mut self, i: usize, party: u8, n: u64) -> Result<(), Question>
         requires { n ≤ 9223372036854775807 }
-        ensures value { reached self.new (result_err result) ≡ paid (work_of self.old) i party n }
+        ensures value { work_by self.new (result_err result) ≡ paid (work_of self.old) i party n }
         ensures same_lists { SameLists self.old self.new }
     {
         let holdings = &mut *self.holdings;
-        let held = items::get_or(holdings, i, 0);
-        if held < n {
-            return Err(Question::AmountHeld);
-        }
-        items::set(holdings, i, held - n);
+        let left = left_of(holdings, i, n)?;
+        items::set(holdings, i, left);
         self.add_label(Label::ASSET, party, n as i64);
         Ok(())
     }
@@ -279,7 +279,7 @@ impl Runner<'_> {
 impl Runner<'_> {
     // E -> t at node k, with the answer of E: a party is sent the value, or a field gets it.
     fn give_value(&mut self, k: usize, answer: Result<Value, Question>) -> Result<(), Question>
-        ensures value { reached self.new (result_err result) ≡ value_given (work_of self.old) self.old.table.now k answer }
+        ensures value { work_by self.new (result_err result) ≡ value_given (work_of self.old) self.old.table.now k answer }
         ensures same_lists { SameLists self.old self.new }
     {
         // Kept: (a) document 01 opens an evaluation answer by let .. else.
@@ -297,7 +297,7 @@ impl Runner<'_> {
 
     // A move at node k, with the answer of its amount: it goes where the two nodes before node k say.
     fn give_amount(&mut self, k: usize, answer: Result<Value, Question>) -> Result<(), Question>
-        ensures value { reached self.new (result_err result) ≡ amount_given (work_of self.old) self.old.table.now k answer }
+        ensures value { work_by self.new (result_err result) ≡ amount_given (work_of self.old) self.old.table.now k answer }
         ensures same_lists { SameLists self.old self.new }
     {
         // Kept: (a) document 01 opens an evaluation answer by let .. else.
@@ -316,7 +316,7 @@ impl Runner<'_> {
 
     // What expressions and conditions are worked out in.
     fn memory(&self) -> Memory<'_>
-        ensures { lent result ≡ memory_of self.now }
+        ensures { lent result ≡ memory_by self.now }
     {
         Memory {
             kinds: &*self.kinds,
@@ -331,7 +331,7 @@ impl Runner<'_> {
     // What the statement at node k, of a kind that is no conditional's, hands on: what its expression gives, or all that its source holds.
     #[tactic(auto, unfolding(laws::specs::Choice::pick, crate::specs::Private::answer_at, evaluation::specs::Meaning::value_of))]
     fn answer_of(&self, k: usize, kind: u64) -> Result<Value, Question>
-        ensures { result ≡ answer_at (memory_of self.now) self.now.table.now k kind }
+        ensures { result ≡ answer_at (memory_by self.now) self.now.table.now k kind }
     {
         let table = self.table;
         let memory = self.memory();
@@ -347,7 +347,7 @@ impl Runner<'_> {
 
     // The statement at node k, not a conditional.
     fn act(&mut self, k: usize) -> Result<(), Question>
-        ensures value { reached self.new (result_err result) ≡ performed self.old.values.now self.old.clock (work_of self.old) (action_at self.old.table.now k) }
+        ensures value { work_by self.new (result_err result) ≡ performed self.old.values.now self.old.clock (work_of self.old) (action_at self.old.table.now k) }
         ensures same_lists { SameLists self.old self.new }
     {
         let kind = contract::node_at(self.table, k).kind;
@@ -360,7 +360,7 @@ impl Runner<'_> {
 
     // The condition at node k.
     fn truth(&self, k: usize) -> Result<bool, Question>
-        ensures { result ≡ truth_of (memory_of self.now) (condition_at self.now.table.now k) }
+        ensures { result ≡ truth_of (memory_by self.now) (condition_at self.now.table.now k) }
     {
         let memory = self.memory();
         evaluation::truth(self.table, &memory, k)
@@ -369,7 +369,7 @@ impl Runner<'_> {
     // The conditional at node k whose block starts at node `first`: the block is run where the condition before it holds.
     #[cycle(run)]
     fn branch(&mut self, first: usize, k: usize) -> Result<(), Question>
-        ensures value { reached self.new (result_err result) ≡ branched self.old.values.now self.old.clock (work_of self.old) self.old.table.now first k }
+        ensures value { work_by self.new (result_err result) ≡ branched self.old.values.now self.old.clock (work_of self.old) self.old.table.now first k }
         ensures same_lists { SameLists self.old self.new }
     {
         let answer = self.truth(first.saturating_sub(1));
@@ -378,7 +378,7 @@ impl Runner<'_> {
             return Err(answer.unwrap_err());
         };
         if holds {
-            return self.block(first, k);
+            return self.run(first, k);
         }
         Ok(())
     }
@@ -386,7 +386,7 @@ impl Runner<'_> {
     // The statement at node k.
     #[cycle(run)]
     fn perform(&mut self, k: usize) -> Result<(), Question>
-        ensures value { reached self.new (result_err result) ≡ performed_at self.old.values.now self.old.clock (work_of self.old) self.old.table.now k }
+        ensures value { work_by self.new (result_err result) ≡ performed_at self.old.values.now self.old.clock (work_of self.old) self.old.table.now k }
         ensures same_lists { SameLists self.old self.new }
     {
         let node = contract::node_at(self.table, k);
@@ -399,8 +399,8 @@ impl Runner<'_> {
 
     // The block in the nodes from `from` up to, not including, `end`: the statement at its last node after the block before it.
     #[cycle(run)]
-    fn block(&mut self, from: usize, end: usize) -> Result<(), Question>
-        ensures value { reached self.new (result_err result) ≡ ran self.old.values.now self.old.clock (work_of self.old) (block_between self.old.table.now from end) }
+    pub fn run(&mut self, from: usize, end: usize) -> Result<(), Question>
+        ensures value { work_by self.new (result_err result) ≡ ran self.old.values.now self.old.clock (work_of self.old) (block_between self.old.table.now from end) }
         ensures same_lists { SameLists self.old self.new }
     {
         if end <= from {
@@ -410,49 +410,8 @@ impl Runner<'_> {
         if !is_statement(self.table, k) {
             return Err(Question::TableCheck);
         }
-        let before = self.block(from, end_before(self.table, k));
+        let before = self.run(from, end_before(self.table, k));
         before?;
         self.perform(k)
-    }
-}
-
-// Runs the block in the nodes from `from` up to, not including, `end`.
-// Where a question refuses, the arrays hold what was reached by then: the caller drops them.
-// Never inlined: else a session of calls takes half a percent more instructions.
-#[inline(never)]
-pub fn run(
-    table: &[u64],
-    kinds: &mut [u8; Contract::FIELDS],
-    numbers: &mut [i64; Contract::FIELDS],
-    texts: &mut [u8; Contract::FIELDS],
-    holdings: &mut [u64; Holdings::MOST],
-    labels: &mut [i64; Label::ROOM],
-    count: usize,
-    values: &[i64],
-    clock: u64,
-    from: usize,
-    end: usize,
-) -> Result<usize, Halt>
-    ensures { ended_in kinds.new numbers.new texts.new holdings.new labels.new result
-        ≡ end_of (ran values.now clock
-        (work_in kinds.old numbers.old texts.old holdings.old labels.old count None) (block_between table.now from end)) }
-{
-    let mut runner = Runner {
-        table,
-        kinds,
-        numbers,
-        texts,
-        holdings,
-        labels,
-        count,
-        values,
-        clock,
-    };
-    match runner.block(from, end) {
-        Ok(()) => Ok(runner.count),
-        Err(question) => Err(Halt {
-            question,
-            count: runner.count,
-        }),
     }
 }

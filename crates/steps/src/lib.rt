@@ -39,6 +39,8 @@ fn hand(r: Stepped, labels: &mut [Label]) -> Left
 }
 
 // Agreement: the parties' clauses, with the fields' values.
+// Kept: (a) each public step, here and below, takes what document 01 gives it by itself: a struct of a line with its parts, or of a call's
+// names and arguments, would ask more of callers. (d) Each is a call of the machine and `hand`: a closure around the call is no shorter.
 pub fn agree(
     table: &[u64],
     s: State,

@@ -9,5 +9,5 @@ use Rattle.holdings.proofs.amount_of.Goals as goal
 
 pub returns : goal.returns
 returns c =
-    let f : SFits w64 c.integer_at.result = record { sfits = c.integer_at.type_inv } in
-    c.magnitude.ensures ∙ ap nat_abs (to_z-of_z f ∙ c.integer_at.ensures) ∙ amount_at _ _
+    let f : SFits w64 c.get_or.result = record { sfits = c.get_or.type_inv } in
+    c.magnitude.ensures ∙ ap nat_abs (to_z-of_z f ∙ c.get_or.ensures) ∙ amount_at _ _

@@ -10,9 +10,9 @@ use Rattle.holdings.proofs.parameters_empty.Goals as goal
 
 pub returns : goal.returns
 returns c =
-    let l = take 4 (drop 16 c.args.holdings) in
-    let full : length c.args.holdings ≡ 20 = c.well_formed.0.1.0.1 in
-    let few : length (drop 16 c.args.holdings) ≤ 4 = omega (arith, length-drop 16 c.args.holdings) in
+    let l = take 4 (drop 16 c.args.holdings.now) in
+    let full : length c.args.holdings.now ≡ 20 = c.told-holdings in
+    let few : length (drop 16 c.args.holdings.now) ≤ 4 = omega (arith, length-drop 16 c.args.holdings.now) in
     all_from_yields_List (λ a. eqb a 0) _ _ c.all.result c.all.ensures.ran (YieldsList-from_slice l c.iter.ensures.rest) (λ x b q k. search rules)
     ∙ all_every (λ a. eqb a 0) l
-    ∙ ap (every (λ a. eqb a 0)) (take_all 4 (drop 16 c.args.holdings) few)
+    ∙ ap (every (λ a. eqb a 0)) (take_all 4 (drop 16 c.args.holdings.now) few)

@@ -3,18 +3,13 @@ use mathlib.Core.Path.{sym, ap, ◌∙◌}
 use native.Mathlib.Omega.{arith}
 use Rattle.lines.specs.Lines.{Asked}
 use Rattle.lines.specs.Answers.{agreement_of, parts_of}
-use Rattle.lines.proofs.Got.{given_missed}
-use Rattle.lines.proofs.Forms.{asked_long, agreement_told, no_parts_read}
+use Rattle.lines.proofs.Forms.{asked_long, agreement_told}
 use Rattle.lines.proofs.agreement_of.Goals as goal
 
 pub returns-then-line-gt-BYTES : goal.returns-then-line-gt-BYTES
 returns-then-line-gt-BYTES c =
     c.no_agreement.ensures ∙ sym (ap (λ (a : Asked). agreement_of (parts_of a)) (asked_long c.args.line.now (omega (arith, c.if-line-gt-BYTES.true))))
 
-pub returns-in-Some : goal.returns-in-Some
-returns-in-Some c =
-    agreement_told _ c.if-line-gt-BYTES.false c.in-Some.ensures
-
-pub returns-in-None : goal.returns-in-None
-returns-in-None c =
-    c.no_agreement-in-None.ensures ∙ ap agreement_of (no_parts_read _ c.if-line-gt-BYTES.false (given_missed agreement_of _ c.in-None.ensures))
+pub returns : goal.returns
+returns c =
+    agreement_told _ c.if-line-gt-BYTES.false c.parts.result c.parts.ensures c.unwrap_or_else.ensures

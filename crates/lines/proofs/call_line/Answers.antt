@@ -35,4 +35,4 @@ returns-then-not-ends c =
 
 pub returns : goal.returns
 returns c =
-    call_as _ _ (call_made _ c.requires.few (λ i. record { count = 0; all = c.requires.zeros i }) (names_got _ c.in_ok-names.ensures) (added_got _ _ c.in_ok-i.ensures.value) (added_got _ _ c.in_ok-j.ensures.value) (end_yes _ _ (sym c.ends.ensures ∙ c.if-not-ends.false))) (search rules)
+    call_as _ _ (call_made _ c.requires c.told-numbers (names_got _ c.in_ok-names.ensures) (added_got _ _ c.in_ok-i.ensures.value) (added_got _ _ c.in_ok-j.ensures.value) (end_yes _ _ (sym c.ends.ensures ∙ c.if-not-ends.false))) (search rules)

@@ -1,6 +1,6 @@
 -- `lines::call_names` meets its contract. Assumes nothing.
 use Rattle.lines.specs.Lines.{names}
-use Rattle.lines.specs.Private.{span_in}
+use Rattle.lines.specs.Answers.{span_in}
 use Rattle.lines.proofs.Got.{name_got, given_missed, place_got, place_missed}
 use Rattle.lines.proofs.call_names.Goals as goal
 

@@ -7,7 +7,8 @@ use lib.IntN.{ℤ}
 use native.Mathlib.Omega.{arith}
 use Rattle.words.specs.Words.{spelled}
 use Rattle.lines.specs.Lines.{done, field}
-use Rattle.lines.specs.Private.{read_of, span_in, field_in, field_from}
+use Rattle.lines.specs.Answers.{span_in}
+use Rattle.lines.specs.Private.{read_of, field_in, field_from}
 use Rattle.lines.proofs.Got.{name_got, given_missed, place_got, place_missed, integer_got, read_missed}
 use Rattle.lines.proofs.field_at.Goals as goal
 

@@ -1,5 +1,6 @@
 -- `lines::integer_list` meets its contract. Assumes nothing.
-use mathlib.Core.Path.{refl}
+use mathlib.Core.Path.{ap, ◌∙◌}
+use Rattle.lines.specs.Private.{place_of}
 use native.Mathlib.Omega.{arith}
 use Rattle.lines.proofs.Got.{place_got, place_missed, added_no, added_done, added_as}
 use Rattle.lines.proofs.Ahead.{mark_size}
@@ -15,10 +16,11 @@ pub integers_from-requires : goal.integers_from-requires
 integers_from-requires c =
     (omega (arith, c.requires.0, mark_size _ _ _ (place_got _ c.in_ok-i.ensures)), c.requires.2)
 
+pub returns-in-None-clause-value : goal.returns-in-None-clause-value
+returns-in-None-clause-value c =
+    added_as _ _ _ (list_some _ _ _ _ _ (place_got _ c.in_ok-i.ensures) (place_missed _ c.in-None.ensures)) c.integers_from.ensures.value
+
 pub returns-in_default-clause-value : goal.returns-in_default-clause-value
 returns-in_default-clause-value c =
-    added_as _ _ _ (list_some _ _ _ _ _ (place_got _ c.in_ok-i.ensures) (place_missed _ c.in_default.ensures)) c.integers_from.ensures.value
-
-pub returns-clause-value : goal.returns-clause-value
-returns-clause-value c =
-    added_done _ (list_empty _ _ _ _ _ (place_got _ c.in_ok-i.ensures) (place_got _ c.in-Some.ensures)) refl (no_integers _)
+    let e = place_got _ c.in_default.ensures in
+    added_done _ (list_empty _ _ _ _ _ (place_got _ c.in_ok-i.ensures) e) (c.mark-2.ensures ∙ ap place_of e) (no_integers _)

@@ -1,7 +1,8 @@
 -- `lines::name` meets its contract. Assumes nothing.
 use mathlib.Core.Path.{sym, ap, ◌∙◌}
 use Rattle.tokens.specs.Classes.{is_letter}
-use Rattle.lines.specs.Private.{given, span_in}
+use Rattle.lines.specs.Answers.{span_in}
+use Rattle.lines.specs.Private.{given}
 use Rattle.lines.proofs.Parse.{name_some, name_none}
 use Rattle.lines.proofs.name.Goals as goal
 

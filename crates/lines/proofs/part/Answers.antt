@@ -2,7 +2,8 @@
 use mathlib.Core.Path.{refl, ap}
 use native.Mathlib.Omega.{arith}
 use Rattle.lines.specs.declared.Agreement.{Agreement}
-use Rattle.lines.specs.Private.{span_in, verb_in}
+use Rattle.lines.specs.Answers.{span_in}
+use Rattle.lines.specs.Private.{verb_in}
 use Rattle.lines.proofs.Got.{name_got, given_missed, read_missed, added_got, added_missed, added_no}
 use Rattle.lines.proofs.Agreed.{verb_got, party_missing, party_on, verb_missing, verb_on, fields_missing, part_added}
 use Rattle.lines.proofs.part.Goals as goal
@@ -22,11 +23,6 @@ field_list-requires c =
 pub returns-in_err-next : goal.returns-in_err-next
 returns-in_err-next c =
     added_no _ _ (fields_missing _ _ (name_got _ _ c.in_ok-party.ensures) (verb_got _ _ c.in_ok-verb.ensures) (added_missed _ _ _ c.in_err-next.ensures)) c.from_residual-in_err-next.ensures
-
-pub overflow_sub-out : goal.overflow_sub-out
-overflow_sub-out c =
-    let f = added_got _ _ c.in_ok-next.ensures in
-    omega (arith, ap (λ (a : Agreement). a.fields) f.stored)
 
 pub add_head-requires : goal.add_head-requires
 add_head-requires c =

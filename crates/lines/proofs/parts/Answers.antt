@@ -1,8 +1,10 @@
 -- `lines::parts` meets its contract. Assumes nothing.
-use mathlib.Core.Path.{sym, ap, ◌∙◌}
+use mathlib.Core.Path.{◌≡◌, refl, sym, ap, ◌∙◌}
+use mathlib.Core.Bool.{Bool, true, false}
 use mathlib.Core.List.{[], ◌∷◌}
 use native.Mathlib.Omega.{arith}
-use Rattle.std.specs.Prelude.{Some}
+use Rattle.std.specs.Prelude.{Option, Some, None}
+use Rattle.std.specs.Bool.{then_some}
 use Rattle.words.specs.Words.{spelled}
 use Rattle.lines.specs.Lines.{end, part, parts}
 use Rattle.lines.specs.Answers.{agreement_of}
@@ -16,6 +18,10 @@ use Rattle.lines.proofs.Agreed.{part_size, placed_none, placed_few, part_more}
 use Rattle.lines.proofs.Forms.{parts_made}
 use Rattle.lines.proofs.parts.Goals as goal
 
+ended : {A : Type 0} {y : Option A} (b : Bool) (x : A) → (b ≡ true → Some x ≡ y) → (b ≡ false → None ≡ y) → then_some b x ≡ y
+ended true x f g = f refl
+ended false x f g = g refl
+
 pub loop-turn-init : goal.loop-turn-init
 loop-turn-init c =
     let e = c.no_agreement-read.ensures ∙ placed_none in
@@ -27,23 +33,16 @@ returns-in_err-next c =
     c.from_residual.ensures
     ∙ sym (ap (given agreement_of) (missing _ _ _ _ c.loop-turn.invariant.so_far.reached (added_missed _ _ _ c.in_err-next.ensures)))
 
-pub returns-then-ends : goal.returns-then-ends
-unfolding parts spelled
-returns-then-ends c =
-    let s = c.args.line.now in
-    let v = c.loop-turn.invariant.so_far in
-    let g = added_got _ _ c.in_ok-next.ensures in
-    let p = last s (part s) (124 ∷ 124 ∷ []) (end s) v.reached g.parsed c.loop-turn-test.true (place_missed _ c.in_default.ensures) (end_yes _ _ (sym c.ends.ensures ∙ c.if-ends.true)) in
-    ap Some (part_more _ _ v.stored g.stored ∙ parts_made s c.requires p) ∙ sym (ap (given agreement_of) p)
-
 pub returns-in_default : goal.returns-in_default
 unfolding parts spelled
 returns-in_default c =
     let s = c.args.line.now in
     let v = c.loop-turn.invariant.so_far in
     let g = added_got _ _ c.in_ok-next.ensures in
-    let p = unclosed s (part s) (124 ∷ 124 ∷ []) (end s) v.reached g.parsed c.loop-turn-test.true (place_missed _ c.in_default.ensures) (end_no _ _ (sym c.ends.ensures ∙ c.if-ends.false)) in
-    sym (ap (given agreement_of) p)
+    let or = place_missed _ c.in_default.ensures in
+    let closed = λ (q : c.ends.result ≡ true). last s (part s) (124 ∷ 124 ∷ []) (end s) v.reached g.parsed c.loop-turn-test.true or (end_yes _ _ (sym c.ends.ensures ∙ q)) in
+    let unended = λ (q : c.ends.result ≡ false). unclosed s (part s) (124 ∷ 124 ∷ []) (end s) v.reached g.parsed c.loop-turn-test.true or (end_no _ _ (sym c.ends.ensures ∙ q)) in
+    c.then_some.ensures ∙ ended c.ends.result _ (λ q. ap Some (part_more _ _ v.stored g.stored ∙ parts_made s c.requires (closed q)) ∙ sym (ap (given agreement_of) (closed q))) (λ q. sym (ap (given agreement_of) (unended q)))
 
 pub loop-turn-preserved : goal.loop-turn-preserved
 unfolding spelled

@@ -1,29 +1,50 @@
 -- `lines::read` meets its contract. Assumes nothing.
+use mathlib.Core.Path.{◌≡◌, ap, ◌∙◌}
+use Prim.Native.Nat.{ℕ, ◌-◌, ◌≤◌}
 use native.Mathlib.Omega.{arith}
-use mathlib.Core.Path.{sym, ap, ◌∙◌}
+use lib.ListN.{length, take, drop, replicate, drop_of_length-le, length-drop}
+use lib.Seq.{length-take-le}
 use lib.IntN.{pos}
-use Rattle.lines.specs.Lines.{Asked}
-use Rattle.lines.specs.Answers.{padded, line_of, numbers_of}
-use Rattle.lines.specs.Private.{request_in}
-use Rattle.lines.proofs.Got.{given_missed}
-use Rattle.lines.proofs.Forms.{asked_long, time_told, timed_numbers_told, call_told, call_missed, other_numbers}
+use Rattle.std.proofs.Common.{rules}
+use Rattle.lines.specs.Lines.{asked}
+use Rattle.lines.proofs.Forms.{count_fits, count_small, cleared}
 use Rattle.lines.proofs.read.Goals as goal
 
-pub returns-then-line-gt-BYTES : goal.returns-then-line-gt-BYTES
-unfolding line_of
-returns-then-line-gt-BYTES c =
-    let e = asked_long c.args.line.now (omega (arith, c.if-line-gt-BYTES.true)) in
-    record { value = c.plain.ensures ∙ sym (ap line_of e); numbers_after = sym (ap (λ (a : Asked). padded (pos 0) 256 (numbers_of a)) e) }
+pub count-requires : goal.count-requires
+count-requires c =
+    let r = c.requested-request in
+    let full : length r.new.numbers ≡ 256 = search rules in
+    count_small (asked c.args.line.now) r.result r.ensures.value r.new.numbers full r.ensures.numbers_first
 
-pub returns-in-Some : goal.returns-in-Some
-returns-in-Some c =
-    record { value = c.plain-in-Some.ensures ∙ time_told _ c.if-line-gt-BYTES.false c.in-Some.ensures; numbers_after = timed_numbers_told _ c.if-line-gt-BYTES.false c.in-Some.ensures }
+pub offset_bounds-numbers-count : goal.offset_bounds-numbers-count
+offset_bounds-numbers-count c =
+    let r = c.requested-request in
+    let full : length r.new.numbers ≡ 256 = search rules in
+    let fits = count_fits (asked c.args.line.now) r.result r.ensures.value r.new.numbers full r.ensures.numbers_first in
+    omega (arith, fits, c.count.ensures)
 
-pub returns-in-Some-call_line : goal.returns-in-Some-call_line
-returns-in-Some-call_line c =
-    let w = call_told _ c.if-line-gt-BYTES.false (given_missed request_in _ c.in_default.ensures) c.in-Some-call_line.ensures in
-    record { value = w.0; numbers_after = w.1 }
+pub slice_bounds-fill-count : goal.slice_bounds-fill-count
+slice_bounds-fill-count c =
+    let r = c.requested-request in
+    let full : length r.new.numbers ≡ 256 = search rules in
+    let fits = count_fits (asked c.args.line.now) r.result r.ensures.value r.new.numbers full r.ensures.numbers_first in
+    omega (arith, fits, c.count.ensures)
+
+pub slice_bounds-fill-start : goal.slice_bounds-fill-start
+slice_bounds-fill-start c =
+    let r = c.requested-request in
+    let full : length r.new.numbers ≡ 256 = search rules in
+    let fits = count_fits (asked c.args.line.now) r.result r.ensures.value r.new.numbers full r.ensures.numbers_first in
+    omega (arith, fits, c.count.ensures)
 
 pub returns-clause-numbers_after : goal.returns-clause-numbers_after
 returns-clause-numbers_after c =
-    other_numbers _ c.if-line-gt-BYTES.false (given_missed request_in _ c.in_default.ensures) (call_missed _ _ c.in_default-call_line.ensures)
+    let r = c.requested-request in
+    let full : length r.new.numbers ≡ 256 = search rules in
+    let fits = count_fits (asked c.args.line.now) r.result r.ensures.value r.new.numbers full r.ensures.numbers_first in
+    let k = c.count.result in
+    let few : k ≤ 256 = omega (arith, fits, c.count.ensures) in
+    let n : length (take (256 - k) (drop k r.new.numbers)) ≡ 256 - k = length-take-le (256 - k) (drop k r.new.numbers) (omega (arith, length-drop k r.new.numbers, full)) in
+    let tail = drop_of_length-le (drop k r.new.numbers) (omega (arith, length-drop k r.new.numbers, full)) in
+    cleared (asked c.args.line.now) r.result r.ensures.value r.new.numbers full r.ensures.numbers_first k c.count.ensures c.fill.new.self _
+    (c.fill.ensures.after (search rules) ∙ ap (λ (m : ℕ). replicate m (pos 0)) n) tail

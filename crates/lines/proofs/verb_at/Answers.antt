@@ -2,7 +2,7 @@
 use mathlib.Core.Path.{sym, ◌∙◌}
 use Rattle.laws.specs.Choice.{pick}
 use Rattle.lines.specs.Lines.{verb, is_word}
-use Rattle.lines.specs.Private.{span_in}
+use Rattle.lines.specs.Answers.{span_in}
 use Rattle.lines.proofs.Got.{name_got, given_missed}
 use Rattle.lines.proofs.verb_at.Goals as goal
 

@@ -5,9 +5,7 @@ use mir.Facts.{to_z-of_z}
 use Rattle.contract.specs.Tree.{Contract}
 use Rattle.contract.specs.Decode.{contract_of}
 use Rattle.machine.specs.Steps.{jumped}
-use Rattle.machine.specs.Private.{reply_of}
 use Rattle.machine.proofs.Gates.{refused_first, stepped}
-use Rattle.machine.proofs.Answers.{jump_plain}
 use Rattle.machine.proofs.jump.Goals as goal
 
 pub returns-in-Some : goal.returns-in-Some
@@ -18,7 +16,6 @@ pub returns : goal.returns
 returns c =
     let k = contract_of c.args.table.now in
     c.answer.ensures
-    ∙ jump_plain k c.args.s c.args.to _
-    (c.jump_on-r.ensures ∙ ap (λ (z : ℤ). reply_of (jumped k c.args.s z)) (to_z-of_z c.ranges.to))
+    ∙ c.jump_on-outcome.ensures ∙ ap (λ (z : ℤ). jumped k c.args.s z) (to_z-of_z c.ranges.to)
     ∙ stepped c.args.table.now c.args.room c.args.s _ c.first_no.ensures
     (λ (x : Contract). jumped x c.args.s c.args.to) c.in_default.is

@@ -1,6 +1,4 @@
 -- `machine::play` meets its contract. Assumes nothing.
-use Rattle.contract.specs.Decode.{contract_of}
-use Rattle.state.proofs.Within.{within}
 use Rattle.machine.proofs.Playing.{play_stopped, play_went}
 use Rattle.machine.proofs.Gates.{asked}
 use Rattle.machine.proofs.play.Goals as goal
@@ -13,7 +11,7 @@ returns-in-Some c =
 pub play_on-requires : goal.play_on-requires
 play_on-requires c =
     let a = asked c.args.table.now _ c.args.s _ c.first_no.ensures c.in_default.is in
-    (a.0, (within (contract_of c.args.table.now) c.args.s a.1).pending)
+    a.0
 
 pub returns : goal.returns
 returns c =

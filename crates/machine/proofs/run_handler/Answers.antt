@@ -1,35 +1,30 @@
 -- `machine::run_handler` meets its contract. Assumes nothing.
-use mathlib.Core.Path.{refl, ap, ◌∙◌}
+use mathlib.Core.Path.{refl, sym, ap, ◌∙◌}
 use mathlib.Core.List.{[]}
+use Rattle.std.proofs.Common.{rules}
+use Rattle.std.specs.Prelude.{Option}
+use Rattle.std.specs.Result.{result_err}
+use Rattle.questions.specs.declared.Question.{Question}
 use Rattle.contract.specs.Decode.{block_between}
 use Rattle.statements.specs.declared.Work.{Work}
-use Rattle.statements.specs.Running.{ran, end_of}
-use Rattle.statements.proofs.Ended.{went_on, stopped_by}
-use Rattle.outcomes.specs.declared.Stepped.{Stepped}
+use Rattle.statements.specs.Running.{ran, work_by}
 use Rattle.holdings.specs.Holdings.{amounts}
-use Rattle.machine.specs.Private.{reply_of}
-use Rattle.machine.proofs.Firings.{handler_failed, handler_done}
-use Rattle.machine.proofs.Answers.{started}
+use Rattle.machine.proofs.Firings.{handler_failed, handler_ends}
+use Rattle.machine.proofs.Replies.{started, quiet_as}
 use Rattle.machine.proofs.run_handler.Goals as goal
 
 pub returns-in-Err : goal.returns-in-Err
 unfolding amounts
 returns-in-Err c =
-    let b = started c.args.s [] _ _ c.holdings_of-holdings.ensures c.requires in
-    let run = c.run-ran.ensures ∙ ap (λ (x : Work). end_of (ran [] c.args.s.clock x (block_between c.args.table.now c.args.h.from c.args.h.end))) b in
-    let e = handler_failed c.args.left c.args.h.last _ _ refl c.in-Err.halt.question (stopped_by _ _ c.in-Err.halt run c.in-Err.is) in
-    record {
-      value = c.without_labels.ensures ∙ ap reply_of e;
-      labels_after = c.clear.ensures ∙ ap (λ (t : Stepped). t.labels) e;
-    }
+    let b = started c.args.s.now [] _ _ c.holdings_of-holdings.ensures c.requires in
+    let run = c.run-ran.ensures.value ∙ ap (λ (x : Work). ran [] c.args.s.now.clock x (block_between c.args.table.now c.args.h.from c.args.h.end)) b in
+    quiet_as _ c.silent.ensures c.clear.ensures
+    (handler_failed c.args.s.now c.args.h.last _ _ refl c.in-Err.question (sym (ap (λ (x : Work). x.refusal) run) ∙ ap result_err c.in-Err.is))
 
-pub returns-in-Ok : goal.returns-in-Ok
+pub returns : goal.returns
 unfolding amounts
-returns-in-Ok c =
-    let b = started c.args.s [] _ _ c.holdings_of-holdings.ensures c.requires in
-    let run = c.run-ran.ensures ∙ ap (λ (x : Work). end_of (ran [] c.args.s.clock x (block_between c.args.table.now c.args.h.from c.args.h.end))) b in
-    let e = handler_done c.args.left c.args.h.last _ _ (went_on _ _ c.in-Ok.count run c.in-Ok.is) refl _ c.reach.ensures in
-    record {
-      value = ap reply_of e;
-      labels_after = ap (λ (t : Stepped). t.labels) e;
-    }
+returns c =
+    let b = started c.args.s.now [] _ _ c.holdings_of-holdings.ensures c.requires in
+    let run = c.run-ran.ensures.value ∙ ap (λ (x : Work). ran [] c.args.s.now.clock x (block_between c.args.table.now c.args.h.from c.args.h.end)) b in
+    let went = ap (λ (o : Option Question). work_by c.run-ran.new.self o) (sym (ap result_err c.in_default.is)) ∙ run in
+    handler_ends c.args.s.now c.args.h.last _ c.run-ran.new.self went c.reach.ensures (search rules) (search rules) (search rules) (search rules) (search rules)

@@ -1,10 +1,8 @@
 -- `machine::tick` meets its contract. Assumes nothing.
 use mathlib.Core.Path.{◌∙◌}
 use Rattle.contract.specs.Tree.{Contract}
-use Rattle.contract.specs.Decode.{contract_of}
 use Rattle.machine.specs.Steps.{ticked}
 use Rattle.machine.proofs.Gates.{refused_first, stepped}
-use Rattle.machine.proofs.Answers.{tick_plain}
 use Rattle.machine.proofs.tick.Goals as goal
 
 pub returns-in-Some : goal.returns-in-Some
@@ -13,4 +11,4 @@ returns-in-Some c =
 
 pub returns : goal.returns
 returns c =
-    c.answer.ensures ∙ tick_plain (contract_of c.args.table.now) c.args.s _ c.tick_on-r.ensures ∙ stepped c.args.table.now c.args.room c.args.s _ c.first_no.ensures (λ (x : Contract). ticked x c.args.s) c.in_default.is
+    c.answer.ensures ∙ c.tick_on-outcome.ensures ∙ stepped c.args.table.now c.args.room c.args.s _ c.first_no.ensures (λ (x : Contract). ticked x c.args.s) c.in_default.is

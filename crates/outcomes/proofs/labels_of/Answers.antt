@@ -21,12 +21,12 @@ loop-i-init c =
 pub loop-i-preserved : goal.loop-i-preserved
 loop-i-preserved c =
     let l = c.loop-i in
-    let k : SFits w64 (get_or c.args.words (3 * l.i) (pos 0)) = record { sfits = c.magnitude-arg-1.given } in
-    let p : SFits w64 (get_or c.args.words (3 * l.i + 1) (pos 0)) = record { sfits = c.magnitude-arg-in-loop-i-1.given } in
-    let v : SFits w64 (get_or c.args.words (3 * l.i + 2) (pos 0)) = record { sfits = c.out-1.given } in
-    (drawn_more c.args.words 64 c.well_formed.0.1.0.1 _ _ _ (c.magnitude.ensures ∙ ap nat_abs (to_z-of_z k)) (c.magnitude-in-loop-i.ensures ∙ ap nat_abs (to_z-of_z p)) (to_z-of_z v) l.invariant (omega arith))
+    let k : SFits w64 (get_or c.args.words.now (3 * l.i) (pos 0)) = record { sfits = c.magnitude-arg-1.given } in
+    let p : SFits w64 (get_or c.args.words.now (3 * l.i + 1) (pos 0)) = record { sfits = c.magnitude-arg-in-loop-i-1.given } in
+    let v : SFits w64 (get_or c.args.words.now (3 * l.i + 2) (pos 0)) = record { sfits = c.out-1.given } in
+    (drawn_more c.args.words.now 64 c.told-words _ _ _ (c.magnitude.ensures ∙ ap nat_abs (to_z-of_z k)) (c.magnitude-in-loop-i.ensures ∙ ap nat_abs (to_z-of_z p)) (to_z-of_z v) l.invariant (omega arith))
 
 pub returns : goal.returns
 returns c =
     let l = c.loop-i in
-    drawn_all c.args.words 64 c.well_formed.0.1.0.1 l.invariant (omega arith)
+    drawn_all c.args.words.now 64 c.told-words l.invariant (omega arith)

@@ -8,5 +8,5 @@ use Rattle.state.proofs.assets_ok.Goals as goal
 pub returns : goal.returns
 unfolding asset_slot_ok
 returns c =
-    all_from_yields_List (asset_slot_ok c.args.used c.args.s) _ _ c.all.result c.all.ensures.ran (YieldsList-from_range 0 16 16 refl refl) (λ x b q k. search rules)
-    ∙ all_in_range (asset_slot_ok c.args.used c.args.s) 16
+    all_from_yields_List (asset_slot_ok c.args.used c.args.s.now) _ _ c.all.result c.all.ensures.ran (YieldsList-from_range 0 16 16 refl refl) (λ x b q k. search rules)
+    ∙ all_in_range (asset_slot_ok c.args.used c.args.s.now) 16

@@ -1,25 +1,16 @@
-use Rattle.state.proofs.Rows.{unfounded_state, past_state, far_state, near_state}
+-- `state::event_state` meets its contract. Assumes nothing.
+use Rattle.std.proofs.Common.{◌≡◌, refl, ◌∙◌, rules, Option, Some, None, MatchOption, ℕ}
+use Rattle.contract.specs.declared.Event.{Event as Row}
+use Rattle.state.proofs.Rows.{state_found, state_unknown}
 use Rattle.state.proofs.event_state.Goals as goal
 
-pub returns-then-c-function : goal.returns-then-c-function
-returns-then-c-function c =
-    let head = c.head-c in
-    unfounded_state c.args.table.now c.args.p head.result head.ensures c.if-c-function.true
-
-pub returns-then-row-event : goal.returns-then-row-event
-returns-then-row-event c =
-    let head = c.head-c in
-    let row = c.function_at-row in
-    past_state c.args.table.now c.args.p head.result head.ensures c.if-c-function.false row.result row.ensures c.if-row-event.true
-
-pub returns-then-table-first : goal.returns-then-table-first
-returns-then-table-first c =
-    let head = c.head-c in
-    let row = c.function_at-row in
-    far_state c.args.table.now c.args.p head.result head.ensures c.if-c-function.false row.result row.ensures c.if-row-event.false c.if-table-first.true
+-- the state of a row, if there is one
+by_row : (r : Option Row) (n z : ℕ) (Q : Row → Type 0) → (r ≡ None → 0 ≡ z) → ((e : Row) → r ≡ Some e → e.state ≡ z) → ((e : Row) → Q e → n ≡ e.state)
+    → MatchOption r (n ≡ 0) Q → n ≡ z
+by_row None n z Q u f g h = h ∙ u refl
+by_row (Some e) n z Q u f g h = g e h ∙ f e refl
 
 pub returns : goal.returns
 returns c =
-    let head = c.head-c in
-    let row = c.function_at-row in
-    near_state c.args.table.now c.args.p head.result head.ensures c.if-c-function.false row.result row.ensures c.if-row-event.false c.event_at.result c.event_at.ensures
+    by_row c.event_row.result _ _ _ (state_unknown _ c.args.p _ c.event_row.ensures) (state_found _ c.args.p _ c.event_row.ensures) (λ e k. search rules)
+    c.map_or.ensures

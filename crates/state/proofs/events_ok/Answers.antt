@@ -9,5 +9,5 @@ use Rattle.state.proofs.events_ok.Goals as goal
 pub returns : goal.returns
 unfolding pending_slot_ok
 returns c =
-    all_from_yields_List (pending_slot_ok (contract_of c.args.table.now) c.args.s) _ _ c.all.result c.all.ensures.ran (YieldsList-from_range 0 64 64 refl refl) (λ x b q k. search rules)
-    ∙ all_in_range (pending_slot_ok (contract_of c.args.table.now) c.args.s) 64
+    all_from_yields_List (pending_slot_ok (contract_of c.args.table.now) c.args.s.now) _ _ c.all.result c.all.ensures.ran (YieldsList-from_range 0 64 64 refl refl) (λ x b q k. search rules)
+    ∙ all_in_range (pending_slot_ok (contract_of c.args.table.now) c.args.s.now) 64

@@ -8,5 +8,5 @@ use Rattle.state.proofs.fields_ok.Goals as goal
 pub returns : goal.returns
 unfolding field_slot_ok
 returns c =
-    all_from_yields_List (field_slot_ok c.args.strings c.args.used c.args.s) _ _ c.all.result c.all.ensures.ran (YieldsList-from_range 0 32 32 refl refl) (λ x b q k. search rules)
-    ∙ all_in_range (field_slot_ok c.args.strings c.args.used c.args.s) 32
+    all_from_yields_List (field_slot_ok c.args.strings c.args.used c.args.s.now) _ _ c.all.result c.all.ensures.ran (YieldsList-from_range 0 32 32 refl refl) (λ x b q k. search rules)
+    ∙ all_in_range (field_slot_ok c.args.strings c.args.used c.args.s.now) 32

@@ -25,7 +25,7 @@ loop-i-preserved c =
     let p : Pending = get_or l i blank in
     let in_list : i < length l = omega arith in
     c.loop-i.invariant
-    ∙ looked (due_at (contract_of c.args.table.now) c.args.s.clock c.args.s.state) l c.loop-i.found c.if-due_at.found i p in_list (get_or_default l i blank p in_list)
+    ∙ looked (due_at (contract_of c.args.table.now) c.args.s.now.clock c.args.s.now.state) l c.loop-i.found c.if-due_at.found i p in_list (get_or_default l i blank p in_list)
     (elim c.if-due_at.branch [
       | then-due_at+then-takes_over w ↦
           w.found-is ∙ sym (pick_true _ _ _ (both_true _ _ (sym c.due_at.ensures ∙ w.if-due_at.true) (sym w.takes_over.ensures ∙ w.if-takes_over.true)))
@@ -34,7 +34,7 @@ loop-i-preserved c =
           ∙ sym (pick_false _ _ _
           (elim w.else-due_at.branch [
             | else-due_at-via-then-due_at+else-takes_over w' ↦
-                ap (λ (b : Bool). due_at (contract_of c.args.table.now) c.args.s.clock c.args.s.state p && b) (sym w'.takes_over.ensures ∙ w'.if-takes_over.false) ∙ and_false _
+                ap (λ (b : Bool). due_at (contract_of c.args.table.now) c.args.s.now.clock c.args.s.now.state p && b) (sym w'.takes_over.ensures ∙ w'.if-takes_over.false) ∙ and_false _
             | else-due_at-via-else-due_at w' ↦
                 ap (λ (b : Bool). b && takes_over c.loop-i.found p) (sym c.due_at.ensures ∙ w'.if-due_at.false)
           ]))
@@ -51,8 +51,8 @@ pub returns : goal.returns
 unfolding is_due due_at
 returns c =
     let l = c.live-live.result.now in
-    let e = c.loop-i.invariant ∙ turns_end (is_due (contract_of c.args.table.now) c.args.s) l c.loop-i.found c.loop-i.i c.loop-i-test.false in
+    let e = c.loop-i.invariant ∙ turns_end (is_due (contract_of c.args.table.now) c.args.s.now) l c.loop-i.found c.loop-i.i c.loop-i-test.false in
     placed c.loop-i.found c.map.result _ (λ x k q. search rules) c.map.ensures.cases
     ∙ ap (option_map (λ x. x.0)) (sym e)
-    ∙ ap (λ (ps : List Pending). option_map (λ x. x.0) (searched (is_due (contract_of c.args.table.now) c.args.s) None 0 ps)) c.live-live.ensures.value
-    ∙ search_finds (contract_of c.args.table.now) c.args.s
+    ∙ ap (λ (ps : List Pending). option_map (λ x. x.0) (searched (is_due (contract_of c.args.table.now) c.args.s.now) None 0 ps)) c.live-live.ensures.value
+    ∙ search_finds (contract_of c.args.table.now) c.args.s.now

@@ -6,20 +6,20 @@ use Rattle.state.proofs.next_stop.Goals as goal
 
 pub returns-then-to-s : goal.returns-then-to-s
 returns-then-to-s c =
-    passings_none (contract_of c.args.table.now) c.args.s c.args.to c.if-to-s.true
+    passings_none (contract_of c.args.table.now) c.args.s.now c.args.to c.if-to-s.true
 
 pub loop-p-init : goal.loop-p-init
 loop-p-init c =
-    soonest_none (contract_of c.args.table.now) c.args.s.state c.args.s.clock c.args.to _ c.if-to-s.false
+    soonest_none (contract_of c.args.table.now) c.args.s.now.state c.args.s.now.clock c.args.to _ c.if-to-s.false
 
 pub loop-p-preserved : goal.loop-p-preserved
 loop-p-preserved c =
     let k = contract_of c.args.table.now in
-    subst (Soonest k c.args.s.state c.args.s.clock c.args.to c.live-live.result.now (c.loop-p.p-index + 1)) (sym c.sooner-stop.ensures)
-    (soonest_more k c.args.s.state c.args.s.clock c.args.to c.live-live.result.now c.loop-p.p-index c.loop-p.stop c.loop-p.invariant (omega arith))
+    subst (Soonest k c.args.s.now.state c.args.s.now.clock c.args.to c.live-live.result.now (c.loop-p.p-index + 1)) (sym c.sooner-stop.ensures)
+    (soonest_more k c.args.s.now.state c.args.s.now.clock c.args.to c.live-live.result.now c.loop-p.p-index c.loop-p.stop c.loop-p.invariant (omega arith))
 
 pub returns : goal.returns
 returns c =
-    soonest_is (contract_of c.args.table.now) c.args.s c.args.to c.loop-p.p-index c.loop-p.stop
+    soonest_is (contract_of c.args.table.now) c.args.s.now c.args.to c.loop-p.p-index c.loop-p.stop
     (rw (sym c.live-live.ensures.value) c.loop-p.invariant)
     (rw (sym c.live-live.ensures.value) (omega arith))

@@ -11,7 +11,7 @@ use Rattle.state.proofs.pass.Goals.{then-stays, else-stays}
 use Rattle.state.proofs.pass.Goals as goal
 
 pub returns-then-to-clock : goal.returns-then-to-clock
-returns-then-to-clock c = passed_none c.args.s c.args.to c.if-to-clock.true
+returns-then-to-clock c = passed_none c.args.s.now c.args.to c.if-to-clock.true
 
 pub loop-p-init : goal.loop-p-init
 unfolding keep repeated
@@ -21,7 +21,7 @@ pub loop-p-preserved : goal.loop-p-preserved
 loop-p-preserved c =
     let l = c.live-live.result.now in
     let i = c.loop-p.p-index in
-    let kept : Pending → Bool = λ p. not_dropped c.args.s.clock c.args.to p.time in
+    let kept : Pending → Bool = λ p. not_dropped c.args.s.now.clock c.args.to p.time in
     elim c.if-stays.branch [
       | then-stays w ↦ rw (w.kept-is, w.count-is) (omega arith, holds_same (more_yes kept l i blank (omega arith) (sym c.stays.ensures ∙ w.if-stays.true)) (holds_more (get_or l i blank) c.loop-p.invariant.1 (omega arith)))
       | else-stays w ↦ rw (w.kept-is, w.count-is) (omega arith, holds_same (more_no kept l i blank (omega arith) (sym c.stays.ensures ∙ w.if-stays.false)) c.loop-p.invariant.1)
@@ -30,6 +30,6 @@ loop-p-preserved c =
 pub returns : goal.returns
 returns c =
     let l = c.live-live.result.now in
-    let kept : Pending → Bool = λ p. not_dropped c.args.s.clock c.args.to p.time in
-    let all : take c.loop-p.p-index l ≡ live c.args.s = take_all c.loop-p.p-index l (omega arith) ∙ c.live-live.ensures.value in
-    held c.args.s c.args.to (holds_same (ap (keep kept) all) c.loop-p.invariant.1) ∙ passed_to c.args.s c.args.to (omega arith)
+    let kept : Pending → Bool = λ p. not_dropped c.args.s.now.clock c.args.to p.time in
+    let all : take c.loop-p.p-index l ≡ live c.args.s.now = take_all c.loop-p.p-index l (omega arith) ∙ c.live-live.ensures.value in
+    held c.args.s.now c.args.to (holds_same (ap (keep kept) all) c.loop-p.invariant.1) ∙ passed_to c.args.s.now c.args.to (omega arith)

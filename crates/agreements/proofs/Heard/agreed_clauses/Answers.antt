@@ -7,7 +7,7 @@ use Rattle.contract.specs.Rows.{clause_row_of}
 use Rattle.contract.specs.Decode.{clause_at}
 use Rattle.agreements.proofs.Clauses.{placed, row_count, row_few}
 use Rattle.agreements.specs.Private.{agreed_part}
-use Rattle.agreements.proofs.Agreements.{agreed_by_more, agreed_by_not}
+use Rattle.agreements.proofs.Agreements.{agreed_by_more}
 use Rattle.agreements.proofs.Heard.agreed_clauses.Goals as goal
 
 pub of-clause-requires : goal.of-clause-requires
@@ -24,19 +24,8 @@ loop-i-preserved c =
     let l = c.loop-i in
     let p = placed table a.whole l.i (omega (arith, l.invariant.0)) in
     let h = c.of-clause.ensures in
-    let read : c.of-clause.result.row ≡ clause_row_of table l.i = c.of-clause.result.read ∙ λ t. clause_row_of (h.heard_value t).table.now (h.i_value t) in
+    let read : c.of-clause.result.row ≡ clause_row_of table l.i = c.of-clause.result.read ∙ λ t. clause_row_of (h.same_heard t).table.now (h.same_i t) in
     let agreed : c.agreed_clause.result ≡ agreed_part c.args.s (clause_at table l.i).fields (drop l.at a.values.now) (clause_at table l.i).verb =
     c.agreed_clause.ensures
-    ∙ λ t. agreed_part c.args.s (clause_at (h.heard_value t).table.now (h.i_value t)).fields (drop (h.at_value t) (h.heard_value t).values.now) (clause_at (h.heard_value t).table.now (h.i_value t)).verb in
+    ∙ λ t. agreed_part c.args.s (clause_at (h.same_heard t).table.now (h.same_i t)).fields (drop (h.same_at t) (h.same_heard t).values.now) (clause_at (h.same_heard t).table.now (h.same_i t)).verb in
     (l.invariant.0, (omega (arith, l.invariant.1, row_few table l.i _ read p)), l.invariant.2 ∙ agreed_by_more (clause_at table) a.values.now (word_at table 5) l.i l.at c.args.s _ (omega (arith, l.invariant.0)) (row_count table l.i _ read p) (sym agreed ∙ c.if-not-agreed_clause.false))
-
-pub returns-then-not-agreed_clause : goal.returns-then-not-agreed_clause
-returns-then-not-agreed_clause c =
-    let a = c.args.self.now in
-    let table = a.table.now in
-    let l = c.loop-i in
-    let h = c.of-clause.ensures in
-    let agreed : c.agreed_clause.result ≡ agreed_part c.args.s (clause_at table l.i).fields (drop l.at a.values.now) (clause_at table l.i).verb =
-    c.agreed_clause.ensures
-    ∙ λ t. agreed_part c.args.s (clause_at (h.heard_value t).table.now (h.i_value t)).fields (drop (h.at_value t) (h.heard_value t).values.now) (clause_at (h.heard_value t).table.now (h.i_value t)).verb in
-    sym (l.invariant.2 ∙ agreed_by_not (clause_at table) a.values.now (word_at table 5) l.i l.at c.args.s (omega (arith, l.invariant.0)) (sym agreed ∙ c.if-not-agreed_clause.true))

@@ -3,10 +3,10 @@ use mathlib.Core.Path.{◌≡◌}
 use Prim.Native.Nat.{◌-◌, ◌≤◌}
 use Rattle.contract.specs.Table.{word_at}
 use Rattle.contract.specs.Decode.{each_from, clause_at}
+use Rattle.contract.specs.Rows.{said}
 use Rattle.agreements.specs.Agreement.{fields_of}
-use Rattle.agreements.specs.Private.{verb_of}
 use Rattle.agreements.proofs.Heard.fields_of.Given as goal
 
 abbrev pub invariant-loop-i : goal.invariant-loop-i
 invariant-loop-i l =
-    (l.i ≤ word_at l.self.table.now 5) × (l.mask ≡ fields_of (verb_of l.verb) (each_from l.i (word_at l.self.table.now 5 - l.i) (clause_at l.self.table.now)))
+    (l.i ≤ word_at l.self.table.now 5) × (l.mask ≡ fields_of (said l.verb) (each_from l.i (word_at l.self.table.now 5 - l.i) (clause_at l.self.table.now)))

@@ -9,12 +9,12 @@ use Rattle.contract.specs.Table.{word_at}
 use Rattle.contract.specs.Rows.{clause_row_of}
 use Rattle.contract.specs.Decode.{clause_at, contract_of}
 use Rattle.contract.specs.declared.TableHead.{TableHead}
-use Rattle.contract_laws.proofs.Sound.{passed}
 use Rattle.agreements.proofs.Clauses.{placed, clauses_first, row_count, row_few}
 use Rattle.state.proofs.Decoded.{clauses_count}
 use Rattle.agreements.specs.Agreement.{parts_in, same_clause, same_clauses}
 use Rattle.agreements.specs.Private.{part_at}
 use Rattle.agreements.proofs.Agreements.{other_clauses, same_clause_counts, clauses_more, clauses_not, clauses_all}
+use Rattle.std.proofs.Common.{rules, tests}
 use Rattle.agreements.proofs.Heard.same_clauses.Goals as goal
 
 pub returns-then-parts-count : goal.returns-then-parts-count
@@ -35,19 +35,13 @@ of-clause-requires c =
     let p = placed a.table.now a.whole l.i (omega (arith, l.invariant.0)) in
     (omega (arith, l.invariant.0), omega (arith, l.invariant.1, p.number))
 
-pub same_clause-requires : goal.same_clause-requires
-same_clause-requires c =
-    let h = c.of-clause.ensures in
-    let e : length c.of-clause.result.heard.values.now ≡ length c.args.self.now.values.now = λ t. length (h.heard_value t).values.now in
-    omega (arith, e, h.at_value, c.loop-i.invariant.2)
-
 pub overflow_add-at : goal.overflow_add-at
 overflow_add-at c =
     let table = c.args.self.now.table.now in
     let l = c.loop-i in
     let p = placed table c.args.self.now.whole l.i (omega (arith, l.invariant.0)) in
     let h = c.of-clause.ensures in
-    let read : c.of-clause.result.row ≡ clause_row_of table l.i = c.of-clause.result.read ∙ λ t. clause_row_of (h.heard_value t).table.now (h.i_value t) in
+    let read : c.of-clause.result.row ≡ clause_row_of table l.i = c.of-clause.result.read ∙ λ t. clause_row_of (h.same_heard t).table.now (h.same_i t) in
     omega (arith, l.invariant.1, row_few table l.i _ read p, p.number)
 
 pub loop-i-preserved : goal.loop-i-preserved
@@ -61,10 +55,10 @@ loop-i-preserved c =
     let l = c.loop-i in
     let p = placed table a.whole l.i (omega (arith, l.invariant.0)) in
     let h = c.of-clause.ensures in
-    let read : c.of-clause.result.row ≡ clause_row_of table l.i = c.of-clause.result.read ∙ λ t. clause_row_of (h.heard_value t).table.now (h.i_value t) in
+    let read : c.of-clause.result.row ≡ clause_row_of table l.i = c.of-clause.result.read ∙ λ t. clause_row_of (h.same_heard t).table.now (h.same_i t) in
     let same : c.same_clause.result ≡ same_clause (contract_of table) (clause_at table l.i) (part_at line parts spans values l.i l.at) =
     c.same_clause.ensures
-    ∙ λ t. same_clause (contract_of (h.heard_value t).table.now) (clause_at (h.heard_value t).table.now (h.i_value t)) (part_at (h.heard_value t).line.now (h.heard_value t).parts.now (h.heard_value t).spans.now (h.heard_value t).values.now (h.i_value t) (h.at_value t)) in
+    ∙ λ t. same_clause (contract_of (h.same_heard t).table.now) (clause_at (h.same_heard t).table.now (h.same_i t)) (part_at (h.same_heard t).line.now (h.same_heard t).parts.now (h.same_heard t).spans.now (h.same_heard t).values.now (h.same_i t) (h.same_at t)) in
     let k = same_clause_counts (contract_of table) (clause_at table l.i) line parts spans values l.i l.at l.invariant.2 (sym same ∙ c.if-not-same_clause.false) in
     let q = k.0 ∙ row_count table l.i _ read p in
     (l.invariant.0, (omega (arith, l.invariant.1, row_few table l.i _ read p)), omega (arith, k.1, q), omega arith, l.invariant.4 ∙ clauses_more (contract_of table) (clause_at table) line parts spans values (word_at table 5) l.i l.at _ (omega (arith, l.invariant.0)) q (sym same ∙ c.if-not-same_clause.false))
@@ -81,22 +75,11 @@ returns-then-not-same_clause c =
     let h = c.of-clause.ensures in
     let same : c.same_clause.result ≡ same_clause (contract_of table) (clause_at table l.i) (part_at line parts spans values l.i l.at) =
     c.same_clause.ensures
-    ∙ λ t. same_clause (contract_of (h.heard_value t).table.now) (clause_at (h.heard_value t).table.now (h.i_value t)) (part_at (h.heard_value t).line.now (h.heard_value t).parts.now (h.heard_value t).spans.now (h.heard_value t).values.now (h.i_value t) (h.at_value t)) in
+    ∙ λ t. same_clause (contract_of (h.same_heard t).table.now) (clause_at (h.same_heard t).table.now (h.same_i t)) (part_at (h.same_heard t).line.now (h.same_heard t).parts.now (h.same_heard t).spans.now (h.same_heard t).values.now (h.same_i t) (h.same_at t)) in
     sym (l.invariant.4 ∙ clauses_not (contract_of table) (clause_at table) line parts spans values (word_at table 5) l.i l.at (omega (arith, l.invariant.0)) (sym same ∙ c.if-not-same_clause.true))
 
-pub overflow_mul-result : goal.overflow_mul-result
-overflow_mul-result c =
-    let a = c.args.self.now in
-    omega (arith, c.loop-i.invariant.0, (passed a.table.now a.whole).head.clauses)
-
-pub overflow_mul-result-2 : goal.overflow_mul-result-2
-overflow_mul-result-2 c =
-    let a = c.args.self.now in
-    let l = c.loop-i in
-    omega (arith, l.invariant.0, l.invariant.1, l.invariant.3, (passed a.table.now a.whole).head.clauses)
-
-pub returns : goal.returns
-returns c =
+pub returns-then-spans-at : goal.returns-then-spans-at
+returns-then-spans-at c =
     let a = c.args.self.now in
     let parts = a.parts.now in
     let spans = a.spans.now in
@@ -104,4 +87,17 @@ returns c =
     let l = c.loop-i in
     let n = word_at a.table.now 5 in
     let q : l.i ≡ c.head-count.result.clauses = omega (arith, l.invariant.3) in
-    sym (l.invariant.4 ∙ clauses_all (contract_of a.table.now) (clause_at a.table.now) a.line.now parts spans values n l.i l.at (omega (arith, l.invariant.0)) ∙ ap (λ (k : ℕ). leb (length parts) (k * 4) && (leb (length spans) (l.at * 2) && leb (length values) l.at)) q)
+    let done = l.invariant.4 ∙ clauses_all (contract_of a.table.now) (clause_at a.table.now) a.line.now parts spans values n l.i l.at (omega (arith, l.invariant.0)) ∙ ap (λ (k : ℕ). leb (length parts) (k * 4) && (leb (length spans) (l.at * 2) && leb (length values) l.at)) q in
+    search (rules, tests, done)
+
+pub returns-else-spans-at : goal.returns-else-spans-at
+returns-else-spans-at c =
+    let a = c.args.self.now in
+    let parts = a.parts.now in
+    let spans = a.spans.now in
+    let values = a.values.now in
+    let l = c.loop-i in
+    let n = word_at a.table.now 5 in
+    let q : l.i ≡ c.head-count.result.clauses = omega (arith, l.invariant.3) in
+    let done = l.invariant.4 ∙ clauses_all (contract_of a.table.now) (clause_at a.table.now) a.line.now parts spans values n l.i l.at (omega (arith, l.invariant.0)) ∙ ap (λ (k : ℕ). leb (length parts) (k * 4) && (leb (length spans) (l.at * 2) && leb (length values) l.at)) q in
+    search (rules, tests, done)

@@ -1,15 +1,16 @@
 -- `machine::Called::perform` meets its contract. Assumes nothing.
-use mathlib.Core.Path.{sym, ap, ◌∙◌}
+use mathlib.Core.Path.{refl, sym, ap, ◌∙◌}
 use native.Mathlib.Omega.{arith}
 use Rattle.contract.specs.Decode.{function_at}
-use Rattle.std.specs.Prelude.{None}
-use Rattle.statements.specs.Running.{ran, work_from, end_of}
-use Rattle.statements.proofs.Ended.{went_on, stopped_by}
-use Rattle.outcomes.specs.declared.Stepped.{Stepped}
-use Rattle.machine.specs.Private.{reply_of}
+use Rattle.std.proofs.Common.{rules}
+use Rattle.std.specs.Prelude.{Option, None}
+use Rattle.questions.specs.declared.Question.{Question}
+use Rattle.std.specs.Result.{result_err}
+use Rattle.statements.specs.declared.Work.{Work}
+use Rattle.statements.specs.Running.{ran, work_from, work_by}
 use Rattle.machine.proofs.Calls.{body_refused}
 use Rattle.machine.proofs.Functions.{placed, row_body, row_nodes}
-use Rattle.machine.proofs.Performed.{performed_sends, performed_nothing}
+use Rattle.machine.proofs.Performed.{turned, performed_sends, performed_nothing}
 use Rattle.machine.proofs.Called.perform.Goals as goal
 
 pub overflow_add-from : goal.overflow_add-from
@@ -22,27 +23,25 @@ overflow_add-from-2 c =
     let a = c.args in
     omega (arith, row_nodes a.self.now.table.now a.self.now.n _ c.args.self.now.read (placed a.self.now.table.now c.args.self.now.whole a.self.now.n c.args.self.now.inside))
 
-pub finish-r-requires : goal.finish-r-requires
-finish-r-requires c =
-    c.requires.room
-
-pub returns-in_default : goal.returns-in_default
-returns-in_default c =
+pub returns-in-Err : goal.returns-in-Err
+returns-in-Err c =
     let a = c.args in
-    let run = c.run-ran.ensures ∙ (λ i. end_of (ran a.values.now a.s.clock (work_from a.s.kinds a.s.numbers a.s.texts a.holdings (c.requires.labels_value i) 0 None) (row_body a.self.now.table.now a.self.now.n _ c.args.self.now.read i))) in
-    let e = body_refused a.s a.self.now.n (function_at a.self.now.table.now a.self.now.n) a.values.now _ _ (stopped_by _ _ _ run c.unwrap_err.ensures) in
-    record { value = c.turn_down.ensures ∙ ap reply_of e; labels_after = c.clear.ensures ∙ ap (λ (t : Stepped). t.labels) e }
+    let f = function_at a.self.now.table.now a.self.now.n in
+    let run = c.run-ran.ensures.value ∙ (λ i. ran a.values.now a.s.now.clock (work_from a.s.now.kinds a.s.now.numbers a.s.now.texts a.holdings.now (c.requires i) 0 None) (row_body a.self.now.table.now a.self.now.n _ c.args.self.now.read i)) in
+    turned a.s.now c.in-Err.question _ c.clear.ensures _ (body_refused a.s.now a.self.now.n f a.values.now _ c.in-Err.question (sym (ap (λ (x : Work). x.refusal) run) ∙ ap result_err c.in-Err.is))
 
-pub returns-then-is_accepted : goal.returns-then-is_accepted
-returns-then-is_accepted c =
+pub returns-in-Err-finish : goal.returns-in-Err-finish
+returns-in-Err-finish c =
     let a = c.args in
-    let run = c.run-ran.ensures ∙ (λ i. end_of (ran a.values.now a.s.clock (work_from a.s.kinds a.s.numbers a.s.texts a.holdings (c.requires.labels_value i) 0 None) (row_body a.self.now.table.now a.self.now.n _ c.args.self.now.read i))) in
-    let p = performed_sends a.s a.self.now.n (function_at a.self.now.table.now a.self.now.n) a.values.now _ _ (went_on _ _ c.in-Ok.count run c.in-Ok.is) _ c.finish-r.ensures (sym c.is_accepted.ensures ∙ c.if-is_accepted.true) in
-    record { value = p.0; labels_after = p.1 }
+    let f = function_at a.self.now.table.now a.self.now.n in
+    let run = c.run-ran.ensures.value ∙ (λ i. ran a.values.now a.s.now.clock (work_from a.s.now.kinds a.s.now.numbers a.s.now.texts a.holdings.now (c.requires i) 0 None) (row_body a.self.now.table.now a.self.now.n _ c.args.self.now.read i)) in
+    let went = ap (λ (o : Option Question). work_by c.run-ran.new.self o) (sym (ap result_err c.in_default.is)) ∙ run in
+    performed_nothing a.s.now a.self.now.n f a.values.now _ c.run-ran.new.self went _ _ _ c.finish.ensures (search rules) (search rules) (search rules) (search rules) refl _ c.in-Err-finish.is _ c.clear-in-Err-finish.ensures
 
 pub returns : goal.returns
 returns c =
     let a = c.args in
-    let run = c.run-ran.ensures ∙ (λ i. end_of (ran a.values.now a.s.clock (work_from a.s.kinds a.s.numbers a.s.texts a.holdings (c.requires.labels_value i) 0 None) (row_body a.self.now.table.now a.self.now.n _ c.args.self.now.read i))) in
-    let p = performed_nothing a.s a.self.now.n (function_at a.self.now.table.now a.self.now.n) a.values.now _ _ (went_on _ _ c.in-Ok.count run c.in-Ok.is) _ c.finish-r.ensures (sym c.is_accepted.ensures ∙ c.if-is_accepted.false) _ c.clear-2.ensures in
-    record { value = p.0; labels_after = p.1 }
+    let f = function_at a.self.now.table.now a.self.now.n in
+    let run = c.run-ran.ensures.value ∙ (λ i. ran a.values.now a.s.now.clock (work_from a.s.now.kinds a.s.now.numbers a.s.now.texts a.holdings.now (c.requires i) 0 None) (row_body a.self.now.table.now a.self.now.n _ c.args.self.now.read i)) in
+    let went = ap (λ (o : Option Question). work_by c.run-ran.new.self o) (sym (ap result_err c.in_default.is)) ∙ run in
+    performed_sends a.s.now a.self.now.n f a.values.now _ c.run-ran.new.self went _ _ _ c.finish.ensures (search rules) (search rules) (search rules) (search rules) (search rules) c.in_default-finish.is

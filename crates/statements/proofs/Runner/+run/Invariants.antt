@@ -9,5 +9,5 @@ decreases-branch l = 3 * l.k + 1
 abbrev pub decreases-perform : goal.decreases-perform
 decreases-perform l = 3 * l.k + 2
 
-abbrev pub decreases-block : goal.decreases-block
-decreases-block l = 3 * l.end
+abbrev pub decreases-run : goal.decreases-run
+decreases-run l = 3 * l.end

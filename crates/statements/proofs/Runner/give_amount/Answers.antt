@@ -4,7 +4,7 @@ use Rattle.std.proofs.lemmas.Result.{err_from_is_err_and}
 use Rattle.std.specs.Prelude.{Err}
 use Rattle.std.specs.Result.{result_err}
 use Rattle.contract.specs.Rows.{node_of}
-use Rattle.statements.specs.Private.{reached, work_of}
+use Rattle.statements.specs.Running.{work_by, work_of}
 use Rattle.statements.proofs.Actions.{amount_refused, amount_unfit, amount_paid, amount_moved}
 use Rattle.statements.proofs.Runner.give_amount.Goals as goal
 
@@ -17,7 +17,7 @@ pub returns-in_err-n-clause-value : goal.returns-in_err-n-clause-value
 returns-in_err-n-clause-value c =
     let s = c.args in
     let p = err_from_is_err_and c.from_residual.result c.from_residual.ensures.1 in
-    ap (λ o. reached s.self.now (result_err o)) (p.1 ∙ ap Err p.2)
+    ap (λ o. work_by s.self.now (result_err o)) (p.1 ∙ ap Err p.2)
     ∙ amount_unfit (work_of s.self.now) s.self.now.table.now s.k s.answer _ c.in-Ok.is _ (sym c.amount.ensures ∙ c.in_err-n.was)
 
 pub returns-then-target-eq-PARTY-clause-value : goal.returns-then-target-eq-PARTY-clause-value
