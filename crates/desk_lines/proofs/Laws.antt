@@ -1,102 +1,64 @@
 -- Bytes that come to the front, the question of a report, and the numbers of what assets hold. Assumes nothing.
 use mathlib.Core.Path.{◌≡◌, refl, sym, ap, ◌∙◌}
-use mathlib.Core.Bool.{Bool, true, false, ◌||◌}
-use mathlib.Core.List.{List, [], ◌∷◌}
+use mathlib.Core.Bool.{Bool, true, false, not}
+use mathlib.Core.List.{List, [], ◌∷◌, ◌++◌}
+use mathlib.Core.Logic.{◌⊎◌, inl, inr}
 use Prim.Native.Nat.{ℕ, suc, ◌+◌, ◌*◌, ◌-◌, ◌<◌, ◌≤◌, min}
 use native.Mathlib.Numerals.{add-one}
 use native.Mathlib.Omega.{arith}
-use borrow.Author.Tests.{leb-true, eqb-true, ltb-true, ltb-false, lt-ltb, le-ltb}
+use borrow.Author.Tests.{leb-true, leb-false, le-leb, lt-leb, ltb-true, ltb-false}
 use lib.Dec.{eqb, ltb, leb}
-use lib.IntN.{ℤ, pos}
-use lib.ListN.{length, take, drop, get_or, set, length-set, length-take, length-drop, drop_of_length-le, get_or-eq_default}
-use lib.Seq.{take_all, sets, length-sets, drop-cons, get_or-take, get_or-drop, drop-drop, drop-set-lt, take-nil}
+use lib.IntN.{pos}
+use lib.ListN.{length, take, drop, get_or, length-take, length-drop, drop_of_length-le, get_or-eq_default}
+use lib.Seq.{take_all, take-take, sets, sets-eq, paste, length-sets, drop-cons, get_or-take, take-nil}
 use Rattle.laws.specs.Choice.{pick}
 use Rattle.tokens.specs.Tokens.{between}
-use Rattle.laws.proofs.Choice.{by_cases, true_false}
-use Rattle.laws.proofs.Truths.{first_true, second_true, either_true}
+use Rattle.std.specs.Prelude.{Some, None}
+use Rattle.std.specs.Bool.{then_some}
+use Rattle.laws.proofs.Choice.{pick_true, pick_false}
 use Rattle.results.specs.Coded.{coded, coded_all, report_from}
-use Rattle.results.specs.declared.Report.TheVariants.{Held}
+use Rattle.results.specs.declared.Report.{Report}
+use Rattle.results.specs.declared.Report.TheVariants.{Ruled, Sent, Held, Refused, Failed}
 use Rattle.desk_lines.specs.Blocks.{max_kept, kept, question_of, question_at, held_from}
-use Rattle.desk_lines.specs.Private.{kept_of}
 
--- ---- what is kept
+-- ---- bytes that come to the front
 
-module _ (bytes : List ℕ) (from end n : ℕ) (counted : n ≡ kept_of from end (length bytes)) where
-  pub kept_length : n ≡ length (kept bytes from end)
-  unfolding kept kept_of between pick
-  kept_length = counted ∙ go (leb from end) (leb end (length bytes)) refl refl
+first_of : (l : List ℕ) (m k n : ℕ) → n ≡ min m k → take m (take k l) ≡ take n l
+first_of l m k n e = go (leb m k) refl
+  where
+    go : (t : Bool) → leb m k ≡ t → take m (take k l) ≡ take n l
+    go true q = let h = leb-true m k q in take-take m k l h ∙ ap (λ (i : ℕ). take i l) (omega (arith, e))
+    go false q = let h = leb-false m k q in take_all m (take k l) (omega (arith, length-take k l)) ∙ ap (λ (i : ℕ). take i l) (omega (arith, e))
+
+module _ (old : List ℕ) (from end : ℕ) where
+  -- none, where they are not all in the buffer
+  pub bring_none : ((from ≤ end) × (length old < end)) ⊎ (end < from) → record { value : 0 ≡ length (kept old from end); bytes_after : old ≡ sets old 0 (kept old from end) }
+  unfolding kept between
+  bring_none h =
+      let k : kept old from end ≡ [] = ap (take max_kept) (none h) ∙ take-nil max_kept in
+      record { value = sym (ap (length {A = ℕ}) k); bytes_after = sym (ap (sets old 0) k) }
     where
-      none : 0 ≡ length {A = ℕ} (take {A = ℕ} max_kept [])
-      none = sym (ap (length {A = ℕ}) (take-nil {A = ℕ} max_kept))
+      none : ((from ≤ end) × (length old < end)) ⊎ (end < from) → pick (leb from end) (pick (leb end (length old)) (take (end - from) (drop from old)) []) [] ≡ []
+      none (inl l) = pick_true _ _ _ (le-leb from end l.0) ∙ pick_false _ _ _ (lt-leb end (length old) l.1)
+      none (inr l) = pick_false _ _ _ (lt-leb from end l)
 
-      go : (t u : Bool) → leb from end ≡ t → leb end (length bytes) ≡ u
-          → pick t (pick u (min max_kept (end - from)) 0) 0 ≡ length (take max_kept (pick t (pick u (take (end - from) (drop from bytes)) []) []))
-      go true true e f = simp (length-take, length-drop) (omega (arith, leb-true from end e, leb-true end (length bytes) f))
-      go true false e f = none
-      go false u e f = none
-
-  -- a place of what is kept stands in the buffer
-  pub kept_place : (i : ℕ) → i < n → from + i < length bytes
-  unfolding kept_of pick
-  kept_place i h = go (leb from end) (leb end (length bytes)) refl refl counted
-    where
-      go : (t u : Bool) → leb from end ≡ t → leb end (length bytes) ≡ u → n ≡ pick t (pick u (min max_kept (end - from)) 0) 0 → from + i < length bytes
-      go true true e f k = omega (arith, leb-true from end e, leb-true end (length bytes) f)
-      go true false e f k = omega arith
-      go false u e f k = omega arith
-
-  kept_at : (i : ℕ) → i < n → get_or (kept bytes from end) i 0 ≡ get_or bytes (from + i) 0
-  unfolding kept kept_of between pick
-  kept_at i h = go (leb from end) (leb end (length bytes)) counted
-    where
-      go : (t u : Bool) → n ≡ pick t (pick u (min max_kept (end - from)) 0) 0 → get_or (take max_kept (pick t (pick u (take (end - from) (drop from bytes)) []) [])) i 0 ≡ get_or bytes (from + i) 0
-      go true true k = get_or-take max_kept (take (end - from) (drop from bytes)) i 0 (omega arith) ∙ get_or-take (end - from) (drop from bytes) i 0 (omega arith) ∙ get_or-drop from bytes i 0
-      go true false k = absurd (omega arith)
-      go false u k = absurd (omega arith)
-
--- ---- bytes come to the front
-
--- what stands from place i on is as it was, and the rest of what is kept is still to be written
-pub record Brought (old : List ℕ) (from end i : ℕ) (new : List ℕ) : Type 0 where
-  pub size : length new ≡ length old
-  pub after : drop i new ≡ drop i old
-  pub rest : sets new i (drop i (kept old from end)) ≡ sets old 0 (kept old from end)
-
-pub bring_none : (old : List ℕ) (from end : ℕ) → Brought old from end 0 old
-bring_none old from end = record { size = refl; after = refl; rest = refl }
-
-module _ {old new : List ℕ} {from end i : ℕ} (b : Brought old from end i new) (n : ℕ) (counted : n ≡ kept_of from end (length old)) where
-  -- what is read from a place at or after i is as it was
-  as_it_was : get_or new (from + i) 0 ≡ get_or old (from + i) 0
-  as_it_was =
-      let e : from + i ≡ i + from = omega arith in
-      ap (λ (k : ℕ). get_or new k 0) e ∙ sym (get_or-drop i new from 0) ∙ ap (λ (l : List ℕ). get_or l from 0) b.after ∙ get_or-drop i old from 0 ∙ ap (λ (k : ℕ). get_or old k 0) (sym e)
-
-  onward : (l : List ℕ) → drop 1 (drop i l) ≡ drop (suc i) l
-  onward l =
-      let e : i + 1 ≡ suc i = omega arith in
-      drop-drop 1 i l ∙ ap (λ (k : ℕ). drop k l) e
-
-  pub bring_place : i < n → from + i < length new
-  bring_place h = omega (arith, kept_place old from end n counted i h, b.size)
-
-  pub bring_turn : i < n → Brought old from end (i + 1) (set new i (get_or new (from + i) 0))
-  bring_turn h =
-      let v : ℕ = get_or new (from + i) 0 in
-      let e : get_or (kept old from end) i 0 ≡ v = kept_at old from end n counted i h ∙ sym as_it_was in
-      let within : i < length (kept old from end) = omega (arith, kept_length old from end n counted) in
-      rw add-one
-      (record {
-        size = length-set new i v ∙ b.size;
-        after = drop-set-lt (suc i) new i v (omega arith) ∙ sym (onward new) ∙ ap (drop 1) b.after ∙ onward old;
-        rest = ap (λ (x : ℕ). sets (set new i x) (suc i) (drop (suc i) (kept old from end))) (sym e) ∙ ap (sets new i) (sym (drop-cons (kept old from end) i 0 within)) ∙ b.rest;
-      })
-
-  pub bring_end : n ≤ i → record { value : n ≡ length (kept old from end); bytes_after : new ≡ sets old 0 (kept old from end) }
-  bring_end h =
-      let l = kept_length old from end n counted in
-      let none : length (kept old from end) ≤ i = omega (arith, l) in
-      record { value = l; bytes_after = ap (sets new i) (sym (drop_of_length-le (kept old from end) none)) ∙ b.rest }
+  -- as many as are kept
+  pub bring_all : {n : ℕ} {new : List ℕ} → from ≤ end → end ≤ length old → n ≡ min max_kept (end - from) → new ≡ paste old 0 (drop from old) (from + n - from)
+      → record { value : n ≡ length (kept old from end); bytes_after : new ≡ sets old 0 (kept old from end) }
+  unfolding kept between
+  bring_all {n} h k e c =
+      let b : between old from end ≡ take (end - from) (drop from old) = pick_true _ _ _ (le-leb from end h) ∙ pick_true _ _ _ (le-leb end (length old) k) in
+      let w : kept old from end ≡ take n (drop from old) = ap (take max_kept) b ∙ first_of (drop from old) max_kept (end - from) n e in
+      let long : length (kept old from end) ≡ n = ap length w ∙ length-take n (drop from old) ∙ omega (arith, length-drop from old, e) in
+      let m : from + n - from ≡ n = omega arith in
+      record {
+        value = sym long;
+        bytes_after =
+            c
+            ∙ ap (paste old 0 (drop from old)) m
+            ∙ (λ i. sym w i ++ drop (0 + sym long i) old)
+            ∙ sym (sets-eq (kept old from end) old 0 (omega (arith, long, e)));
+      }
 
 -- ---- what assets hold
 
@@ -154,40 +116,29 @@ holds_all {old} {assets} {new} {n} {i} b m e h =
 
 -- ---- the question of a report
 
-module _ (which a b c : ℕ) (z : ℤ) where
-  pub question_told : a < 256 → (eqb which 4 || eqb which 5) ≡ true → a ≡ question_of (report_from which a b c z)
-  unfolding question_of report_from pick
-  question_told h e =
-      either_true (eqb which 4) (eqb which 5) e
-      (λ f. rw (eqb-true which 4 f, lt-ltb a 256 h))
-      (λ f. rw (eqb-true which 5 f, lt-ltb a 256 h))
+-- by the four words read
+pub question_read : (ns : List ℕ) (i : ℕ) {r : Report} {a b c d : ℕ} → a ≡ get_or ns (4 * i) 0 → b ≡ get_or ns (4 * i + 1) 0 → c ≡ get_or ns (4 * i + 2) 0 → d ≡ get_or ns (4 * i + 3) 0
+    → r ≡ report_from a b c d (pos 0) → question_of r ≡ question_at ns i
+unfolding question_at
+question_read ns i p q s t e = ap question_of (e ∙ λ k. report_from (p k) (q k) (s k) (t k) (pos 0))
 
-  pub question_large : 256 ≤ a → 0 ≡ question_of (report_from which a b c z)
-  unfolding question_of report_from pick
-  question_large h = rw (le-ltb a 256 h)
+-- past the numbers all four are 0
+pub question_past : (ns : List ℕ) (i : ℕ) → length ns < i → None ≡ question_at ns i
+unfolding question_of report_from pick
+question_past ns i h =
+    let none : (k : ℕ) → 4 * i ≤ k → 0 ≡ get_or ns k 0 = λ k l. let beyond : length ns ≤ k = omega arith in sym (get_or-eq_default ns 0 beyond) in
+    question_read ns i {r = Refused 0} (none _ (omega arith)) (none _ (omega arith)) (none _ (omega arith)) (none _ (omega arith)) refl
 
-  pub question_none : (eqb which 4 || eqb which 5) ≡ false → 0 ≡ question_of (report_from which a b c z)
-  unfolding question_of report_from
-  question_none e =
-      by_cases (λ r. 0 ≡ question_of r) (ltb a 256) _ _
-      (λ _. by_cases (λ r. 0 ≡ question_of r) (eqb which 1) _ _ (λ _. refl)
-      (λ _. by_cases (λ r. 0 ≡ question_of r) (eqb which 2) _ _ (λ _. refl)
-      (λ _. by_cases (λ r. 0 ≡ question_of r) (eqb which 3) _ _ (λ _. refl)
-      (λ _. by_cases (λ r. 0 ≡ question_of r) (eqb which 4) _ _ (λ f. true_false (sym (first_true (eqb which 5) f) ∙ e))
-      (λ _. by_cases (λ r. 0 ≡ question_of r) (eqb which 5) _ _ (λ f. true_false (sym (second_true (eqb which 4) f) ∙ e)) (λ _. refl))))))
-      (λ _. refl)
+pub question_told : {r : Report} (n : ℕ) → (r ≡ Refused n) ⊎ (r ≡ Failed n) → then_some (not (eqb n 0)) n ≡ question_of r
+unfolding question_of pick
+question_told n e =
+    elim (eqb n 0) as (λ t. then_some (not t) n ≡ pick t None (Some n)) [ true ↦ refl | false ↦ refl ]
+    ∙ elim e [ inl p ↦ sym (ap question_of p) | inr p ↦ sym (ap question_of p) ]
 
--- of the numbers in a row
-module _ (ns : List ℕ) (i : ℕ) where
-  pub question_past : length ns < i → 0 ≡ question_at ns i
-  unfolding question_at
-  question_past h =
-      let beyond : length ns ≤ 4 * i = omega arith in
-      let e : 0 ≡ get_or ns (4 * i) 0 = sym (get_or-eq_default ns 0 beyond) in
-      question_none _ _ _ _ _ (ap (λ (w : ℕ). eqb w 4 || eqb w 5) (sym e))
-
-  -- the first two are those read
-  pub question_read : {which a q : ℕ} → which ≡ get_or ns (4 * i) 0 → a ≡ get_or ns (4 * i + 1) 0 → ((b c : ℕ) (z : ℤ) → q ≡ question_of (report_from which a b c z))
-      → q ≡ question_at ns i
-  unfolding question_at
-  question_read e f g = g _ _ _ ∙ (λ k. question_of (report_from (e k) (f k) (get_or ns (4 * i + 2) 0) (get_or ns (4 * i + 3) 0) (pos 0)))
+pub question_none : (r : Report) → ((n : ℕ) → r ≡ Refused n → ⊥) → ((n : ℕ) → r ≡ Failed n → ⊥) → None ≡ question_of r
+unfolding question_of
+question_none (Ruled a b c) f g = refl
+question_none (Sent a b c) f g = refl
+question_none (Held a b) f g = refl
+question_none (Refused n) f g = absurd (f n refl)
+question_none (Failed n) f g = absurd (g n refl)

@@ -1,6 +1,6 @@
 -- A session's bytes in a buffer: what is kept of a line that has not ended, the last line; the question of a result line, and what each
 -- asset holds at the end.
-use Rattle.std.specs.Prelude.{ℕ, suc, ◌+◌, ◌*◌, List, [], ◌∷◌, get_or, take, set, eqb, ltb, pos}
+use Rattle.std.specs.Prelude.{ℕ, suc, ◌+◌, ◌*◌, List, [], ◌∷◌, get_or, take, set, eqb, ltb, pos, Option, Some, None}
 use Rattle.laws.specs.Choice.{pick}
 use Rattle.tokens.specs.Tokens.{between}
 use Rattle.contract.specs.Rows.{head_of}
@@ -25,16 +25,20 @@ closed_size room size = pick (eqb size 0) 0 (pick (ltb size room) (suc size) 0)
 unfoldable pub closed : List ℕ → ℕ → List ℕ
 closed bytes size = pick (eqb size 0) bytes (set bytes size 10)
 
--- the question that refused a line, or that a failed firing met; 0 for any other result
-unfoldable pub question_of : Report → ℕ
-question_of (Ruled rule state clock) = 0
-question_of (Sent kind party value) = 0
-question_of (Held asset amount) = 0
-question_of (Refused n) = n
-question_of (Failed n) = n
+-- a question's number: none has 0
+abbrev pub numbered : ℕ → Option ℕ
+numbered n = pick (eqb n 0) None (Some n)
+
+-- the number of the question that refused a line, or that a failed firing met; none for any other result
+unfoldable pub question_of : Report → Option ℕ
+question_of (Ruled rule state clock) = None
+question_of (Sent kind party value) = None
+question_of (Held asset amount) = None
+question_of (Refused n) = numbered n
+question_of (Failed n) = numbered n
 
 -- the question of report i of those in a row, by its four numbers; its integer says nothing of it
-unfoldable pub question_at : List ℕ → ℕ → ℕ
+unfoldable pub question_at : List ℕ → ℕ → Option ℕ
 question_at numbers i =
     question_of (report_from (get_or numbers (4 * i) 0) (get_or numbers (4 * i + 1) 0) (get_or numbers (4 * i + 2) 0) (get_or numbers (4 * i + 3) 0) (pos 0))
 

@@ -1,2 +1,1 @@
 pub mod Blocks
-pub mod Private

@@ -2,12 +2,10 @@
 // and what each asset holds at the end.
 #![tactic(auto)]
 
-ghost use Rattle.std.specs.Prelude.{◌≡◌, ◌+◌, ◌*◌, ◌<◌, min, length};
+ghost use Rattle.std.specs.Prelude.{◌≡◌, ◌+◌, min, length};
 ghost use Rattle.std.proofs.lemmas.List.Edits.{sets};
-ghost use Rattle.results.specs.Coded.{coded, coded_all};
-ghost use Rattle.results.specs.declared.Report.TheVariants.{Held};
+ghost use Rattle.results.specs.Coded.{coded_all};
 ghost use Rattle.desk_lines.specs.Blocks.{kept, closed_size, closed, question_at, holdings};
-ghost use Rattle.desk_lines.specs.Private.{kept_of};
 
 use contract::Contract;
 use lines::Line;
@@ -24,76 +22,59 @@ pub fn past(at: usize, n: usize, size: usize) -> usize
     at.saturating_add(n).min(size)
 }
 
-// How many bytes are kept from a place up to an end, of so many.
-fn count(from: usize, end: usize, size: usize) -> usize
-    ensures { result ≡ kept_of from end size }
-{
-    if from <= end {
-        if end <= size {
-            return KEPT.min(end - from);
-        }
-    }
-    0
-}
-
 // The bytes from a place up to an end come to the front, as many as are kept; answers how many.
 // Kept: (a) from and end may be any numbers, and the clauses say what comes of those past the buffer, which a slice of it can't tell.
 pub fn bring(bytes: &mut [u8], from: usize, end: usize) -> usize
     ensures value { result ≡ length (kept bytes.old from end) }
     ensures bytes_after { bytes.new ≡ sets bytes.old 0 (kept bytes.old from end) }
 {
-    let n = count(from, end, bytes.len());
-    for i in 0..n {
-        bytes[i] = bytes[from + i];
+    if from <= end && end <= bytes.len() {
+        let n = KEPT.min(end - from);
+        bytes.copy_within(from..from + n, 0);
+        return n;
     }
-    n
+    0
 }
 
-// A last line without LF counts if it has a byte: it gets its LF. Answers how many bytes there are then.
+// A last line without LF counts if it has a byte: it gets its LF. Answers how many bytes there are then, and 0 where it has none or there is no
+// place for its LF.
 // Kept: (a) the size may be any number, as above; the LF is stored past it.
 pub fn close(bytes: &mut [u8], size: usize) -> usize
     ensures value { result ≡ closed_size (length bytes.old) size }
     ensures bytes_after { bytes.new ≡ closed bytes.old size }
 {
-    if size == 0 {
-        return 0;
-    }
-    if size < bytes.len() {
+    if 0 < size && size < bytes.len() {
         bytes[size] = b'\n';
         return size + 1;
     }
     0
 }
 
-// The question of report i of those in a row: the one that refused a line, or that a failed firing met; else 0.
-pub fn question_of(numbers: &[u64], i: usize) -> u8
+// The number of the question of report i of those in a row: of the one that refused a line, or that a failed firing met. A report that names no
+// question (`Report::NONE`) has the number 0, and there is none.
+// Kept: (a) any place may be asked, also that of a report of which only some words are there: those past the end are 0, while `report_at` takes
+// such a one for no report; it needs the integers too.
+pub fn question_of(numbers: &[u64], i: usize) -> Option<u8>
     ensures { result ≡ question_at numbers.now i }
 {
+    // so that the place has no overflow
     if numbers.len() < i {
-        return 0;
+        return None;
     }
     let at = Report::WORDS * i;
-    let which = contract::word(numbers, at);
-    let question = contract::word(numbers, at + 1);
-    if question < 256 {
-        if (which == 4) | (which == 5) {
-            return question as u8;
+    let report = Report::from_numbers(
+        contract::word(numbers, at),
+        contract::word(numbers, at + 1),
+        contract::word(numbers, at + 2),
+        contract::word(numbers, at + 3),
+        0,
+    );
+    match report {
+        Report::Refused(question) | Report::Failed(question) => {
+            (question != 0).then_some(question)
         }
+        _ => None,
     }
-    0
-}
-
-// The result line of what asset i holds, as four numbers.
-// Kept: (d) no buffer with a place: i is the asset, and its numbers stand where it says.
-fn put_held(numbers: &mut [u64], i: usize, amount: u64)
-    requires { i < 16 }
-    ensures { numbers.new ≡ sets numbers.old (4 * i) (coded (Held i amount)) }
-{
-    let at = Report::WORDS * i;
-    items::set(numbers, at, 3);
-    items::set(numbers, at + 1, i as u64);
-    items::set(numbers, at + 2, amount);
-    items::set(numbers, at + 3, 0);
 }
 
 // The result lines of what each asset holds, as numbers; answers how many they are.
@@ -103,9 +84,9 @@ pub fn held(table: &[u64], s: State, numbers: &mut [u64]) -> usize
 {
     let c = contract::head(table);
     let count = c.assets.min(Contract::ASSETS);
-    let amounts = s.assets;
-    for i in 0..count {
-        put_held(numbers, i, amounts[i]);
+    for (i, amount) in s.assets[..count].iter().enumerate() {
+        let report = Report::Held(i, *amount);
+        items::store_all(numbers, Report::WORDS * i, &report.numbers());
     }
     count
 }

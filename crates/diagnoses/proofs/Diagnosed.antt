@@ -1,22 +1,20 @@
 -- The pieces of a diagnosis put together, and how long they are. Assumes nothing.
-use mathlib.Core.Path.{◌≡◌, refl, sym, ap, subst, ◌∙◌}
-use mathlib.Core.Bool.{true, false, ◌||◌}
+use mathlib.Core.Path.{◌≡◌, sym, ap, subst, ◌∙◌}
+use mathlib.Core.Logic.{◌⊎◌, inl, inr}
+use mathlib.Core.Bool.{Bool, true, false, ◌&&◌, ◌||◌}
 use mathlib.Core.List.{List, [], ◌∷◌, ◌++◌, append-nil}
 use Prim.Native.Nat.{ℕ, ◌+◌, ◌-◌, ◌^◌, ◌<◌, ◌≤◌}
 use native.Mathlib.Omega.{arith}
-use native.Mathlib.Nat.{add-zero}
 use lib.ListN.{length, drop, length-append}
-use lib.Dec.{eqb, ltb}
-use borrow.Author.Tests.{lt-ltb, le-ltb}
+use lib.Dec.{eqb, ltb, leb}
+use borrow.Author.Tests.{lt-ltb, le-ltb, le-leb, lt-leb}
+use Rattle.laws.proofs.Truths.{both_true, and_false}
 use Rattle.laws.specs.Bytes.{bytes}
 use Rattle.laws.proofs.Choice.{pick_true, pick_false}
 use Rattle.tokens.specs.Tokens.{between}
 use Rattle.printing.specs.Decimal.{decimal}
 use Rattle.printing.specs.Pieces.{Put, spaces}
-use Rattle.printing.specs.Writers.{Puts, Wrote, HasRoom}
-use Rattle.printing.specs.declared.Writer.{Writer}
-use Rattle.printing.proofs.Puts.{over, line_end_lem}
-use Rattle.printing.proofs.Writers.{wrote_of, wrote_piece, wrote_same, wrote_nothing, wrote_then}
+use Rattle.printing.proofs.Puts.{Puts, put_of, piece, same, put_nothing, then, over, line_end_lem}
 use Rattle.printing.proofs.Digits.{word_short}
 use Rattle.printing.proofs.Names.{spaces_long}
 use Rattle.question_words.specs.Words.{words_of}
@@ -38,58 +36,58 @@ what_short n h = simp length-append (omega (arith, words_short n, word_short n h
 
 -- ---- lines
 
-module _ {old : Writer} where
-  pub where_made : {m1 m2 m3 m4 m5 new : Writer} (file : List ℕ) (line column : ℕ)
-      → length file ≤ 1024 → line < 2 ^ 64 → column < 2 ^ 64 → HasRoom 1068 old
-      → Puts old file m1 → Puts m1 (bytes ":") m2 → Puts m2 (decimal line) m3 → Puts m3 (bytes ":") m4
-      → Puts m4 (decimal column) m5 → Puts m5 (bytes ": ") new → Wrote old (where_text file line column) new
+module _ {old : List ℕ} {at : ℕ} where
+  pub where_made : {s1 s2 s3 s4 s5 s6 : Type 0} {m1 m2 m3 m4 m5 new : List ℕ} {a1 a2 a3 a4 a5 end : ℕ} (file : List ℕ) (line column : ℕ)
+      → length file ≤ 1024 → line < 2 ^ 64 → column < 2 ^ 64 → at + 1068 ≤ length old
+      → Puts old at file a1 m1 s1 → Puts m1 a1 (bytes ":") a2 m2 s2 → Puts m2 a2 (decimal line) a3 m3 s3 → Puts m3 a3 (bytes ":") a4 m4 s4
+      → Puts m4 a4 (decimal column) a5 m5 s5 → Puts m5 a5 (bytes ": ") end new s6 → Put old at (where_text file line column) end new
   unfolding where_text
   where_made file line column f l k r a b d e g i =
-      let h : HasRoom (length (where_text file line column)) old = omega (arith, where_short file line column f l k, r) in
-      wrote_piece file h a λ h. wrote_piece (bytes ":") h b λ h. wrote_piece (decimal line) h d λ h. wrote_piece (bytes ":") h e λ h. wrote_piece (decimal column) h g λ h. wrote_of (bytes ": ") i h
+      let h : at + length (where_text file line column) ≤ length old = omega (arith, where_short file line column f l k, r) in
+      piece file h a λ h. piece (bytes ":") h b λ h. piece (decimal line) h d λ h. piece (bytes ":") h e λ h. piece (decimal column) h g λ h. put_of (bytes ": ") i h
 
-  pub what_made : {m1 m2 m3 new : Writer} (number : ℕ) → number < 2 ^ 64 → HasRoom 88 old
-      → Puts old (words_of number) m1 → Puts m1 (bytes " (") m2 → Puts m2 (decimal number) m3 → Puts m3 (bytes ")\n") new
-      → Wrote old (what_text number) new
+  pub what_made : {s1 s2 s3 s4 : Type 0} {m1 m2 m3 new : List ℕ} {a1 a2 a3 end : ℕ} (number : ℕ) → number < 2 ^ 64 → at + 88 ≤ length old
+      → Puts old at (words_of number) a1 m1 s1 → Puts m1 a1 (bytes " (") a2 m2 s2 → Puts m2 a2 (decimal number) a3 m3 s3 → Puts m3 a3 (bytes ")\n") end new s4
+      → Put old at (what_text number) end new
   unfolding what_text
   what_made number f r a b d e =
-      let h : HasRoom (length (what_text number)) old = omega (arith, what_short number f, r) in
-      wrote_piece (words_of number) h a λ h. wrote_piece (bytes " (") h b λ h. wrote_piece (decimal number) h d λ h. wrote_of (bytes ")\n") e h
+      let h : at + length (what_text number) ≤ length old = omega (arith, what_short number f, r) in
+      piece (words_of number) h a λ h. piece (bytes " (") h b λ h. piece (decimal number) h d λ h. put_of (bytes ")\n") e h
 
-  pub mark_none : (column : ℕ) → 200 < column → HasRoom 0 old → Wrote old (mark_under column) old
+  pub mark_none : (column : ℕ) → 200 < column → at + 0 ≤ length old → Put old at (mark_under column) at old
   unfolding mark_under
   mark_none column h r =
-      wrote_same (sym (pick_true (ltb 200 column) [] (spaces (column - 1) ++ bytes "^\n") (lt-ltb 200 column h))) (wrote_nothing old r)
+      same (sym (pick_true (ltb 200 column) [] (spaces (column - 1) ++ bytes "^\n") (lt-ltb 200 column h))) (put_nothing (omega (arith, r)))
 
-  pub mark_made : {mid new : Writer} (column : ℕ) → 1 ≤ column → column ≤ 200 → HasRoom 201 old → Puts old (spaces (column - 1)) mid
-      → Puts mid (bytes "^\n") new → Wrote old (mark_under column) new
+  pub mark_made : {s1 s2 : Type 0} {mid new : List ℕ} {m end : ℕ} (column : ℕ) → 1 ≤ column → column ≤ 200 → at + 201 ≤ length old → Puts old at (spaces (column - 1)) m mid s1
+      → Puts mid m (bytes "^\n") end new s2 → Put old at (mark_under column) end new
   unfolding mark_under
   mark_made column f k r p q =
-      let h : HasRoom (length (spaces (column - 1) ++ bytes "^\n")) old = omega (arith, length-append (spaces (column - 1)) (bytes "^\n"), spaces_long (column - 1)) in
-      wrote_same (sym (pick_false (ltb 200 column) [] (spaces (column - 1) ++ bytes "^\n") (le-ltb 200 column k))) (wrote_piece (spaces (column - 1)) h p λ h. wrote_of (bytes "^\n") q h)
+      let h : at + length (spaces (column - 1) ++ bytes "^\n") ≤ length old = omega (arith, length-append (spaces (column - 1)) (bytes "^\n"), spaces_long (column - 1)) in
+      same (sym (pick_false (ltb 200 column) [] (spaces (column - 1) ++ bytes "^\n") (le-ltb 200 column k))) (piece (spaces (column - 1)) h p λ h. put_of (bytes "^\n") q h)
 
-  pub source_made : {line : List ℕ} {m1 m2 new : Writer} (text : List ℕ) (p : Place) → line ≡ between text p.start p.end
-      → Wrote old (shown_line line) m1 → Wrote m1 (10 ∷ []) m2 → Wrote m2 (mark_under p.column) new → Wrote old (source_text text p) new
+  pub source_made : {line : List ℕ} {m1 m2 new : List ℕ} {a1 a2 end : ℕ} (text : List ℕ) (p : Place) → line ≡ between text p.start p.end
+      → Put old at (shown_line line) a1 m1 → Put m1 a1 (10 ∷ []) a2 m2 → Put m2 a2 (mark_under p.column) end new → Put old at (source_text text p) end new
   unfolding source_text
   source_made {line} text p e a b d =
-      wrote_same (ap (λ (l : List ℕ). shown_line l ++ (bytes "\n" ++ mark_under p.column)) e) (wrote_then a (wrote_then b d))
+      same (ap (λ (l : List ℕ). shown_line l ++ (bytes "\n" ++ mark_under p.column)) e) (then a (then b d))
 
   -- questions 1 and 2
-  pub diagnosed_short : {p : Place} {mid new : Writer} (file text : List ℕ) (number q : ℕ) → p ≡ place_of text q
-      → (eqb number 1 || eqb number 2) ≡ true → Wrote old (where_text file p.line p.column) mid → Wrote mid (what_text number) new
-      → Wrote old (diagnosis file text number q) new
+  pub diagnosed_short : {p : Place} {mid new : List ℕ} {m end : ℕ} (file text : List ℕ) (number q : ℕ) → p ≡ place_of text q
+      → (eqb number 1 || eqb number 2) ≡ true → Put old at (where_text file p.line p.column) m mid → Put mid m (what_text number) end new
+      → Put old at (diagnosis file text number q) end new
   unfolding diagnosis_at
-  diagnosed_short {p} {mid} {new} file text number q e t a b =
-      subst (λ (o : Place). Wrote old (diagnosis_at file text number o) new) e
-      (wrote_then a (wrote_same (sym (ap (λ (l : List ℕ). what_text number ++ l) (pick_true (eqb number 1 || eqb number 2) [] (source_text text p) t) ∙ append-nil (what_text number))) b))
+  diagnosed_short {p = p} {new = new} {end = end} file text number q e t a b =
+      subst (λ (o : Place). Put old at (diagnosis_at file text number o) end new) e
+      (then a (same (sym (ap (λ (l : List ℕ). what_text number ++ l) (pick_true (eqb number 1 || eqb number 2) [] (source_text text p) t) ∙ append-nil (what_text number))) b))
 
-  pub diagnosed : {p : Place} {m1 m2 new : Writer} (file text : List ℕ) (number q : ℕ) → p ≡ place_of text q
-      → (eqb number 1 || eqb number 2) ≡ false → Wrote old (where_text file p.line p.column) m1 → Wrote m1 (what_text number) m2
-      → Wrote m2 (source_text text p) new → Wrote old (diagnosis file text number q) new
+  pub diagnosed : {p : Place} {m1 m2 new : List ℕ} {a1 a2 end : ℕ} (file text : List ℕ) (number q : ℕ) → p ≡ place_of text q
+      → (eqb number 1 || eqb number 2) ≡ false → Put old at (where_text file p.line p.column) a1 m1 → Put m1 a1 (what_text number) a2 m2
+      → Put m2 a2 (source_text text p) end new → Put old at (diagnosis file text number q) end new
   unfolding diagnosis_at
-  diagnosed {p} {m1} {m2} {new} file text number q e t a b d =
-      subst (λ (o : Place). Wrote old (diagnosis_at file text number o) new) e
-      (wrote_then a (wrote_same (sym (ap (λ (l : List ℕ). what_text number ++ l) (pick_false (eqb number 1 || eqb number 2) [] (source_text text p) t))) (wrote_then b d)))
+  diagnosed {p = p} {new = new} {end = end} file text number q e t a b d =
+      subst (λ (o : Place). Put old at (diagnosis_at file text number o) end new) e
+      (then a (same (sym (ap (λ (l : List ℕ). what_text number ++ l) (pick_false (eqb number 1 || eqb number 2) [] (source_text text p) t))) (then b d)))
 
 pub column_counts : (text : List ℕ) (q : ℕ) {p : Place} → p ≡ place_of text q → 1 ≤ p.column
 unfolding column_of
@@ -109,6 +107,13 @@ module _ (file text : List ℕ) (number q : ℕ) where
       → record { value : 0 ≡ written file text number q (length old); buffer_after : old ≡ buffer_after file text number q old }
   none_written old t = record { value = sym (pick_false _ _ _ t); buffer_after = sym (pick_false _ _ _ t) }
 
--- the two questions without a place, by their numbers
-pub told : (n : ℕ) {a b : ℕ} → a ≡ 1 → b ≡ 2 → (eqb n 1 || eqb n 2) ≡ (eqb n a || eqb n b)
-told n e f = λ i. eqb n (sym e i) || eqb n (sym f i)
+-- ---- whether it fits
+
+pub fits_both : {name room : ℕ} → name ≤ 1024 → 2048 ≤ room → fits name room ≡ true
+unfolding fits
+fits_both {name} {room} h k = both_true (leb name 1024) (leb 2048 room) (le-leb name 1024 h) (le-leb 2048 room k)
+
+pub fits_not : {name room : ℕ} → (1024 < name) ⊎ ((name ≤ 1024) × (room < 2048)) → fits name room ≡ false
+unfolding fits
+fits_not {name} {room} (inl h) = ap (λ (b : Bool). b && leb 2048 room) (lt-leb name 1024 h)
+fits_not {name} {room} (inr h) = ap (λ (b : Bool). leb name 1024 && b) (lt-leb 2048 room h.1) ∙ and_false (leb name 1024)

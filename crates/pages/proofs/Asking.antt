@@ -1,8 +1,10 @@
 -- Question 61 as the code asks it. Assumes nothing.
-use mathlib.Core.Path.{◌≡◌, refl, sym, ap, subst, ◌∙◌}
-use mathlib.Core.Bool.{Bool, true, false, not, ◌&&◌, ◌||◌}
+use Rattle.std.specs.List.{list_all, range_with_len}
+use mathlib.Core.Logic.{◌⊎◌, inl, inr}
+use mathlib.Core.Path.{◌≡◌, refl, sym, ap, ◌∙◌}
+use mathlib.Core.Bool.{Bool, true, false, ◌&&◌, ◌||◌}
 use mathlib.Core.List.{List}
-use Prim.Native.Nat.{ℕ, ◌+◌, ◌-◌, ◌*◌, ◌/◌, ◌<◌, ◌≤◌, max}
+use Prim.Native.Nat.{ℕ, zero, suc, ◌+◌, ◌-◌, ◌*◌, ◌/◌, ◌<◌, ◌≤◌, max}
 use native.Mathlib.Nat.{zero-add}
 use native.Mathlib.Omega.{arith}
 use lib.ListN.{length, get_or}
@@ -14,14 +16,14 @@ use mir.Syntax.{w64}
 use mir.Val.{SFits}
 use Rattle.laws.specs.Lists.{every}
 use Rattle.laws.proofs.Choice.{pick_false, true_false}
-use Rattle.laws.proofs.Truths.{both_left, both_right, both_true, not_true}
+use Rattle.laws.proofs.Truths.{both_left, both_right, both_true}
 use Rattle.laws.proofs.Members.{every_at}
 use Rattle.contract.specs.Limits.{top}
 use Rattle.contract.specs.Tree.{Contract}
 use Rattle.contract.specs.Table.{word_at}
 use Rattle.contract.specs.Decode.{each_from, contract_of}
 use Rattle.contract_laws.proofs.Inversions.{by_test}
-use Rattle.contract_laws.proofs.Members.{length_each, get_or_each, every_row}
+use Rattle.contract_laws.proofs.Members.{length_each, get_or_each}
 use Rattle.contract_laws.proofs.Sound.{counts}
 use Rattle.pages.specs.Entries.{no_entry, is_payout, entry_at, entries_of}
 use Rattle.pages.proofs.Widths.{says}
@@ -90,45 +92,23 @@ not_whole c ns zs h =
     true_false (sym p ∙ ap (is_payout c) q ∙ none_pays c))
     λ e. sym e
 
-not_false : (b : Bool) → not b ≡ false → b ≡ true
-not_false true e = refl
-not_false false e = true_false e
+-- one that does not stand there whole does not pass
+pub broken_fails : {p : Type 0} (c : Contract) (ns : List ℕ) (zs : List ℤ) (i : ℕ) → (length ns / 5 ≤ i) ⊎ (p × (length zs ≤ i)) → false ≡ is_payout c (entry_at ns zs i)
+broken_fails c ns zs i (inl h) = sym (ap (is_payout c) (entry_broken ns zs i (λ k l. omega arith)) ∙ none_pays c)
+broken_fails c ns zs i (inr h) = let e = h.1 in sym (ap (is_payout c) (entry_broken ns zs i (λ k l. omega arith)) ∙ none_pays c)
 
--- the entries before i are payouts
-pub record Passed (c : Contract) (ns : List ℕ) (zs : List ℤ) (i : ℕ) : Type 0 where
-  pub few : i ≤ length zs
-  pub each : (j : ℕ) → j < i → is_payout c (entry_at ns zs j) ≡ true
+-- a test of n entries, as `all` asks it
+all_each : {A : Type 0} (p : A → Bool) (f : ℕ → A) (n i : ℕ) → list_all (λ j. p (f j)) (range_with_len i n) ≡ every p (each_from i n f)
+unfolding each_from every
+all_each p f zero i = refl
+all_each p f (suc n) i =
+    let e : i + 1 ≡ suc i = omega arith in
+    ap (λ (b : Bool). p (f i) && b) (all_each p f n (i + 1) ∙ ap (λ (j : ℕ). every p (each_from j n f)) e)
 
-module _ {c : Contract} {ns : List ℕ} {zs : List ℤ} where
-  pub passed_none : Passed c ns zs 0
-  passed_none = record { few = omega arith; each = λ j l. absurd (omega arith) }
-
-  module _ {i : ℕ} (p : Passed c ns zs i) {r : Bool} (e : r ≡ is_payout c (entry_at ns zs i)) where
-    pub passed_more : i < length zs → not r ≡ false → Passed c ns zs (i + 1)
-    passed_more h t =
-        record {
-          few = omega arith;
-          each = λ j l.
-              by_test (ltb j i) (λ k. p.each j (ltb-true j i k)) λ k.
-              let q : i ≡ j = omega (arith, ltb-false j i k) in
-              subst (λ (m : ℕ). is_payout c (entry_at ns zs m) ≡ true) q (sym e ∙ not_false r t);
-        }
-
-    pub passed_not : length ns ≡ 5 * length zs → i < length zs → not r ≡ true → false ≡ every (is_payout c) (entries_of ns zs)
-    passed_not w h t =
-        by_test (every (is_payout c) (entries_of ns zs))
-        (λ a.
-        let b : every (is_payout c) (each_from 0 (length zs) (entry_at ns zs)) ≡ true = sym (ap (every (is_payout c)) (entries_whole ns zs w)) ∙ a in
-        let d : is_payout c (get_or (each_from 0 (length zs) (entry_at ns zs)) i no_entry) ≡ true =
-        every_at (is_payout c) (each_from 0 (length zs) (entry_at ns zs)) b i (omega (arith, length_each 0 (length zs) (entry_at ns zs))) no_entry in
-        let q = get_or_each 0 (length zs) (entry_at ns zs) i no_entry h ∙ ap (entry_at ns zs) (zero-add i) in
-        true_false (sym d ∙ ap (is_payout c) q ∙ sym e ∙ not_true r t))
-        λ a. sym a
-
-  pub passed_all : {i : ℕ} → Passed c ns zs i → length ns ≡ 5 * length zs → length zs ≤ i → true ≡ every (is_payout c) (entries_of ns zs)
-  passed_all {i} p w h =
-      sym (every_row (is_payout c) (length zs) (entry_at ns zs) (λ j l. p.each j (omega arith)))
-      ∙ ap (every (is_payout c)) (sym (entries_whole ns zs w))
+pub all_asked : (c : Contract) (ns : List ℕ) (zs : List ℤ) {n : ℕ} → n ≡ max ((length ns + 4) / 5) (length zs)
+    → list_all (λ j. is_payout c (entry_at ns zs j)) (range_with_len 0 n) ≡ every (is_payout c) (entries_of ns zs)
+unfolding entries_of
+all_asked c ns zs {n} e = all_each (is_payout c) (entry_at ns zs) n 0 ∙ ap (λ (k : ℕ). every (is_payout c) (each_from 0 k (entry_at ns zs))) e
 
 -- ---- what is passed
 

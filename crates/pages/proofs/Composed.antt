@@ -1,5 +1,5 @@
 -- A page composed of its lines, and the answer with it. Assumes nothing.
-use mathlib.Core.Path.{◌≡◌, refl, sym, ap, ◌∙◌}
+use mathlib.Core.Path.{◌≡◌, sym, ap, ◌∙◌}
 use mathlib.Core.Bool.{true, false}
 use mathlib.Core.List.{List, [], ◌∷◌, ◌++◌, append_assoc, append-nil}
 use Prim.Native.Nat.{ℕ, zero, suc, ◌+◌, ◌-◌, ◌*◌, ◌<◌, ◌≤◌, min}
@@ -17,11 +17,7 @@ use Rattle.contract_laws.proofs.Inversions.{by_test}
 use Rattle.contract_laws.proofs.Members.{length_each, every_each}
 use Rattle.contract_laws.proofs.Sound.{sound}
 use Rattle.printing.specs.Pieces.{Put}
-use Rattle.printing.specs.Writers.{Starts, Wrote, HasRoom}
-use Rattle.printing.specs.declared.Writer.{Writer}
-use Rattle.std.specs.Borrow.{MutBor}
-use Rattle.printing.proofs.Puts.{kept, over, line_end_lem}
-use Rattle.printing.proofs.Writers.{wrote_same, wrote_nothing, wrote_then, from_start}
+use Rattle.printing.proofs.Puts.{kept, over, line_end_lem, same, put_nothing, then, from_start}
 use Rattle.pages.specs.Entries.{Entry, is_payout, entry_at, entries_of}
 use Rattle.pages.specs.Page.{line_of, blank_line, blank_lines, foot, sheet, sixty, page_of}
 use Rattle.pages.specs.Answers.{paged, after, buffer_after}
@@ -54,29 +50,29 @@ module _ {w ns : List ℕ} {zs : List ℤ} (a : AllPayable w ns zs) where
       every_each (is_payout (contract_of w)) from n (entry_at ns zs) (λ j l. (each_payable (from + j) (omega arith)).payout) in
       lines_long (contract_of w) (sound w a.table) es p ∙ ap (λ (k : ℕ). 85 * k) (length_each from n (entry_at ns zs))
 
-pub record Going (w ns : List ℕ) (zs : List ℤ) (from to : ℕ) (old : Writer) (i : ℕ) (new : Writer) : Type 0 where
+pub record Going (w ns : List ℕ) (zs : List ℤ) (from to : ℕ) (old : List ℕ) (at : ℕ) (i : ℕ) (new : List ℕ) (end : ℕ) : Type 0 where
   pub first : from ≤ i
   pub few : i - from ≤ to - from
-  pub lines : Wrote old (joined (line_of (contract_of w)) (each_from from (i - from) (entry_at ns zs))) new
+  pub lines : Put old at (joined (line_of (contract_of w)) (each_from from (i - from) (entry_at ns zs))) end new
 
-module _ {w ns : List ℕ} {zs : List ℤ} {from to : ℕ} {old : Writer} where
-  pub start : HasRoom 0 old → Going w ns zs from to old from old
+module _ {w ns : List ℕ} {zs : List ℤ} {from to : ℕ} {old : List ℕ} {at : ℕ} where
+  pub start : at + 0 ≤ length old → Going w ns zs from to old at from old at
   unfolding joined each_from
   start h =
       let e : 0 ≡ from - from = omega arith in
       record {
         first = omega arith;
         few = omega arith;
-        lines = wrote_same (ap (λ (k : ℕ). joined (line_of (contract_of w)) (each_from from k (entry_at ns zs))) e) (wrote_nothing old h);
+        lines = same (ap (λ (k : ℕ). joined (line_of (contract_of w)) (each_from from k (entry_at ns zs))) e) (put_nothing (omega (arith, h)));
       }
 
-  module _ {i : ℕ} {new : Writer} (g : Going w ns zs from to old i new) where
-    pub line_room : AllPayable w ns zs → to ≤ length zs → HasRoom (85 * (to - from)) old → i < to
-        → HasRoom (length (line_of (contract_of w) (entry_at ns zs i))) new
+  module _ {i : ℕ} {new : List ℕ} {end : ℕ} (g : Going w ns zs from to old at i new end) where
+    pub line_room : AllPayable w ns zs → to ≤ length zs → at + (85 * (to - from)) ≤ length old → i < to
+        → end + length (line_of (contract_of w) (entry_at ns zs i)) ≤ length new
     line_room a h r l =
-        omega (arith, g.lines.written.place, part_long a from (i - from) (omega (arith, g.first)), each_long a i (omega arith), kept g.lines.written, g.first)
+        omega (arith, g.lines.place, part_long a from (i - from) (omega (arith, g.first)), each_long a i (omega arith), kept g.lines, g.first)
 
-    pub turn : {next : Writer} → i < to → Wrote new (line_of (contract_of w) (entry_at ns zs i)) next → Going w ns zs from to old (i + 1) next
+    pub turn : {next : List ℕ} {past : ℕ} → i < to → Put new end (line_of (contract_of w) (entry_at ns zs i)) past next → Going w ns zs from to old at (i + 1) next past
     turn l p =
         let c = contract_of w in
         let e : i + 1 - from ≡ suc (i - from) = omega (arith, g.first) in
@@ -89,12 +85,12 @@ module _ {w ns : List ℕ} {zs : List ℤ} {from to : ℕ} {old : Writer} where
         ∙ joined_append (line_of c) done (entry_at ns zs (from + (i - from)) ∷ [])
         ∙ ap (λ (l : List ℕ). joined (line_of c) done ++ l) (joined_one (line_of c) (entry_at ns zs (from + (i - from))))
         ∙ ap (λ (m : ℕ). joined (line_of c) done ++ line_of c (entry_at ns zs m)) f) in
-        record { first = omega (arith, g.first); few = omega (arith, g.first); lines = wrote_same more (wrote_then g.lines p) }
+        record { first = omega (arith, g.first); few = omega (arith, g.first); lines = same more (then g.lines p) }
 
-    pub all_lines : to ≤ i → Wrote old (joined (line_of (contract_of w)) (each_from from (to - from) (entry_at ns zs))) new
+    pub all_lines : to ≤ i → Put old at (joined (line_of (contract_of w)) (each_from from (to - from) (entry_at ns zs))) end new
     all_lines l =
         let e : i - from ≡ to - from = omega (arith, g.few) in
-        wrote_same (ap (λ (k : ℕ). joined (line_of (contract_of w)) (each_from from k (entry_at ns zs))) e) g.lines
+        same (ap (λ (k : ℕ). joined (line_of (contract_of w)) (each_from from k (entry_at ns zs))) e) g.lines
 
 -- ---- blank lines
 
@@ -109,24 +105,24 @@ blanks_more n = go n ∙ ap blank_lines (omega_suc n)
     go zero = sym (append-nil blank_line)
     go (suc n) = append_assoc blank_line (blank_lines n) blank_line ∙ ap (λ (l : List ℕ). blank_line ++ l) (go n)
 
-pub record Blanked (n : ℕ) (old : Writer) (i : ℕ) (new : Writer) : Type 0 where
+pub record Blanked (n : ℕ) (old : List ℕ) (at : ℕ) (i : ℕ) (new : List ℕ) (end : ℕ) : Type 0 where
   pub few : i ≤ n
-  pub lines : Wrote old (blank_lines i) new
+  pub lines : Put old at (blank_lines i) end new
 
-module _ {n : ℕ} {old : Writer} where
-  pub none_blank : HasRoom (85 * n) old → Blanked n old 0 old
+module _ {n : ℕ} {old : List ℕ} {at : ℕ} where
+  pub none_blank : at + (85 * n) ≤ length old → Blanked n old at 0 old at
   unfolding blank_lines
-  none_blank h = record { few = omega arith; lines = wrote_nothing old (omega arith) }
+  none_blank h = record { few = omega arith; lines = put_nothing (omega arith) }
 
-  module _ {i : ℕ} {new : Writer} (b : Blanked n old i new) where
-    pub blank_room : HasRoom (85 * n) old → i < n → HasRoom 85 new
-    blank_room h l = omega (arith, b.lines.written.place, blanks_long i, kept b.lines.written)
+  module _ {i : ℕ} {new : List ℕ} {end : ℕ} (b : Blanked n old at i new end) where
+    pub blank_room : at + (85 * n) ≤ length old → i < n → end + 85 ≤ length new
+    blank_room h l = omega (arith, b.lines.place, blanks_long i, kept b.lines)
 
-    pub more_blank : {next : Writer} → i < n → Wrote new blank_line next → Blanked n old (i + 1) next
-    more_blank l p = record { few = omega arith; lines = wrote_same (blanks_more i) (wrote_then b.lines p) }
+    pub more_blank : {next : List ℕ} {past : ℕ} → i < n → Put new end blank_line past next → Blanked n old at (i + 1) next past
+    more_blank l p = record { few = omega arith; lines = same (blanks_more i) (then b.lines p) }
 
-    pub all_blank : n ≤ i → Wrote old (blank_lines n) new
-    all_blank l = let e : i ≡ n = omega (arith, b.few) in wrote_same (ap blank_lines e) b.lines
+    pub all_blank : n ≤ i → Put old at (blank_lines n) end new
+    all_blank l = let e : i ≡ n = omega (arith, b.few) in same (ap blank_lines e) b.lines
 
 -- ---- the page
 
@@ -157,33 +153,32 @@ module _ {w ns : List ℕ} {zs : List ℤ} (a : AllPayable w ns zs) (number : �
   counted : length (sixty number (entries_of ns zs)) ≡ end - first
   counted = ap length on_page ∙ length_each first (end - first) (entry_at ns zs)
 
-  pub lines_room : {lent : MutBor (List ℕ)} {out : Writer} → 5185 ≤ length lent.now → Starts lent out → (end ≤ length zs) × (HasRoom (85 * (end - first)) out)
-  lines_room h s = (omega (arith, e), omega (arith, f, e, s.place, ap length s.bytes))
+  module _ {lent old : List ℕ} {at : ℕ} (h : 5185 ≤ length lent) (s : at ≡ 0) (g : old ≡ lent) where
+    pub lines_room : (end ≤ length zs) × (at + 85 * (end - first) ≤ length old)
+    lines_room = (omega (arith, e), omega (arith, h, f, e, s, ap length g))
 
-  module _ {lent : MutBor (List ℕ)} {old l1 : Writer} (h : 5185 ≤ length lent.now) (s : Starts lent old)
-      (p : Wrote old (joined (line_of (contract_of w)) (each_from first (end - first) (entry_at ns zs))) l1) where
-    lines_end : l1.at ≡ 85 * (end - first)
-    lines_end = omega (arith, p.written.place, s.place, part_long a first (end - first) (omega (arith, f, e)))
+    module _ {l1 : List ℕ} {a1 : ℕ} (p : Put old at (joined (line_of (contract_of w)) (each_from first (end - first) (entry_at ns zs))) a1 l1) where
+      lines_end : a1 ≡ 85 * (end - first)
+      lines_end = omega (arith, p.place, s, part_long a first (end - first) (omega (arith, f, e)))
 
-    pub blanks_room : HasRoom (85 * (60 - (end - first))) l1
-    blanks_room = omega (arith, lines_end, kept p.written, ap length s.bytes, f, e)
+      pub blanks_room : a1 + 85 * (60 - (end - first)) ≤ length l1
+      blanks_room = omega (arith, h, lines_end, kept p, ap length g, f, e)
 
-    module _ {l2 : Writer} (q : Wrote l1 (blank_lines (60 - (end - first))) l2) where
-      pub foot_room : (end - first < 100) × (HasRoom 85 l2)
-      foot_room = (omega (arith, f, e), omega (arith, lines_end, kept p.written, ap length s.bytes, q.written.place, kept q.written, blanks_long (60 - (end - first)), f, e))
+      module _ {l2 : List ℕ} {a2 : ℕ} (q : Put l1 a1 (blank_lines (60 - (end - first))) a2 l2) where
+        pub foot_room : (end - first < 100) × (a2 + 85 ≤ length l2)
+        foot_room = (omega (arith, f, e), omega (arith, h, lines_end, kept p, ap length g, q.place, kept q, blanks_long (60 - (end - first)), f, e))
 
-      pub page_put : {l3 : Writer} {new : List ℕ} → Wrote l2 (foot (end - first)) l3 → new ≡ l3.buffer.now
-          → new ≡ page_of (contract_of w) (entries_of ns zs) number ++ drop 5185 lent.now
-      unfolding sheet
-      page_put {l3} {new} r g =
-          let c = contract_of w in
-          let es = entries_of ns zs in
-          let is : joined (line_of c) (each_from first (end - first) (entry_at ns zs)) ++ (blank_lines (60 - (end - first)) ++ foot (end - first)) ≡ page_of c es number =
-          (λ i. joined (line_of c) (sym on_page i) ++ (blank_lines (60 - sym counted i) ++ foot (sym counted i))) in
-          let t : Put lent.now 0 (page_of c es number) l3.at new = from_start s (wrote_same is (wrote_then p (wrote_then q r))) refl g in
-          let few : length (sixty number es) ≤ 60 = omega (arith, sixty_long number es) in
-          let long : l3.at ≡ 5185 = line_end_lem t ∙ sheet_long c (sound w a.table) (sixty number es) (every_sixty (is_payout c) number es a.payouts) few in
-          over t ∙ ap (λ (k : ℕ). page_of c es number ++ drop k lent.now) long
+        pub page_put : {l3 new : List ℕ} {a3 : ℕ} → Put l2 a2 (foot (end - first)) a3 l3 → new ≡ l3 → new ≡ page_of (contract_of w) (entries_of ns zs) number ++ drop 5185 lent
+        unfolding sheet
+        page_put {l3} {new} {a3} r last =
+            let c = contract_of w in
+            let es = entries_of ns zs in
+            let is : joined (line_of c) (each_from first (end - first) (entry_at ns zs)) ++ (blank_lines (60 - (end - first)) ++ foot (end - first)) ≡ page_of c es number =
+            (λ i. joined (line_of c) (sym on_page i) ++ (blank_lines (60 - sym counted i) ++ foot (sym counted i))) in
+            let t : Put lent 0 (page_of c es number) a3 new = from_start s g (same is (then p (then q r))) last in
+            let few : length (sixty number es) ≤ 60 = omega (arith, sixty_long number es) in
+            let long : a3 ≡ 5185 = line_end_lem t ∙ sheet_long c (sound w a.table) (sixty number es) (every_sixty (is_payout c) number es a.payouts) few in
+            over t ∙ ap (λ (k : ℕ). page_of c es number ++ drop k lent) long
 
 -- ---- the answer and the buffer
 

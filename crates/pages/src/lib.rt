@@ -7,6 +7,7 @@ ghost use Rattle.pages.specs.Entries.{entries_of};
 ghost use Rattle.pages.specs.Answers.{paged, buffer_after};
 ghost use Rattle.pages.specs.Gathering.{gathered, numbers_after, values_after};
 
+use contract::Contract;
 use payouts::Entries;
 use questions::Question;
 use results::Report;
@@ -23,7 +24,7 @@ pub struct Sheet {}
 impl Sheet {
     // Its bytes, its lines for payouts, and the numbers of an entry: kind, party, rule, clock and one that is not looked at.
     // Kept: (d) these are sizes of a page and of its columns, and no kinds of anything.
-    pub const BYTES: usize = 5185;
+    pub const BYTES: usize = (Sheet::LINES + 1) * (Sheet::LINE + 1);
 
     pub const LINES: usize = 60;
 
@@ -34,15 +35,16 @@ impl Sheet {
 
     const RULE: usize = 11;
 
-    const PARTY: usize = 32;
+    const PARTY: usize = Contract::NAME;
 
     // The bytes of a line before its LF, and the spaces before the foot's two digits.
-    const LINE: usize = 84;
+    const LINE: usize = Sheet::AMOUNT + 1 + Sheet::RULE + 1 + Sheet::PARTY + 1 + Sheet::AMOUNT;
 
-    const FOOT: usize = 82;
+    const FOOT: usize = Sheet::LINE - 2;
 }
 
 // What is gathered of a session: the rule and the clock of its last accepted step, and how many payouts wait for their page.
+// Kept: (a) the rule by its number, as a line has it and an entry that question 61 judges; before the first step 0, by which nothing is sent.
 #[derive(Clone, Copy)]
 pub struct Gathered {
     pub rule: u64,
@@ -64,6 +66,7 @@ impl Gathered {
 }
 
 // Page `number` of the entries given, five numbers and a value each, on the contract in a table. A refusal leaves the buffer as it was.
+// Kept: (a) the two lists are the public form, any numbers, and question 61 judges what they say; no heap to put the entries in.
 pub fn page(
     table: &[u64],
     numbers: &[u64],
@@ -111,11 +114,9 @@ pub fn gather(
         Report::Ruled(rule, _, clock) => Gathered {
             rule: rule as u64,
             clock,
-            count: g.count,
+            ..g
         },
         Report::Sent(kind, party, value) => notes::note(g, kind, party, value, entries, values),
-        Report::Held(_, _) => g,
-        Report::Refused(_) => g,
-        Report::Failed(_) => g,
+        Report::Held(_, _) | Report::Refused(_) | Report::Failed(_) => g,
     }
 }

@@ -5,7 +5,7 @@ ghost use Rattle.words.specs.Words.{spelled, line_end};
 ghost use Rattle.contract.specs.Decode.{contract_of};
 ghost use Rattle.contract.specs.Check.{passes};
 ghost use Rattle.printing.specs.Decimal.{decimal};
-ghost use Rattle.printing.specs.Writers.{Wrote, HasRoom};
+ghost use Rattle.printing.proofs.Writers.{Wrote, HasRoom};
 ghost use Rattle.results.specs.Lines.{rule_name};
 ghost use Rattle.pages.specs.Entries.{entry_at};
 ghost use Rattle.pages.specs.Page.{right, left, line_of, blank_line, foot};
@@ -18,7 +18,8 @@ use printing::Writer;
 // A number at the right of 19 bytes.
 fn put_right(out: &mut Writer, n: u64)
     requires { HasRoom (length (right 19 (decimal n))) out.old }
-    ensures { Wrote out.old (right 19 (decimal n)) out.new }
+    ensures written { Wrote out.old (right 19 (decimal n)) out.new }
+    ensures same_buffer { out.new.buffer.ghost_name ≡ out.old.buffer.ghost_name }
 {
     out.put_spaces(Sheet::AMOUNT.saturating_sub(printing::digit_count(n)));
     out.put_number(n);
@@ -26,37 +27,37 @@ fn put_right(out: &mut Writer, n: u64)
 
 // The name of a call's or a firing's rule at the left of 11 bytes.
 fn put_rule(out: &mut Writer, rule: u64)
-    requires rule_value { (eqb rule 1 || eqb rule 2) ≡ true }
-    requires rule_in_bounds { HasRoom (length (left 11 (rule_name rule))) out.old }
-    ensures { Wrote out.old (left 11 (rule_name rule)) out.new }
+    requires rule { (eqb rule 1 || eqb rule 2) ≡ true }
+    requires room { HasRoom (length (left 11 (rule_name rule))) out.old }
+    ensures written { Wrote out.old (left 11 (rule_name rule)) out.new }
+    ensures same_buffer { out.new.buffer.ghost_name ≡ out.old.buffer.ghost_name }
 {
-    if rule == 1 {
-        let start = out.used();
-        out.put_word(words::FUNCTION);
-        let end = out.used();
-        out.put_spaces(Sheet::RULE.saturating_sub(end - start));
-    } else {
-        out.put_word(words::EVENT_MATCH);
-    }
+    let start = out.at;
+    out.put_word(results::rule_word(rule as u8));
+    let width = out.at - start;
+    out.put_spaces(Sheet::RULE.saturating_sub(width));
 }
 
 // A party's name at the left of 32 bytes.
+// Kept: (d) it ends as `put_rule` does: a function of the two lines would take the start and the piece put since, in its clauses too.
 fn put_party(out: &mut Writer, table: &[u64], party: usize)
-    requires table_value { (passes table.now ≡ true) × (party < length (contract_of table.now).parties) }
-    requires party_in_bounds { HasRoom (length (left 32 (get_or (contract_of table.now).parties party []))) out.old }
-    ensures { Wrote out.old (left 32 (get_or (contract_of table.now).parties party [])) out.new }
+    requires table { (passes table.now ≡ true) × (party < length (contract_of table.now).parties) }
+    requires room { HasRoom (length (left 32 (get_or (contract_of table.now).parties party []))) out.old }
+    ensures written { Wrote out.old (left 32 (get_or (contract_of table.now).parties party [])) out.new }
+    ensures same_buffer { out.new.buffer.ghost_name ≡ out.old.buffer.ghost_name }
 {
-    let start = out.used();
+    let start = out.at;
     out.put_name(table, contract::PARTIES + party * contract::NAME_WORDS);
-    let end = out.used();
-    out.put_spaces(Sheet::PARTY.saturating_sub(end - start));
+    let width = out.at - start;
+    out.put_spaces(Sheet::PARTY.saturating_sub(width));
 }
 
 // Clock and rule, each with a space after it.
 fn put_step(out: &mut Writer, clock: u64, rule: u64)
-    requires rule_value { (eqb rule 1 || eqb rule 2) ≡ true }
-    requires bytes_in_bounds { HasRoom (length (step_text clock rule)) out.old }
-    ensures { Wrote out.old (step_text clock rule) out.new }
+    requires rule { (eqb rule 1 || eqb rule 2) ≡ true }
+    requires room { HasRoom (length (step_text clock rule)) out.old }
+    ensures written { Wrote out.old (step_text clock rule) out.new }
+    ensures same_buffer { out.new.buffer.ghost_name ≡ out.old.buffer.ghost_name }
 {
     put_right(out, clock);
     out.put_byte(b' ');
@@ -66,9 +67,10 @@ fn put_step(out: &mut Writer, clock: u64, rule: u64)
 
 // Party, a space, the amount and LF.
 fn put_payee(out: &mut Writer, table: &[u64], party: usize, amount: u64)
-    requires table_value { (passes table.now ≡ true) × (party < length (contract_of table.now).parties) }
-    requires line_end_in_bounds { HasRoom (length (payee_text (contract_of table.now) party amount)) out.old }
-    ensures { Wrote out.old (payee_text (contract_of table.now) party amount) out.new }
+    requires table { (passes table.now ≡ true) × (party < length (contract_of table.now).parties) }
+    requires room { HasRoom (length (payee_text (contract_of table.now) party amount)) out.old }
+    ensures written { Wrote out.old (payee_text (contract_of table.now) party amount) out.new }
+    ensures same_buffer { out.new.buffer.ghost_name ≡ out.old.buffer.ghost_name }
 {
     put_party(out, table, party);
     out.put_byte(b' ');
@@ -78,11 +80,13 @@ fn put_payee(out: &mut Writer, table: &[u64], party: usize, amount: u64)
 
 impl Entries<'_> {
     // The line of entry i, which stands there whole.
+    // Kept: (d) its numbers by their places, as in `entry_passes`: this is the only line that takes them from there once they are judged.
     pub(crate) fn put_line(&self, out: &mut Writer, i: usize)
-        requires i_in_bounds { (5 * i + 5 ≤ length self.now.numbers.now) × (i < length self.now.values.now) }
+        requires whole { (5 * i + 5 ≤ length self.now.numbers.now) × (i < length self.now.values.now) }
         requires payable { Payable self.now.table.now (entry_at self.now.numbers.now self.now.values.now i) }
-        requires i_in_bounds_2 { HasRoom (length (line_of (contract_of self.now.table.now) (entry_at self.now.numbers.now self.now.values.now i))) out.old }
-        ensures { Wrote out.old (line_of (contract_of self.now.table.now) (entry_at self.now.numbers.now self.now.values.now i)) out.new }
+        requires room { HasRoom (length (line_of (contract_of self.now.table.now) (entry_at self.now.numbers.now self.now.values.now i))) out.old }
+        ensures written { Wrote out.old (line_of (contract_of self.now.table.now) (entry_at self.now.numbers.now self.now.values.now i)) out.new }
+        ensures same_buffer { out.new.buffer.ghost_name ≡ out.old.buffer.ghost_name }
     {
         let k = Sheet::NUMBERS * i;
         let numbers = self.numbers;
@@ -95,7 +99,8 @@ impl Entries<'_> {
 // A line without a payout.
 pub(crate) fn put_blank(out: &mut Writer)
     requires { HasRoom 85 out.old }
-    ensures { Wrote out.old blank_line out.new }
+    ensures written { Wrote out.old blank_line out.new }
+    ensures same_buffer { out.new.buffer.ghost_name ≡ out.old.buffer.ghost_name }
 {
     out.put_spaces(Sheet::LINE);
     out.put_byte(b'\n');
@@ -104,7 +109,8 @@ pub(crate) fn put_blank(out: &mut Writer)
 // How many payouts there are on the page.
 pub(crate) fn put_foot(out: &mut Writer, n: usize)
     requires { (n < 100) × (HasRoom 85 out.old) }
-    ensures { Wrote out.old (foot n) out.new }
+    ensures written { Wrote out.old (foot n) out.new }
+    ensures same_buffer { out.new.buffer.ghost_name ≡ out.old.buffer.ghost_name }
 {
     out.put_spaces(Sheet::FOOT);
     out.put_byte(b'0' + (n / 10) as u8);

@@ -1,25 +1,13 @@
 // Payouts noted for a page: five numbers and a value each.
-ghost use Rattle.std.specs.Prelude.{◌≡◌, [], ◌∷◌, ◌<◌, set};
-ghost use Rattle.std.proofs.lemmas.List.Edits.{sets};
+ghost use Rattle.std.specs.Prelude.{◌≡◌};
 ghost use Rattle.results.specs.declared.Report.TheVariants.{Sent};
 ghost use Rattle.pages.specs.Gathering.{gathered, numbers_after, values_after};
 
 use crate::{Gathered, Sheet};
-
-// The five numbers of a payout.
-// Kept: (d) no writer: one call stores one entry at the place that its number gives, and nothing is handed on.
-fn store_entry(entries: &mut [u64], at: usize, party: u64, rule: u64, clock: u64)
-    requires { at < 1000 }
-    ensures { entries.new ≡ sets entries.old at (3 ∷ party ∷ rule ∷ clock ∷ 0 ∷ []) }
-{
-    items::set(entries, at, 3);
-    items::set(entries, at + 1, party);
-    items::set(entries, at + 2, rule);
-    items::set(entries, at + 3, clock);
-    items::set(entries, at + 4, 0);
-}
+use results::Report;
 
 // A label: a payout joins the others, where the page has room.
+// Kept: (a) the lent lists and their count as `gather` has them: any lengths, and what has no room there is left out.
 pub(crate) fn note(
     g: Gathered,
     kind: u8,
@@ -32,19 +20,18 @@ pub(crate) fn note(
     ensures entries_after { entries.new ≡ numbers_after g (Sent kind party value) entries.old }
     ensures values_after { values.new ≡ values_after g (Sent kind party value) values.old }
 {
-    let count = g.count;
-    if kind != 3 {
+    if kind != Report::ASSET || Sheet::LINES <= g.count {
         return g;
     }
-    if Sheet::LINES <= count {
-        return g;
-    }
-    let at = Sheet::NUMBERS * count;
-    store_entry(entries, at, party as u64, g.rule, g.clock);
-    items::set(values, count, value);
+    let at = Sheet::NUMBERS * g.count;
+    items::store_all(
+        entries,
+        at,
+        &[Report::ASSET as u64, party as u64, g.rule, g.clock, 0],
+    );
+    items::set(values, g.count, value);
     Gathered {
-        rule: g.rule,
-        clock: g.clock,
-        count: count + 1,
+        count: g.count + 1,
+        ..g
     }
 }

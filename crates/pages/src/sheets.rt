@@ -2,7 +2,7 @@
 ghost use Rattle.std.specs.Prelude.{◌≡◌, ◌++◌, ◌+◌, ◌-◌, ◌*◌, ◌≤◌, min, length, drop};
 ghost use Rattle.contract.specs.Decode.{contract_of, each_from};
 ghost use Rattle.contract.specs.Encode.{joined};
-ghost use Rattle.printing.specs.Writers.{Wrote, HasRoom};
+ghost use Rattle.printing.proofs.Writers.{Wrote, HasRoom};
 ghost use Rattle.pages.specs.Entries.{entry_at, entries_of};
 ghost use Rattle.pages.specs.Page.{line_of, blank_lines, page_of};
 ghost use Rattle.pages.specs.Answers.{page_bytes};
@@ -21,6 +21,7 @@ fn first_of(number: usize, count: usize) -> usize
 }
 
 // The number after its last one.
+// Kept: (d) one line, as `desk_lines::past` with 60, which stands above this crate.
 fn end_of(first: usize, count: usize) -> usize
     ensures { result ≡ min (first + 60) count }
 {
@@ -28,9 +29,11 @@ fn end_of(first: usize, count: usize) -> usize
 }
 
 // So many lines without a payout.
+// Kept: (c) `i`, by which the invariant says how many stand there: with `_` the count has no name in it.
 fn put_blanks(out: &mut Writer, n: usize)
     requires { HasRoom (85 * n) out.old }
-    ensures { Wrote out.old (blank_lines n) out.new }
+    ensures written { Wrote out.old (blank_lines n) out.new }
+    ensures same_buffer { out.new.buffer.ghost_name ≡ out.old.buffer.ghost_name }
 {
     for i in 0..n {
         put_blank(out);
@@ -42,7 +45,8 @@ impl Entries<'_> {
     fn put_lines(&self, out: &mut Writer, from: usize, to: usize)
         requires all_payable { AllPayable self.now.table.now self.now.numbers.now self.now.values.now }
         requires to_in_bounds { (to ≤ length self.now.values.now) × (HasRoom (85 * (to - from)) out.old) }
-        ensures { Wrote out.old (joined (line_of (contract_of self.now.table.now)) (each_from from (to - from) (entry_at self.now.numbers.now self.now.values.now))) out.new }
+        ensures written { Wrote out.old (joined (line_of (contract_of self.now.table.now)) (each_from from (to - from) (entry_at self.now.numbers.now self.now.values.now))) out.new }
+        ensures same_buffer { out.new.buffer.ghost_name ≡ out.old.buffer.ghost_name }
     {
         for i in from..to {
             self.put_line(out, i);
@@ -52,7 +56,7 @@ impl Entries<'_> {
     // A page by its number: the lines of its entries, blank lines, the foot.
     pub(crate) fn write_sheet(&self, number: usize, buffer: &mut [u8])
         requires all_payable { AllPayable self.now.table.now self.now.numbers.now self.now.values.now }
-        requires page_bytes_in_bounds { page_bytes ≤ length buffer.old }
+        requires room { page_bytes ≤ length buffer.old }
         ensures { buffer.new ≡ page_of (contract_of self.now.table.now) (entries_of self.now.numbers.now self.now.values.now) number ++ drop page_bytes buffer.old }
     {
         let first = first_of(number, self.values.len());

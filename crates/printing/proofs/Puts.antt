@@ -12,7 +12,7 @@ use Rattle.std.proofs.lemmas.Slice.{put_mid-paste}
 use borrow.Rule.Slice.PartMut.{mid_of, put_mid, mid_len}
 use lib.Dec.{leb}
 use borrow.Author.Tests.{leb-true, leb-false, le-leb, lt-leb}
-use Rattle.laws.proofs.Choice.{pick_true, pick_false, by_cases}
+use Rattle.laws.proofs.Choice.{pick_true, pick_false}
 use Rattle.laws.proofs.Lists.{cons_at}
 use Rattle.printing.specs.Pieces.{put, place_after, Put}
 
@@ -71,18 +71,6 @@ stored {old} {new} w at i n e l h r =
 
 -- ---- a word that has room, and one that has none
 
--- the room test, of the rest and past the end
-pub room_left : (at n size : ℕ) → at ≤ size → leb n (size - at) ≡ leb (at + n) size
-room_left at n size h =
-    by_cases (λ (_ : ℕ). leb n (size - at) ≡ leb (at + n) size) (leb n (size - at)) 0 0
-    (λ t. let l : n ≤ size - at = leb-true n (size - at) t in t ∙ sym (le-leb (at + n) size (omega arith)))
-    λ t.
-    let l : size - at < n = leb-false n (size - at) t in
-    t ∙ sym (lt-leb (at + n) size (omega arith))
-
-pub room_past : (at n size : ℕ) → size < at → false ≡ leb (at + n) size
-room_past at n size h = sym (lt-leb (at + n) size (omega arith))
-
 -- what it tells
 module _ {r : Bool} (at n size : ℕ) (e : r ≡ leb (at + n) size) where
   pub has_room : r ≡ true → at + n ≤ size
@@ -91,9 +79,9 @@ module _ {r : Bool} (at n size : ℕ) (e : r ≡ leb (at + n) size) where
   pub lacks_room : r ≡ false → size < at + n
   lacks_room t = leb-false (at + n) size (sym e ∙ t)
 
--- the place after it and the list with it
-abbrev pub Puts : List ℕ → ℕ → List ℕ → ℕ → List ℕ → Type 0
-Puts old at w n new = record { value : n ≡ place_after old at w; buffer_after : new ≡ put old at w }
+-- what a writer's methods say of a piece: the place after it, the list with it, and that it is the same list that is lent
+abbrev pub Puts : List ℕ → ℕ → List ℕ → ℕ → List ℕ → Type 0 → Type 0
+Puts old at w n new same = record { place : n ≡ place_after old at w; bytes : new ≡ put old at w; same_buffer : same }
 
 module _ (old : List ℕ) (at : ℕ) (w : List ℕ) where
   -- what a caller knows of a piece that has room
@@ -103,31 +91,36 @@ module _ (old : List ℕ) (at : ℕ) (w : List ℕ) where
       let t : leb (at + length w) (length old) ≡ true = le-leb (at + length w) (length old) h in
       record { place = pick_true _ _ _ t; list = pick_true _ _ _ t; room = h }
 
-  pub no_room : length old < at + length w → Puts old at w at old
+  pub puts_nothing : {same : Type 0} → length old < at + length w → same → Puts old at w at old same
   unfolding put place_after
-  no_room h =
+  puts_nothing h g =
       let t : leb (at + length w) (length old) ≡ false = lt-leb (at + length w) (length old) h in
-      record { value = sym (pick_false _ _ _ t); buffer_after = sym (pick_false _ _ _ t) }
+      record { place = sym (pick_false _ _ _ t); bytes = sym (pick_false _ _ _ t); same_buffer = g }
 
-pub has_put : {old w new : List ℕ} {at n : ℕ} → Put old at w n new → Puts old at w n new
-has_put {old} {w} {new} {at} {n} p =
-    let q = put_room old at w p.room in
-    record { value = p.place ∙ sym q.place; buffer_after = p.list ∙ sym q.list }
+module _ {old new : List ℕ} {at n : ℕ} {same : Type 0} where
+  pub puts_whole : {w : List ℕ} → Put old at w n new → same → Puts old at w n new same
+  puts_whole {w} p g =
+      let q = put_room old at w p.room in
+      record { place = p.place ∙ sym q.place; bytes = p.list ∙ sym q.list; same_buffer = g }
 
--- the same from a piece's two equations
-pub put_of : {old new : List ℕ} {at n : ℕ} (w : List ℕ) → Puts old at w n new → at + length w ≤ length old → Put old at w n new
-put_of {old} {new} {at} {n} w e h =
-    let p = put_room old at w h in
-    record { place = e.value ∙ p.place; list = e.buffer_after ∙ p.list; room = h }
+  -- the same from a piece's equations
+  pub put_of : (w : List ℕ) → Puts old at w n new same → at + length w ≤ length old → Put old at w n new
+  put_of w e h =
+      let p = put_room old at w h in
+      record { place = e.place ∙ p.place; list = e.bytes ∙ p.list; room = h }
 
-pub puts_as : (old : List ℕ) (at : ℕ) {new : List ℕ} {n : ℕ} {u v : List ℕ} → u ≡ v → Puts old at u n new → Puts old at v n new
-puts_as old at e p = record { value = p.value ∙ ap (place_after old at) e; buffer_after = p.buffer_after ∙ ap (put old at) e }
+pub puts_same : (old : List ℕ) (at : ℕ) {u v new : List ℕ} {n : ℕ} {same : Type 0} → u ≡ v → Puts old at u n new same → Puts old at v n new same
+puts_same old at e p = record { place = p.place ∙ ap (place_after old at) e; bytes = p.bytes ∙ ap (put old at) e; same_buffer = p.same_buffer }
 
 -- ---- pieces of a line
 
 -- stores keep the length
 pub kept : {old w new : List ℕ} {at n : ℕ} → Put old at w n new → length new ≡ length old
 kept {old} {w} {new} {at} {n} p = ap length p.list ∙ length-sets old at w
+
+-- nothing, and one after the other
+pub put_nothing : {old : List ℕ} {at : ℕ} → at ≤ length old → Put old at [] at old
+put_nothing h = record { place = omega arith; list = refl; room = omega (arith, h) }
 
 module _ {old : List ℕ} {at : ℕ} where
   pub then : {u v mid new : List ℕ} {m n : ℕ} → Put old at u m mid → Put mid m v n new → Put old at (u ++ v) n new
@@ -151,10 +144,19 @@ module _ {old mid new : List ℕ} {at m n : ℕ} {v : List ℕ} where
       → Put old at (u ++ v) n new
   part {u} h p rest = then p (rest (omega (arith, h, p.place, kept p, length-append u v)))
 
-  -- the same by the piece's two equations
-  pub piece : (u : List ℕ) → at + length (u ++ v) ≤ length old → Puts old at u m mid → (m + length v ≤ length mid → Put mid m v n new)
+  -- the same by the piece's equations
+  pub piece : {s : Type 0} (u : List ℕ) → at + length (u ++ v) ≤ length old → Puts old at u m mid s → (m + length v ≤ length mid → Put mid m v n new)
       → Put old at (u ++ v) n new
   piece u h e rest = part h (put_of u e (omega (arith, h, length-append u v))) rest
+
+-- by a writer that starts at a buffer's first place
+pub from_start : {b old line new last : List ℕ} {at n : ℕ} → at ≡ 0 → old ≡ b → Put old at line n new → last ≡ new → Put b 0 line n last
+from_start {line = line} e g p h =
+    record {
+      place = p.place ∙ ap (λ (k : ℕ). k + length line) e;
+      list = h ∙ p.list ∙ λ i. sets (g i) (e i) line;
+      room = omega (arith, p.room, e, ap length g);
+    }
 
 -- from the first place on
 pub over : {old line new : List ℕ} {n : ℕ} → Put old 0 line n new → new ≡ line ++ drop n old

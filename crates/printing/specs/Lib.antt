@@ -1,3 +1,2 @@
 pub mod Decimal
 pub mod Pieces
-pub mod Writers

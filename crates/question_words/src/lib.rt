@@ -1,21 +1,13 @@
 // The words of each question, by its number.
 #![tactic(auto)]
 
-ghost use Rattle.std.specs.Prelude.{◌≡◌, length};
-ghost use Rattle.std.proofs.lemmas.List.Edits.{sets};
+ghost use Rattle.std.specs.Prelude.{◌≡◌};
 ghost use Rattle.question_words.specs.Words.{words_of};
-
-// The words of a question.
-#[derive(Clone, Copy)]
-pub struct Sentence {}
-
-impl Sentence {
-    // The most bytes of one.
-    pub const BYTES: usize = 64;
-}
 
 // The words by the question's number, none where no question has it: reading, a table and a state from 1, steps and working out from 20,
 // lines from 50, those of document 02 from 60.
+// Kept: (a) a list by number, with empty rows for the numbers between: any number may be asked, and a match on 43 questions is over the 40
+// lines that a function may have.
 static SENTENCES: [&[u8]; 63] = [
     b"",
     b"the text is over 16384 bytes",
@@ -82,20 +74,9 @@ static SENTENCES: [&[u8]; 63] = [
     b"that time is past",
 ];
 
-// The words of a question, none past the last.
-fn spelled(number: u8) -> &'static [u8]
+// The words of the question with a number. Any number may be asked: one that no question has has no words.
+pub fn words(number: u8) -> &'static [u8]
     ensures { result.now ≡ words_of number }
 {
     items::get_or(&SENTENCES, number as usize, &[])
-}
-
-// The words of a question come to the front of the buffer; answers how many bytes they have. A number without words has none.
-pub fn words(number: u8, buffer: &mut [u8; Sentence::BYTES]) -> usize
-    ensures value { result ≡ length (words_of number) }
-    ensures buffer_after { buffer.new ≡ sets buffer.old 0 (words_of number) }
-{
-    let words = spelled(number);
-    let n = words.len();
-    buffer[..n].copy_from_slice(words);
-    n
 }

@@ -18,10 +18,7 @@ use Rattle.contract.specs.Decode.{contract_of}
 use Rattle.contract.specs.Check.{passes}
 use Rattle.printing.specs.Decimal.{decimal, signed}
 use Rattle.printing.specs.Pieces.{Put, name_bytes}
-use Rattle.printing.specs.Writers.{Puts, Wrote, HasRoom}
-use Rattle.printing.specs.declared.Writer.{Writer}
-use Rattle.printing.proofs.Puts.{over, line_end_lem}
-use Rattle.printing.proofs.Writers.{wrote_of, wrote_part, wrote_piece, wrote_same, wrote_apart}
+use Rattle.printing.proofs.Puts.{Puts, put_of, part, piece, same, apart, over, line_end_lem}
 use Rattle.printing.proofs.Digits.{word_short, signed_short}
 use Rattle.results.specs.Lines.{value_ok, report_ok, rule_name, value_text, arrow, refused_text, line_of, text_refusal, text_line}
 use Rattle.results.specs.Results.{written, text_written, after, buffer_after, text_buffer_after}
@@ -37,17 +34,17 @@ use Rattle.results.proofs.Ranges.{state_below, party_below, asset_below, value_b
 
 -- ---- what a report that is ready names
 
-module _ {w : List ℕ} {out : Writer} where
-  pub ready_state : {rule state clock : ℕ} → Ready w (Ruled rule state clock) out → Row w (contract_of w).states state (1891 + state * 33) 32
+module _ {w : List ℕ} {old : List ℕ} {at : ℕ} where
+  pub ready_state : {rule state clock : ℕ} → Ready w (Ruled rule state clock) old at → Row w (contract_of w).states state (1891 + state * 33) 32
   ready_state {rule} {state} {clock} r = state_row w r.table state (state_below (contract_of w) rule state clock r.range)
 
-  pub ready_party : {kind party : ℕ} {z : ℤ} → Ready w (Sent kind party z) out → Row w (contract_of w).parties party (43 + party * 33) 32
+  pub ready_party : {kind party : ℕ} {z : ℤ} → Ready w (Sent kind party z) old at → Row w (contract_of w).parties party (43 + party * 33) 32
   ready_party {kind} {party} {z} r = party_row w r.table party (party_below (contract_of w) kind party z r.range)
 
-  pub ready_asset : {asset amount : ℕ} → Ready w (Held asset amount) out → Row w (contract_of w).assets asset (307 + asset * 33) 32
+  pub ready_asset : {asset amount : ℕ} → Ready w (Held asset amount) old at → Row w (contract_of w).assets asset (307 + asset * 33) 32
   ready_asset {asset} {amount} r = asset_row w r.table asset (asset_below (contract_of w) asset amount r.range)
 
-  pub ready_value : {kind party : ℕ} {z : ℤ} → SFits w64 z → Ready w (Sent kind party z) out → ReadyValue w kind (to_z w64 (of_z w64 z)) out
+  pub ready_value : {kind party : ℕ} {z : ℤ} → SFits w64 z → Ready w (Sent kind party z) old at → ReadyValue w kind (to_z w64 (of_z w64 z)) old at
   ready_value {kind} {party} {z} f r =
       record {
         room = r.room;
@@ -55,22 +52,22 @@ module _ {w : List ℕ} {out : Writer} where
         range = ap (value_ok (contract_of w) kind) (to_z-of_z f) ∙ value_below (contract_of w) kind party z r.range;
       }
 
-  ready_whole : {kind party : ℕ} {z : ℤ} → Ready w (Sent kind party z) out → ReadyValue w kind z out
+  ready_whole : {kind party : ℕ} {z : ℤ} → Ready w (Sent kind party z) old at → ReadyValue w kind z old at
   ready_whole {kind} {party} {z} r = record { room = r.room; table = r.table; range = value_below (contract_of w) kind party z r.range }
 
-  pub ready_string : {kind : ℕ} {z : ℤ} → ReadyValue w kind z out → kind ≡ 2 → (m : ℕ) → m ≡ nat_abs z → Row w (contract_of w).strings m (2947 + m * 65) 64
+  pub ready_string : {kind : ℕ} {z : ℤ} → ReadyValue w kind z old at → kind ≡ 2 → (m : ℕ) → m ≡ nat_abs z → Row w (contract_of w).strings m (2947 + m * 65) 64
   ready_string {kind} {z} r k m e =
       string_row w r.table m (subst (λ (i : ℕ). i < length (contract_of w).strings) (sym e) (string_below (contract_of w) kind z r.range k))
 
-  pub ready_as : {a b : Report} → a ≡ b → Ready w a out → Ready w b out
-  ready_as {a} {b} e r = subst (λ (x : Report). Ready w x out) e r
+  pub ready_as : {a b : Report} → a ≡ b → Ready w a old at → Ready w b old at
+  ready_as {a} {b} e r = subst (λ (x : Report). Ready w x old at) e r
 
 -- a label and the bits of its value
 pub sent_bits : (kind party : ℕ) {z : ℤ} → SFits w64 z → Sent kind party z ≡ Sent kind party (to_z w64 (of_z w64 z))
 sent_bits kind party f = ap (Sent kind party) (sym (to_z-of_z f))
 
-pub line_as : {old new : Writer} (w : List ℕ) {a b : Report} → a ≡ b → Wrote old (line_of (contract_of w) a) new → Wrote old (line_of (contract_of w) b) new
-line_as w e p = wrote_same (ap (line_of (contract_of w)) e) p
+pub line_as : {old new : List ℕ} {at end : ℕ} (w : List ℕ) {a b : Report} → a ≡ b → Put old at (line_of (contract_of w) a) end new → Put old at (line_of (contract_of w) b) end new
+line_as w e p = same (ap (line_of (contract_of w)) e) p
 
 -- ---- lengths
 
@@ -88,9 +85,9 @@ arrow_short kind =
     let P : List ℕ → Type 0 = λ l. length (bytes " " ++ (l ++ bytes " ")) ≤ 4 in
     by_cases P _ _ _ (λ _. omega arith) λ _. omega arith
 
-pub value_short : {w : List ℕ} {kind : ℕ} {out : Writer} {z : ℤ} → SFits w64 z → ReadyValue w kind z out → length (value_text (contract_of w) kind z) ≤ 66
+pub value_short : {w : List ℕ} {kind : ℕ} {old : List ℕ} {at : ℕ} {z : ℤ} → SFits w64 z → ReadyValue w kind z old at → length (value_text (contract_of w) kind z) ≤ 66
 unfolding value_text spelled
-value_short {w} {kind} {out} {z} f r =
+value_short {w} {kind} {z = z} f r =
     by_cases (λ (l : List ℕ). length l ≤ 66) _ _ _
     (λ t.
     let row = ready_string r (eqb-true kind 2 t) (nat_abs z) refl in
@@ -103,10 +100,10 @@ refused_short n h = omega (arith, word_short n (omega arith))
 
 -- ---- lines
 
-module _ {old new : Writer} where
-  pub ruled_line : {w : List ℕ} {rule state clock : ℕ} {l1 l2 l3 l4 : Writer} → Ready w (Ruled rule state clock) old → clock < 2 ^ 64
-      → Wrote old (bytes "[" ++ (rule_name rule ++ bytes "] ")) l1 → Puts l1 (name_bytes w (1891 + state * 33)) l2 → Puts l2 (bytes ", ") l3
-      → Puts l3 (decimal clock) l4 → Puts l4 (bytes "\n") new → Wrote old (line_of (contract_of w) (Ruled rule state clock)) new
+module _ {old new : List ℕ} {at end : ℕ} where
+  pub ruled_line : {s1 s2 s3 s4 : Type 0} {w : List ℕ} {rule state clock : ℕ} {l1 l2 l3 l4 : List ℕ} {a1 a2 a3 a4 : ℕ} → Ready w (Ruled rule state clock) old at → clock < 2 ^ 64
+      → Put old at (bytes "[" ++ (rule_name rule ++ bytes "] ")) a1 l1 → Puts l1 a1 (name_bytes w (1891 + state * 33)) a2 l2 s1 → Puts l2 a2 (bytes ", ") a3 l3 s2
+      → Puts l3 a3 (decimal clock) a4 l4 s3 → Puts l4 a4 (bytes "\n") end new s4 → Put old at (line_of (contract_of w) (Ruled rule state clock)) end new
   unfolding line_of spelled
   ruled_line {w} {rule} {state} {clock} r k p1 p2 p3 p4 p5 =
       let row = ready_state r in
@@ -114,7 +111,7 @@ module _ {old new : Writer} where
       let tail : List ℕ = decimal clock ++ bytes "\n" in
       let name : List ℕ = name_bytes w (1891 + state * 33) in
       let rest : List ℕ = name ++ (bytes ", " ++ tail) in
-      let h : HasRoom (length (head ++ rest)) old =
+      let h : at + length (head ++ rest) ≤ length old =
       omega (
         arith,
         length-append head rest,
@@ -125,21 +122,21 @@ module _ {old new : Writer} where
         word_short clock k,
         r.room,
       ) in
-      wrote_same (ap (λ (l : List ℕ). bytes "[" ++ (rule_name rule ++ (bytes "] " ++ (l ++ (bytes ", " ++ tail))))) (sym row.name))
-      (wrote_apart (bytes "[") (rule_name rule) (bytes "] ") rest
-      (wrote_part h p1 λ h. wrote_piece name h p2 λ h. wrote_piece (bytes ", ") h p3 λ h. wrote_piece (decimal clock) h p4 λ h. wrote_of (bytes "\n") p5 h))
+      same (ap (λ (l : List ℕ). bytes "[" ++ (rule_name rule ++ (bytes "] " ++ (l ++ (bytes ", " ++ tail))))) (sym row.name))
+      (apart (bytes "[") (rule_name rule) (bytes "] ") rest
+      (part h p1 λ h. piece name h p2 λ h. piece (bytes ", ") h p3 λ h. piece (decimal clock) h p4 λ h. put_of (bytes "\n") p5 h))
 
   -- x is the value as its bits give it
-  pub sent_line : {w : List ℕ} {kind party : ℕ} {x z : ℤ} {l1 l2 l3 : Writer} → x ≡ z → SFits w64 z → Ready w (Sent kind party z) old
-      → Wrote old (value_text (contract_of w) kind x) l1 → Wrote l1 (bytes " " ++ (arrow kind ++ bytes " ")) l2
-      → Puts l2 (name_bytes w (43 + party * 33)) l3 → Puts l3 (bytes "\n") new → Wrote old (line_of (contract_of w) (Sent kind party z)) new
+  pub sent_line : {s1 s2 : Type 0} {w : List ℕ} {kind party : ℕ} {x z : ℤ} {l1 l2 l3 : List ℕ} {a1 a2 a3 : ℕ} → x ≡ z → SFits w64 z → Ready w (Sent kind party z) old at
+      → Put old at (value_text (contract_of w) kind x) a1 l1 → Put l1 a1 (bytes " " ++ (arrow kind ++ bytes " ")) a2 l2
+      → Puts l2 a2 (name_bytes w (43 + party * 33)) a3 l3 s1 → Puts l3 a3 (bytes "\n") end new s2 → Put old at (line_of (contract_of w) (Sent kind party z)) end new
   unfolding line_of spelled
   sent_line {w} {kind} {party} {x} {z} q f r p1 p2 p3 p4 =
       let row = ready_party r in
       let value : List ℕ = value_text (contract_of w) kind z in
       let mark : List ℕ = bytes " " ++ (arrow kind ++ bytes " ") in
       let name : List ℕ = name_bytes w (43 + party * 33) in
-      let h : HasRoom (length (value ++ (mark ++ (name ++ bytes "\n")))) old =
+      let h : at + length (value ++ (mark ++ (name ++ bytes "\n"))) ≤ length old =
       omega (
         arith,
         length-append value (mark ++ (name ++ bytes "\n")),
@@ -150,95 +147,95 @@ module _ {old new : Writer} where
         row.short,
         r.room,
       ) in
-      wrote_same
+      same
       (ap (λ (l : List ℕ). value ++ l) (append_assoc (bytes " ") (arrow kind ++ bytes " ") (name ++ bytes "\n") ∙ ap (λ (l : List ℕ). bytes " " ++ l) (append_assoc (arrow kind) (bytes " ") (name ++ bytes "\n")))
       ∙ ap (λ (l : List ℕ). value ++ (bytes " " ++ (arrow kind ++ (bytes " " ++ (l ++ bytes "\n"))))) (sym row.name))
-      (wrote_part h (wrote_same (ap (value_text (contract_of w) kind) q) p1) λ h. wrote_part h p2 λ h. wrote_piece name h p3 λ h. wrote_of (bytes "\n") p4 h)
+      (part h (same (ap (value_text (contract_of w) kind) q) p1) λ h. part h p2 λ h. piece name h p3 λ h. put_of (bytes "\n") p4 h)
 
-  pub held_line : {w : List ℕ} {asset amount : ℕ} {l1 l2 l3 : Writer} → Ready w (Held asset amount) old → amount < 2 ^ 64
-      → Puts old (name_bytes w (307 + asset * 33)) l1 → Puts l1 (bytes " = ") l2 → Puts l2 (decimal amount) l3 → Puts l3 (bytes "\n") new
-      → Wrote old (line_of (contract_of w) (Held asset amount)) new
+  pub held_line : {s1 s2 s3 s4 : Type 0} {w : List ℕ} {asset amount : ℕ} {l1 l2 l3 : List ℕ} {a1 a2 a3 : ℕ} → Ready w (Held asset amount) old at → amount < 2 ^ 64
+      → Puts old at (name_bytes w (307 + asset * 33)) a1 l1 s1 → Puts l1 a1 (bytes " = ") a2 l2 s2 → Puts l2 a2 (decimal amount) a3 l3 s3 → Puts l3 a3 (bytes "\n") end new s4
+      → Put old at (line_of (contract_of w) (Held asset amount)) end new
   unfolding line_of spelled
   held_line {w} {asset} {amount} r k p1 p2 p3 p4 =
       let row = ready_asset r in
       let tail : List ℕ = decimal amount ++ bytes "\n" in
       let name : List ℕ = name_bytes w (307 + asset * 33) in
-      let h : HasRoom (length (name ++ (bytes " = " ++ tail))) old =
+      let h : at + length (name ++ (bytes " = " ++ tail)) ≤ length old =
       omega (arith, length-append name (bytes " = " ++ tail), length-append (decimal amount) (bytes "\n"), row.short, word_short amount k, r.room) in
-      wrote_same (ap (λ (l : List ℕ). l ++ (bytes " = " ++ tail)) (sym row.name))
-      (wrote_piece name h p1 λ h. wrote_piece (bytes " = ") h p2 λ h. wrote_piece (decimal amount) h p3 λ h. wrote_of (bytes "\n") p4 h)
+      same (ap (λ (l : List ℕ). l ++ (bytes " = " ++ tail)) (sym row.name))
+      (piece name h p1 λ h. piece (bytes " = ") h p2 λ h. piece (decimal amount) h p3 λ h. put_of (bytes "\n") p4 h)
 
-  pub refused_line : {k : ℕ} {l1 : Writer} → k < 256 → HasRoom 29 old → Wrote old (refused_text k) l1 → Puts l1 (bytes "\n") new
-      → Wrote old (refused_text k ++ spelled line_end) new
+  pub refused_line : {s1 : Type 0} {k : ℕ} {l1 : List ℕ} {a1 : ℕ} → k < 256 → at + 29 ≤ length old → Put old at (refused_text k) a1 l1 → Puts l1 a1 (bytes "\n") end new s1
+      → Put old at (refused_text k ++ spelled line_end) end new
   unfolding spelled
   refused_line {k} f r p1 p2 =
-      let h : HasRoom (length (refused_text k ++ bytes "\n")) old = omega (arith, length-append (refused_text k) (bytes "\n"), refused_short k f, r) in
-      wrote_part h p1 λ h. wrote_of (bytes "\n") p2 h
+      let h : at + length (refused_text k ++ bytes "\n") ≤ length old = omega (arith, length-append (refused_text k) (bytes "\n"), refused_short k f, r) in
+      part h p1 λ h. put_of (bytes "\n") p2 h
 
-  pub failed_line : {k : ℕ} {l1 : Writer} → k < 256 → HasRoom 43 old → Wrote old (bytes "[" ++ (rule_name 2 ++ bytes "] ")) l1
-      → Wrote l1 (refused_text k ++ spelled line_end) new
-      → Wrote old (bytes "[" ++ (spelled event_match ++ (bytes "] " ++ (refused_text k ++ spelled line_end)))) new
+  pub failed_line : {k : ℕ} {l1 : List ℕ} {a1 : ℕ} → k < 256 → at + 43 ≤ length old → Put old at (bytes "[" ++ (rule_name 2 ++ bytes "] ")) a1 l1
+      → Put l1 a1 (refused_text k ++ spelled line_end) end new
+      → Put old at (bytes "[" ++ (spelled event_match ++ (bytes "] " ++ (refused_text k ++ spelled line_end)))) end new
   unfolding rule_name spelled pick
   failed_line {k} f r p1 p2 =
       let rest : List ℕ = refused_text k ++ bytes "\n" in
-      let h : HasRoom (length ((bytes "[" ++ (rule_name 2 ++ bytes "] ")) ++ rest)) old =
+      let h : at + length ((bytes "[" ++ (rule_name 2 ++ bytes "] ")) ++ rest) ≤ length old =
       omega (arith, length-append (refused_text k) (bytes "\n"), refused_short k f, r) in
-      wrote_apart (bytes "[") (rule_name 2) (bytes "] ") rest (wrote_part h p1 λ _. p2)
+      apart (bytes "[") (rule_name 2) (bytes "] ") rest (part h p1 λ _. p2)
 
-  pub refused_as : (w : List ℕ) (k : ℕ) {r : Report} → r ≡ report.Refused k → Wrote old (refused_text k ++ spelled line_end) new → Wrote old (line_of (contract_of w) r) new
+  pub refused_as : (w : List ℕ) (k : ℕ) {r : Report} → r ≡ report.Refused k → Put old at (refused_text k ++ spelled line_end) end new → Put old at (line_of (contract_of w) r) end new
   unfolding line_of
-  refused_as w k e p = wrote_same (sym (ap (line_of (contract_of w)) e)) p
+  refused_as w k e p = same (sym (ap (line_of (contract_of w)) e)) p
 
-  pub failed_as : (w : List ℕ) (k : ℕ) {r : Report} → r ≡ report.Failed k → Wrote old (bytes "[" ++ (spelled event_match ++ (bytes "] " ++ (refused_text k ++ spelled line_end)))) new
-      → Wrote old (line_of (contract_of w) r) new
+  pub failed_as : (w : List ℕ) (k : ℕ) {r : Report} → r ≡ report.Failed k → Put old at (bytes "[" ++ (spelled event_match ++ (bytes "] " ++ (refused_text k ++ spelled line_end)))) end new
+      → Put old at (line_of (contract_of w) r) end new
   unfolding line_of
-  failed_as w k e p = wrote_same (sym (ap (line_of (contract_of w)) e)) p
+  failed_as w k e p = same (sym (ap (line_of (contract_of w)) e)) p
 
-  pub text_line_lem : {k place : ℕ} {l1 l2 l3 : Writer} → k < 256 → place < 2 ^ 64 → HasRoom 128 old → Wrote old (refused_text k) l1
-      → Puts l1 (bytes " ") l2 → Puts l2 (decimal place) l3 → Puts l3 (bytes "\n") new → Wrote old (text_line k place) new
+  pub text_line_lem : {s1 s2 s3 : Type 0} {k place : ℕ} {l1 l2 l3 : List ℕ} {a1 a2 a3 : ℕ} → k < 256 → place < 2 ^ 64 → at + 128 ≤ length old → Put old at (refused_text k) a1 l1
+      → Puts l1 a1 (bytes " ") a2 l2 s1 → Puts l2 a2 (decimal place) a3 l3 s2 → Puts l3 a3 (bytes "\n") end new s3 → Put old at (text_line k place) end new
   unfolding text_line spelled
   text_line_lem {k} {place} f g r p1 p2 p3 p4 =
       let tail : List ℕ = decimal place ++ bytes "\n" in
-      let h : HasRoom (length (refused_text k ++ (bytes " " ++ tail))) old =
+      let h : at + length (refused_text k ++ (bytes " " ++ tail)) ≤ length old =
       omega (arith, length-append (refused_text k) (bytes " " ++ tail), length-append (decimal place) (bytes "\n"), refused_short k f, word_short place g, r) in
-      wrote_part h p1 λ h. wrote_piece (bytes " ") h p2 λ h. wrote_piece (decimal place) h p3 λ h. wrote_of (bytes "\n") p4 h
+      part h p1 λ h. piece (bytes " ") h p2 λ h. piece (decimal place) h p3 λ h. put_of (bytes "\n") p4 h
 
-  pub string_value : {w : List ℕ} {kind m : ℕ} {z : ℤ} {l1 l2 : Writer} → kind ≡ 2 → m ≡ nat_abs z → ReadyValue w kind z old
-      → Puts old (bytes "\"") l1 → Puts l1 (name_bytes w (2947 + m * 65)) l2 → Puts l2 (bytes "\"") new → Wrote old (value_text (contract_of w) kind z) new
+  pub string_value : {s1 s2 s3 : Type 0} {w : List ℕ} {kind m : ℕ} {z : ℤ} {l1 l2 : List ℕ} {a1 a2 : ℕ} → kind ≡ 2 → m ≡ nat_abs z → ReadyValue w kind z old at
+      → Puts old at (bytes "\"") a1 l1 s1 → Puts l1 a1 (name_bytes w (2947 + m * 65)) a2 l2 s2 → Puts l2 a2 (bytes "\"") end new s3 → Put old at (value_text (contract_of w) kind z) end new
   unfolding value_text spelled
   string_value {w} {kind} {m} {z} k e r p1 p2 p3 =
       let row = ready_string r k m e in
       let name : List ℕ = name_bytes w (2947 + m * 65) in
-      let h : HasRoom (length (bytes "\"" ++ (name ++ bytes "\""))) old = omega (arith, length-append name (bytes "\""), row.short, r.room) in
-      wrote_same
+      let h : at + length (bytes "\"" ++ (name ++ bytes "\"")) ≤ length old = omega (arith, length-append name (bytes "\""), row.short, r.room) in
+      same
       (ap (λ (l : List ℕ). bytes "\"" ++ (l ++ bytes "\"")) (sym row.name ∙ ap (λ (i : ℕ). get_or (contract_of w).strings i []) e)
       ∙ sym (pick_true _ _ _ (eq-eqb kind 2 k)))
-      (wrote_piece (bytes "\"") h p1 λ h. wrote_piece name h p2 λ h. wrote_of (bytes "\"") p3 h)
+      (piece (bytes "\"") h p1 λ h. piece name h p2 λ h. put_of (bytes "\"") p3 h)
 
-  pub number_value : (w : List ℕ) (kind : ℕ) {x z : ℤ} → (kind ≡ 2 → ⊥) → x ≡ z → SFits w64 x → HasRoom 128 old → Puts old (signed x) new
-      → Wrote old (value_text (contract_of w) kind z) new
+  pub number_value : {s1 : Type 0} (w : List ℕ) (kind : ℕ) {x z : ℤ} → (kind ≡ 2 → ⊥) → x ≡ z → SFits w64 x → at + 128 ≤ length old → Puts old at (signed x) end new s1
+      → Put old at (value_text (contract_of w) kind z) end new
   unfolding value_text
   number_value w kind {x} {z} k q f r p =
-      wrote_same (ap signed q ∙ sym (pick_false _ _ _ (ne_eqb kind 2 k))) (wrote_of (signed x) p (omega (arith, signed_short x f, r)))
+      same (ap signed q ∙ sym (pick_false _ _ _ (ne_eqb kind 2 k))) (put_of (signed x) p (omega (arith, signed_short x f, r)))
 
-  pub refused_piece : {k : ℕ} {l1 l2 : Writer} → k < 256 → HasRoom 28 old → Puts old (spelled refused) l1 → Puts l1 (bytes " ") l2
-      → Puts l2 (decimal k) new → Wrote old (refused_text k) new
+  pub refused_piece : {s1 s2 s3 : Type 0} {k : ℕ} {l1 l2 : List ℕ} {a1 a2 : ℕ} → k < 256 → at + 28 ≤ length old → Puts old at (spelled refused) a1 l1 s1 → Puts l1 a1 (bytes " ") a2 l2 s2
+      → Puts l2 a2 (decimal k) end new s3 → Put old at (refused_text k) end new
   unfolding refused_text
   refused_piece {k} f r p1 p2 p3 =
-      let h : HasRoom (length (refused_text k)) old = omega (arith, refused_short k f, r) in
-      wrote_piece (spelled refused) h p1 λ h. wrote_piece (bytes " ") h p2 λ h. wrote_of (decimal k) p3 h
+      let h : at + length (refused_text k) ≤ length old = omega (arith, refused_short k f, r) in
+      piece (spelled refused) h p1 λ h. piece (bytes " ") h p2 λ h. put_of (decimal k) p3 h
 
-  pub rule_piece : (rule : ℕ) {l1 l2 : Writer} → HasRoom 14 old → Puts old (bytes "[") l1 → Puts l1 (rule_name rule) l2
-      → Puts l2 (bytes "] ") new → Wrote old (bytes "[" ++ (rule_name rule ++ bytes "] ")) new
+  pub rule_piece : {s1 s2 s3 : Type 0} (rule : ℕ) {l1 l2 : List ℕ} {a1 a2 : ℕ} → at + 14 ≤ length old → Puts old at (bytes "[") a1 l1 s1 → Puts l1 a1 (rule_name rule) a2 l2 s2
+      → Puts l2 a2 (bytes "] ") end new s3 → Put old at (bytes "[" ++ (rule_name rule ++ bytes "] ")) end new
   rule_piece rule r p1 p2 p3 =
-      let h : HasRoom (length (bytes "[" ++ (rule_name rule ++ bytes "] "))) old = omega (arith, rule_short rule, r) in
-      wrote_piece (bytes "[") h p1 λ h. wrote_piece (rule_name rule) h p2 λ h. wrote_of (bytes "] ") p3 h
+      let h : at + length (bytes "[" ++ (rule_name rule ++ bytes "] ")) ≤ length old = omega (arith, rule_short rule, r) in
+      piece (bytes "[") h p1 λ h. piece (rule_name rule) h p2 λ h. put_of (bytes "] ") p3 h
 
-  pub arrow_piece : (kind : ℕ) {l1 l2 : Writer} → HasRoom 4 old → Puts old (bytes " ") l1 → Puts l1 (arrow kind) l2
-      → Puts l2 (bytes " ") new → Wrote old (bytes " " ++ (arrow kind ++ bytes " ")) new
+  pub arrow_piece : {s1 s2 s3 : Type 0} (kind : ℕ) {l1 l2 : List ℕ} {a1 a2 : ℕ} → at + 4 ≤ length old → Puts old at (bytes " ") a1 l1 s1 → Puts l1 a1 (arrow kind) a2 l2 s2
+      → Puts l2 a2 (bytes " ") end new s3 → Put old at (bytes " " ++ (arrow kind ++ bytes " ")) end new
   arrow_piece kind r p1 p2 p3 =
-      let h : HasRoom (length (bytes " " ++ (arrow kind ++ bytes " "))) old = omega (arith, arrow_short kind, r) in
-      wrote_piece (bytes " ") h p1 λ h. wrote_piece (arrow kind) h p2 λ h. wrote_of (bytes " ") p3 h
+      let h : at + length (bytes " " ++ (arrow kind ++ bytes " ")) ≤ length old = omega (arith, arrow_short kind, r) in
+      piece (bytes " ") h p1 λ h. piece (arrow kind) h p2 λ h. put_of (bytes " ") p3 h
 
 -- ---- the answers
 

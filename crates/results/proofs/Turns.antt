@@ -1,4 +1,5 @@
 -- Many reports and their lines, one a turn. Assumes nothing.
+use Rattle.std.specs.List.{list_all, range_with_len}
 use mathlib.Core.Path.{◌≡◌, refl, sym, ap, ◌∙◌}
 use mathlib.Core.Bool.{Bool, true, false, ◌&&◌}
 use mathlib.Core.List.{List, [], ◌∷◌, ◌++◌, append_assoc, append-nil}
@@ -141,36 +142,13 @@ module _ {x : Coded} {size : ℕ} (a : AllReady x size) {j : ℕ} where
 
 -- ---- question 53 of all reports
 
--- the reports before report i pass it, so that those from there on decide
-pub record Asked (c : Contract) (ns : List ℕ) (zs : List ℤ) (from to i : ℕ) : Type 0 where
-  pub first : from ≤ i
-  pub answer : every (report_ok c) (reports_from ns zs i (to - i)) ≡ every (report_ok c) (reports_from ns zs from (to - from))
-
-module _ {c : Contract} {ns : List ℕ} {zs : List ℤ} {from to : ℕ} where
-  pub asked_none : Asked c ns zs from to from
-  asked_none = record { first = omega arith; answer = refl }
-
-  module _ {i : ℕ} (a : Asked c ns zs from to i) where
-    module _ (l : i < to) {r : Report} (e : r ≡ report_at ns zs i) where
-      split : every (report_ok c) (reports_from ns zs i (to - i)) ≡ (report_ok c r && every (report_ok c) (reports_from ns zs (i + 1) (to - (i + 1))))
-      unfolding every
-      split =
-          ap (every (report_ok c)) (first_report ns zs i to l)
-          ∙ ap (λ (x : Report). report_ok c x && every (report_ok c) (reports_from ns zs (i + 1) (to - (i + 1)))) (sym e)
-
-      pub asked_one : report_ok c r ≡ true → Asked c ns zs from to (i + 1)
-      asked_one k =
-          record {
-            first = omega (arith, a.first);
-            answer = sym (split ∙ ap (λ (b : Bool). b && every (report_ok c) (reports_from ns zs (i + 1) (to - (i + 1)))) k) ∙ a.answer;
-          }
-
-      pub asked_bad : report_ok c r ≡ false → false ≡ every (report_ok c) (reports_from ns zs from (to - from))
-      asked_bad k = sym (split ∙ ap (λ (b : Bool). b && every (report_ok c) (reports_from ns zs (i + 1) (to - (i + 1)))) k) ∙ a.answer
-
-    pub asked_all : to ≤ i → true ≡ every (report_ok c) (reports_from ns zs from (to - from))
-    unfolding every
-    asked_all l = sym (ap (every (report_ok c)) (no_report_lem ns zs i to l)) ∙ a.answer
+-- a test of the reports numbered from i on, as `all` asks it
+pub all_reports : (p : Report → Bool) (ns : List ℕ) (zs : List ℤ) (n i : ℕ) → list_all (λ j. p (report_at ns zs j)) (range_with_len i n) ≡ every p (reports_from ns zs i n)
+unfolding reports_from every
+all_reports p ns zs zero i = refl
+all_reports p ns zs (suc n) i =
+    let e : i + 1 ≡ suc i = omega arith in
+    ap (λ (b : Bool). p (report_at ns zs i) && b) (all_reports p ns zs n (i + 1) ∙ ap (λ (j : ℕ). every p (reports_from ns zs j n)) e)
 
 -- ---- the lines of all reports
 

@@ -1,7 +1,5 @@
 -- For private functions only: what is known of a report that is in range.
-use Rattle.std.specs.Prelude.{◌≡◌, true, List, ℕ, ◌-◌, ◌*◌, ◌≤◌, ℤ}
-use Rattle.printing.specs.declared.Writer.{Writer}
-use Rattle.printing.specs.Writers.{HasRoom}
+use Rattle.std.specs.Prelude.{◌≡◌, true, List, ℕ, ◌-◌, ◌*◌, ◌+◌, ◌≤◌, length, ℤ}
 use Rattle.laws.specs.Lists.{every}
 use Rattle.contract.specs.Decode.{contract_of}
 use Rattle.contract.specs.Check.{passes}
@@ -10,15 +8,15 @@ use Rattle.results.specs.Lines.{value_ok, report_ok}
 use Rattle.results.specs.declared.Report.{Report}
 use Rattle.results.specs.declared.many.Coded.{Coded}
 
--- questions 52, 3 and 53 are passed
-pub record Ready (w : List ℕ) (report : Report) (out : Writer) : Type 0 where
-  pub room : HasRoom 128 out
+-- questions 52, 3 and 53 are passed, for a line that is written into a buffer from a place on
+pub record Ready (w : List ℕ) (report : Report) (old : List ℕ) (at : ℕ) : Type 0 where
+  pub room : at + 128 ≤ length old
   pub table : passes w ≡ true
   pub range : report_ok (contract_of w) report ≡ true
 
 -- the same of a label's value alone
-pub record ReadyValue (w : List ℕ) (kind : ℕ) (value : ℤ) (out : Writer) : Type 0 where
-  pub room : HasRoom 128 out
+pub record ReadyValue (w : List ℕ) (kind : ℕ) (value : ℤ) (old : List ℕ) (at : ℕ) : Type 0 where
+  pub room : at + 128 ≤ length old
   pub table : passes w ≡ true
   pub range : value_ok (contract_of w) kind value ≡ true
 

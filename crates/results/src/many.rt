@@ -4,7 +4,7 @@ ghost use Rattle.laws.specs.Lists.{every};
 ghost use Rattle.contract.specs.Decode.{contract_of};
 ghost use Rattle.contract.specs.Check.{passes};
 ghost use Rattle.printing.specs.Pieces.{Put};
-ghost use Rattle.results.specs.Coded.{report_from, report_at};
+ghost use Rattle.results.specs.Coded.{report_at};
 ghost use Rattle.results.specs.Lines.{report_ok};
 ghost use Rattle.results.specs.Results.{batch_of, lines_of, batch_after};
 ghost use Rattle.results.specs.Private.{AllReady, reports_in};
@@ -13,35 +13,16 @@ use crate::reports::{report_ok, write_line};
 use crate::{Batch, Report};
 use questions::Question;
 
-// The report of four numbers and an integer.
-// Kept: (a) many reports are handed on in two lent buffers of numbers (no heap), and question 53 judges what they name.
-#[tactic(auto, unfolding(crate::specs::Coded::report_from, laws::specs::Choice::pick))]
-fn report_of(which: u64, a: u64, b: u64, c: u64, value: i64) -> Report
-    ensures { result ≡ report_from which a b c value }
-{
-    if 255 < a {
-        return Report::Refused(0);
-    }
-    match which {
-        1 => Report::Ruled(a as u8, b as usize, c),
-        2 => Report::Sent(a as u8, b as usize, value),
-        3 => Report::Held(a as usize, b),
-        4 => Report::Refused(a as u8),
-        5 => Report::Failed(a as u8),
-        _ => Report::Refused(0),
-    }
-}
-
 // Kept: (a) the two lists are the public form, as in `write_batch`.
 // Report i of those in a row; past those that stand there whole, one that question 53 refuses.
 pub fn report_at(numbers: &[u64], integers: &[i64], i: usize) -> Report
     ensures { result ≡ report_at numbers.now integers.now i }
 {
     if numbers.len() / Report::WORDS <= i || integers.len() <= i {
-        return Report::Refused(0);
+        return Report::NONE;
     }
     let at = Report::WORDS * i;
-    report_of(
+    Report::from_numbers(
         numbers[at],
         numbers[at + 1],
         numbers[at + 2],
@@ -72,12 +53,10 @@ impl Coded<'_> {
     fn all_ok(&self) -> bool
         ensures { result ≡ every (report_ok (contract_of self.now.table.now)) (reports_in self.now) }
     {
-        for i in self.from..self.to {
-            if !report_ok(self.table, report_at(self.numbers, self.integers, i)) {
-                return false;
-            }
-        }
-        true
+        (self.from..self.to).all(|i| report_ok(
+            self.table,
+            report_at(self.numbers, self.integers, i),
+        ))
     }
 
     // Their lines, one after the other; the place after them.

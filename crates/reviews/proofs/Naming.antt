@@ -12,11 +12,7 @@ use Rattle.contract.specs.Decode.{contract_of}
 use Rattle.contract.specs.Check.{passes}
 use Rattle.contract_laws.proofs.Sound.{passed, counts}
 use Rattle.printing.specs.Pieces.{name_bytes}
-use Rattle.printing.specs.Writers.{Starts, Puts}
-use Rattle.printing.specs.declared.Writer.{Writer}
-use Rattle.std.specs.Borrow.{MutBor}
-use Rattle.printing.proofs.Puts.{line_end_lem}
-use Rattle.printing.proofs.Writers.{wrote_of, start_room, from_start}
+use Rattle.printing.proofs.Puts.{Puts, put_of, from_start, line_end_lem}
 use Rattle.results.proofs.Rows.{Row, field_row}
 use Rattle.reviews.specs.Reviews.{field_name}
 
@@ -31,15 +27,15 @@ module _ (w : List ℕ) (e : passes w ≡ true) (x : ℕ) where
   pub field_few : x < word_at w 2 → x < 32
   field_few h = omega (arith, (passed w e).head.fields)
 
-  pub named_as : {lent : MutBor (List ℕ)} {out after : Writer} {new : List ℕ} {n : ℕ} → x < word_at w 2 → length lent.now ≡ 32 → Starts lent out
-      → Puts out (name_bytes w (835 + x * 33)) after → n ≡ after.at → new ≡ after.buffer.now → Named lent.now (field_name w x) n new
+  pub named_as : {s : Type 0} {lent old after new : List ℕ} {at n : ℕ} → x < word_at w 2 → length lent ≡ 32 → at ≡ 0 → old ≡ lent
+      → Puts old at (name_bytes w (835 + x * 33)) n after s → new ≡ after → Named lent (field_name w x) n new
   unfolding field_name
-  named_as {lent} h k s p a b =
+  named_as {lent = lent} h k a g p b =
       let name : List ℕ = name_bytes w (835 + x * 33) in
       let row : Row w (contract_of w).fields x (835 + x * 33) 32 = field_row w e x (omega (arith, (counts w).fields)) in
-      let q = from_start s (wrote_of name p (start_room s (omega (arith, row.short, k)))) a b in
+      let q = from_start a g (put_of name p (omega (arith, row.short, k, a, ap length g))) b in
       let same : name ≡ field_name w x = sym (pick_true _ _ _ e ∙ row.name) in
-      record { value = line_end_lem q ∙ ap length same; buffer_after = q.list ∙ ap (sets lent.now 0) same }
+      record { value = line_end_lem q ∙ ap length same; buffer_after = q.list ∙ ap (sets lent 0) same }
 
   pub no_field : (old : List ℕ) → word_at w 2 ≤ x → Named old (field_name w x) 0 old
   unfolding field_name

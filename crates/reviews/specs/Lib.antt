@@ -1,1 +1,2 @@
 pub mod Reviews
+pub mod Private

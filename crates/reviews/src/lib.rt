@@ -6,76 +6,71 @@ ghost use Rattle.std.proofs.lemmas.List.Edits.{sets};
 ghost use Rattle.contract.specs.Table.{word_at};
 ghost use Rattle.contract.specs.Decode.{clause_at, contract_of};
 ghost use Rattle.contract.specs.Check.{passes};
-ghost use Rattle.agreements.specs.Agreement.{same_verb};
-ghost use Rattle.agreements.specs.Private.{verb_of};
+ghost use Rattle.contract.specs.Rows.{said};
+ghost use Rattle.reviews.specs.Private.{says};
 ghost use Rattle.reviews.specs.Reviews.{is_in, names, never_agreed, field_name};
 
-use contract::Contract;
+use contract::{Contract, Verb};
 use printing::Writer;
 
-// Whether clause i names field x.
-fn clause_names(table: &[u64], i: usize, x: usize) -> bool
-    requires { (passes table.now ≡ true) × (i < word_at table.now 5) }
-    ensures { result ≡ is_in x (clause_at table.now i).fields }
-{
-    let c = contract::clause_at(table, i);
-    for j in 0..c.fields {
-        if x == contract::clause_field(table, i, j) {
-            return true;
-        }
-    }
-    false
+// A table that passes.
+#[derive(Clone, Copy)]
+struct Passed<'a> {
+    table: &'a [u64],
+    ghost whole: { passes table.now ≡ true },
 }
 
-// Whether two verbs are the same: 0 for SET, else OK.
-fn same_verb(a: usize, b: usize) -> bool
-    ensures { result ≡ same_verb (verb_of a) (verb_of b) }
-{
-    if a == 0 {
-        return b == 0;
+impl Passed<'_> {
+    // Whether clause i names field x.
+    fn clause_names(&self, i: usize, x: usize) -> bool
+        requires { i < word_at self.now.table.now 5 }
+        ensures { result ≡ is_in x (clause_at self.now.table.now i).fields }
+    {
+        let count = contract::clause_at(self.table, i).fields;
+        (0..count).any(|j| x == contract::clause_field(self.table, i, j))
     }
-    b != 0
-}
 
-// Whether a clause of this verb names field x.
-fn named(table: &[u64], verb: usize, x: usize) -> bool
-    requires { passes table.now ≡ true }
-    ensures { result ≡ names (verb_of verb) x (contract_of table.now).clauses }
-{
-    let h = contract::head(table);
-    for i in 0..h.clauses {
-        let c = contract::clause_at(table, i);
-        if same_verb(verb, c.verb) & clause_names(table, i, x) {
-            return true;
-        }
+    // Whether clause i has this verb and names field x.
+    fn says(&self, verb: Verb, i: usize, x: usize) -> bool
+        requires { i < word_at self.now.table.now 5 }
+        ensures { result ≡ says (said verb) x (clause_at self.now.table.now i) }
+    {
+        let row = contract::clause_at(self.table, i);
+        verb == Verb::from(row.verb) && self.clause_names(i, x)
     }
-    false
+
+    // Whether a clause of this verb names field x.
+    fn named(&self, verb: Verb, x: usize) -> bool
+        ensures { result ≡ names (said verb) x (contract_of self.now.table.now).clauses }
+    {
+        let count = contract::head(self.table).clauses;
+        (0..count).any(|i| self.says(verb, i, x))
+    }
 }
 
 // Whether a clause sets field x and no clause agrees on it; false for a table that does not pass.
+#[tactic(auto, using(crate::proofs::Laws::never_told, crate::proofs::Laws::never_set, crate::proofs::Laws::never_refused))]
 pub fn never_agreed(table: &[u64], x: usize) -> bool
     ensures { result ≡ never_agreed table.now x }
 {
     if tables::table_passes(table) {
-        return named(table, 0, x) & !named(table, 1, x);
+        let terms = Passed { table };
+        return terms.named(Verb::Set, x) && !terms.named(Verb::Ok, x);
     }
     false
 }
 
 // The name of field x comes to the front of the buffer; answers how many bytes it has. There is none for a table that does not pass, or
 // past the last field.
+// Kept: (d) the number is the name's length, and no bytes are the name of no field, as the definition has it: an Option would say that twice.
 pub fn field_name(table: &[u64], x: usize, buffer: &mut [u8; Contract::NAME]) -> usize
     ensures value { result ≡ length (field_name table.now x) }
     ensures buffer_after { buffer.new ≡ sets buffer.old 0 (field_name table.now x) }
 {
-    if tables::table_passes(table) {
-        let h = contract::head(table);
-        if x < h.fields {
-            let mut out = Writer::new(buffer);
-            out.put_name(table, contract::FIELDS + x * contract::NAME_WORDS);
-            return out.used();
-        }
+    if !tables::table_passes(table) || contract::head(table).fields <= x {
         return 0;
     }
-    0
+    let mut out = Writer::new(buffer);
+    out.put_name(table, contract::FIELDS + x * contract::NAME_WORDS);
+    out.at
 }

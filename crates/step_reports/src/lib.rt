@@ -13,6 +13,7 @@ use results::Report;
 use statements::Label;
 
 // The lent lists that result lines are told in, and how many lines stand in them.
+// Kept: (a) the two lists are lent as `report` has them, and there is no heap for a list of reports.
 #[derive(Drop)]
 struct Teller<'a> {
     numbers: &'a mut [u64],
@@ -20,11 +21,23 @@ struct Teller<'a> {
     many: usize,
 }
 
-// A rule's number in a result line.
-fn rule_number(rule: Rule) -> u64
+// A rule's number in a result line: `outcomes::Rule` has its rules in the order of `Report::AGREEMENT` to `Report::TICK`, which the clause says.
+fn rule_number(rule: Rule) -> u8
     ensures { result ≡ rule_number rule }
 {
-    rule as u64
+    rule as u8
+}
+
+// What came of a step, as a result line.
+// Kept: (d) no From: the state and the clock stand beside the outcome.
+fn report_of(outcome: Outcome, state: usize, clock: u64) -> Report
+    ensures { result ≡ report_of outcome state clock }
+{
+    match outcome {
+        Outcome::Accepted(rule) => Report::Ruled(rule_number(rule), state, clock),
+        Outcome::Failed(q) => Report::Failed(q.number()),
+        Outcome::Refused(q) => Report::Refused(q.number()),
+    }
 }
 
 // Word i of the labels, without its sign.
@@ -44,36 +57,15 @@ impl Teller<'_> {
         ensures many { self.new.many ≡ self.old.many + 1 }
         ensures same_lists { SameLists self.old self.new }
     {
-        let n = self.many;
-        let at = Report::WORDS * n;
-        let numbers = &mut *self.numbers;
-        let [which, a, b, c] = words;
-        numbers[at] = which;
-        numbers[at + 1] = a;
-        numbers[at + 2] = b;
-        numbers[at + 3] = c;
-        self.integers[n] = value;
-        self.many = n + 1;
+        let at = Report::WORDS * self.many;
+        self.numbers[at..at + Report::WORDS].copy_from_slice(&words);
+        self.integers[self.many] = value;
+        self.many += 1;
     }
 
-    // What came of a step.
-    fn tell_outcome(&mut self, outcome: Outcome, state: usize, clock: u64)
-        requires { HasRoom self.old 1 }
-        ensures told { Told self.old.numbers.now self.old.integers.now self.old.many (report_of outcome state clock ∷ []) self.new.numbers.now self.new.integers.now }
-        ensures many { self.new.many ≡ self.old.many + 1 }
-        ensures same_lists { SameLists self.old self.new }
-    {
-        match outcome {
-            Outcome::Accepted(rule) => {
-                let r = rule_number(rule);
-                self.tell([1, r, state as u64, clock], 0);
-            }
-            Outcome::Failed(q) => self.tell([5, q.number() as u64, 0, 0], 0),
-            Outcome::Refused(q) => self.tell([4, q.number() as u64, 0, 0], 0),
-        }
-    }
-
-    // The first labels of these words.
+    // The first labels of these words, whose kinds may be any numbers here.
+    // Kept: (d) the words of label i by their places, as the definition (`label_at`) has them: in threes they would be places in a list of lists,
+    // which a proof takes back to these, and the count would still be needed beside them.
     fn tell_labels(&mut self, labels: &[i64; Label::ROOM], count: usize)
         requires { (count ≤ 64) × HasRoom self.old count }
         ensures told { Told self.old.numbers.now self.old.integers.now self.old.many (sent count labels.now) self.new.numbers.now self.new.integers.now }
@@ -84,7 +76,7 @@ impl Teller<'_> {
             let at = Label::WORDS * i;
             let kind = word(labels, at);
             let party = word(labels, at + 1);
-            self.tell([2, kind, party, 0], labels[at + 2]);
+            self.tell([Report::SENT, kind, party, 0], labels[at + 2]);
         }
     }
 }
@@ -110,10 +102,7 @@ fn fits_from(numbers: &[u64], integers: &[i64], n: usize) -> bool
     ensures { result ≡ has_room numbers.now integers.now n }
 {
     let room = room_in(numbers, integers);
-    if room < Stepped::REPORTS {
-        return false;
-    }
-    n <= room - Stepped::REPORTS
+    Stepped::REPORTS <= room && n <= room - Stepped::REPORTS
 }
 
 // The result lines of a step, from line n on, and the line after them; nothing where those of any step don't fit.
@@ -140,7 +129,8 @@ pub fn report(
         integers,
         many: n,
     };
-    teller.tell_outcome(outcome, state, clock);
+    let first = report_of(outcome, state, clock);
+    teller.tell(first.numbers(), first.integer());
     teller.tell_labels(labels, labels_told(count));
     teller.many
 }

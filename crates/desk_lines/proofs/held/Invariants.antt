@@ -3,4 +3,4 @@ use Rattle.desk_lines.proofs.Laws.{Holds}
 use Rattle.desk_lines.proofs.held.Given as goal
 
 abbrev pub invariant-loop-i : goal.invariant-loop-i
-invariant-loop-i l = Holds l.initial.numbers l.amounts l.count l.i l.numbers
+invariant-loop-i l = Holds l.initial.numbers l.fn.s.assets l.count l.i l.numbers

@@ -1,15 +1,18 @@
 -- `desk_lines::question_of` meets its contract. Assumes nothing.
-use Rattle.desk_lines.proofs.Laws.{question_told, question_large, question_none, question_past, question_read}
+use mathlib.Core.Path.{◌∙◌}
+use Rattle.desk_lines.proofs.Laws.{question_read, question_past, question_told, question_none}
 use Rattle.desk_lines.proofs.question_of.Goals as goal
 
 pub returns-then-numbers-i : goal.returns-then-numbers-i
 returns-then-numbers-i c = question_past _ _ c.if-numbers-i.true
 
-pub returns-then-which : goal.returns-then-which
-returns-then-which c = question_read _ _ c.word-which.ensures c.word-question.ensures (λ b d z. question_told _ _ b d z c.if-question-lt256.true c.if-which.true)
+pub returns-in-Refused : goal.returns-in-Refused
+returns-in-Refused c =
+    c.then_some.ensures
+    ∙ question_told c.in-Refused.question c.in-Refused.is
+    ∙ question_read c.args.numbers.now c.args.i c.word.ensures c.word-2.ensures c.word-3.ensures c.word-4.ensures c.from_numbers-report.ensures
 
-pub returns-else-which : goal.returns-else-which
-returns-else-which c = question_read _ _ c.word-which.ensures c.word-question.ensures (λ b d z. question_none _ _ b d z c.if-which.false)
-
-pub returns-else-question-lt256 : goal.returns-else-question-lt256
-returns-else-question-lt256 c = question_read _ _ c.word-which.ensures c.word-question.ensures (λ b d z. question_large _ _ b d z c.if-question-lt256.false)
+pub returns-in_default : goal.returns-in_default
+returns-in_default c =
+    question_none _ c.in_default.not-Refused c.in_default.not-Failed
+    ∙ question_read c.args.numbers.now c.args.i c.word.ensures c.word-2.ensures c.word-3.ensures c.word-4.ensures c.from_numbers-report.ensures

@@ -5,7 +5,7 @@ use lib.IntN.{ℤ}
 use mir.Syntax.{w64}
 use mir.Val.{to_z, of_z}
 use Rattle.results.specs.declared.Report.TheVariants.{Sent}
-use Rattle.pages.proofs.Noting.{noted_as, ruled_notes, held_notes, refused_notes, failed_notes}
+use Rattle.pages.proofs.Noting.{noted_as, ruled_notes, others_note}
 use Rattle.pages.proofs.gather.Goals as goal
 
 pub returns-in-Ruled : goal.returns-in-Ruled
@@ -17,10 +17,4 @@ returns-in-Sent c =
     noted_as _ _ _ (ap (λ (z : ℤ). Sent c.in-Sent.kind c.in-Sent.party z) e ∙ sym c.in-Sent.is ∙ c.report_at.ensures) c.note.ensures
 
 pub returns-in-Held : goal.returns-in-Held
-returns-in-Held c = noted_as _ _ _ (sym c.in-Held.is ∙ c.report_at.ensures) (held_notes c.args.g _ _ _ _)
-
-pub returns-in-Refused : goal.returns-in-Refused
-returns-in-Refused c = noted_as _ _ _ (sym c.in-Refused.is ∙ c.report_at.ensures) (refused_notes c.args.g _ _ _)
-
-pub returns-in-Failed : goal.returns-in-Failed
-returns-in-Failed c = noted_as _ _ _ (sym c.in-Failed.is ∙ c.report_at.ensures) (failed_notes c.args.g _ _ _)
+returns-in-Held c = noted_as _ _ _ c.report_at.ensures (others_note c.args.g _ _ c.in-Held.is)

@@ -18,7 +18,7 @@ returns-then-not-all_payouts c =
 
 pub write_sheet-requires : goal.write_sheet-requires
 write_sheet-requires c =
-    record { all_payable = record { table = sym c.table_passes.ensures ∙ c.if-not-table_passes.false; payouts = sym c.all_payouts.ensures ∙ c.if-not-all_payouts.false }; page_bytes_in_bounds = c.if-buffer-lt-BYTES.false }
+    record { all_payable = record { table = sym c.table_passes.ensures ∙ c.if-not-table_passes.false; payouts = sym c.all_payouts.ensures ∙ c.if-not-all_payouts.false }; room = c.if-buffer-lt-BYTES.false }
 
 pub returns : goal.returns
 returns c =

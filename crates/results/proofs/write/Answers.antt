@@ -17,14 +17,6 @@ returns-then-not-table_passes c = no_table _ _ _ c.if-buffer-lt-ROOM.false (sym 
 pub returns-then-not-report_ok : goal.returns-then-not-report_ok
 returns-then-not-report_ok c = no_kind _ _ _ c.if-buffer-lt-ROOM.false (sym c.table_passes.ensures ∙ c.if-not-table_passes.false) (sym c.report_ok.ensures ∙ c.if-not-report_ok.true)
 
-pub write_line-requires : goal.write_line-requires
-write_line-requires c =
-    record {
-      room = c.if-buffer-lt-ROOM.false;
-      table = sym c.table_passes.ensures ∙ c.if-not-table_passes.false;
-      range = sym c.report_ok.ensures ∙ c.if-not-report_ok.false;
-    }
-
 pub returns : goal.returns
 returns c =
     wrote _ _ _ c.if-buffer-lt-ROOM.false (sym c.table_passes.ensures ∙ c.if-not-table_passes.false) (sym c.report_ok.ensures ∙ c.if-not-report_ok.false)

@@ -9,9 +9,6 @@ returns-then-buffer-lt-ROOM c = none_space _ _ _ c.if-buffer-lt-ROOM.true
 pub returns-then-not-table_passes : goal.returns-then-not-table_passes
 returns-then-not-table_passes c = none_table _ _ _ c.if-buffer-lt-ROOM.false (sym c.table_passes.ensures ∙ c.if-not-table_passes.true)
 
-pub write_lines-requires : goal.write_lines-requires
-write_lines-requires c = sym c.table_passes.ensures ∙ c.if-not-table_passes.false
-
 pub returns : goal.returns
 returns c =
     some_lines _ _ _ c.if-buffer-lt-ROOM.false

@@ -1,10 +1,10 @@
 -- `results::write_text_refusal` meets its contract. Assumes nothing.
 use borrow.Author.Rules.{rules}
-use mathlib.Core.Path.{sym, ◌∙◌}
+use mathlib.Core.Path.{sym, ap, ◌∙◌}
 use Prim.Native.Nat.{◌<◌}
 use native.Mathlib.Omega.{arith}
 use lib.ListN.{length}
-use Rattle.printing.proofs.Writers.{start_room, from_start}
+use Rattle.printing.proofs.Puts.{from_start}
 use Rattle.results.proofs.Assembled.{text_line_lem, text_no_space, text_no_kind, text_wrote}
 use Rattle.results.proofs.write_text_refusal.Goals as goal
 
@@ -14,7 +14,7 @@ returns-then-buffer-lt-ROOM c =
     text_no_space _ _ _ h
 
 pub put_refused-requires : goal.put_refused-requires
-put_refused-requires c = start_room c.new-out.ensures (omega (arith, c.if-buffer-lt-ROOM.false))
+put_refused-requires c = omega (arith, c.new-out.ensures.place, ap length c.new-out.ensures.bytes, c.if-buffer-lt-ROOM.false)
 
 pub returns-then-not-is_text_refusal : goal.returns-then-not-is_text_refusal
 returns-then-not-is_text_refusal c =
@@ -23,7 +23,6 @@ returns-then-not-is_text_refusal c =
 pub returns : goal.returns
 returns c =
     text_wrote _ _ _ c.if-buffer-lt-ROOM.false (sym c.is_text_refusal.ensures ∙ c.if-not-is_text_refusal.false)
-    (from_start c.new-out.ensures
-    (text_line_lem c.ranges.number.fits c.ranges.place.fits (start_room c.new-out.ensures c.if-buffer-lt-ROOM.false) c.put_refused.ensures
-    c.put_byte.ensures c.put_number.ensures c.put_byte-2.ensures)
-    c.used.ensures (search rules))
+    (from_start c.new-out.ensures.place c.new-out.ensures.bytes
+    (text_line_lem c.ranges.number.fits c.ranges.place.fits (omega (arith, c.new-out.ensures.place, ap length c.new-out.ensures.bytes, c.if-buffer-lt-ROOM.false)) c.put_refused.ensures.written
+    c.put_byte.ensures c.put_number.ensures c.put_byte-2.ensures) (search rules))

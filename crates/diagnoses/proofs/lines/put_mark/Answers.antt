@@ -3,9 +3,9 @@ use native.Mathlib.Omega.{arith}
 use Rattle.diagnoses.proofs.Diagnosed.{mark_none, mark_made}
 use Rattle.diagnoses.proofs.lines.put_mark.Goals as goal
 
-pub returns-then-column-le-SHOWN : goal.returns-then-column-le-SHOWN
-returns-then-column-le-SHOWN c =
-    mark_made c.args.column c.requires.le_column c.if-column-le-SHOWN.true c.requires.at_in_bounds c.put_spaces.ensures c.put_bytes.ensures
+pub returns-then-column-le-SHOWN-clause-written : goal.returns-then-column-le-SHOWN-clause-written
+returns-then-column-le-SHOWN-clause-written c =
+    mark_made c.args.column c.requires.column c.if-column-le-SHOWN.true c.requires.room c.put_spaces.ensures c.put_bytes.ensures
 
-pub returns-else-column-le-SHOWN : goal.returns-else-column-le-SHOWN
-returns-else-column-le-SHOWN c = mark_none c.args.column c.if-column-le-SHOWN.false (omega (arith, c.requires.at_in_bounds))
+pub returns-else-column-le-SHOWN-clause-written : goal.returns-else-column-le-SHOWN-clause-written
+returns-else-column-le-SHOWN-clause-written c = mark_none c.args.column c.if-column-le-SHOWN.false (omega (arith, c.requires.room))

@@ -3,7 +3,7 @@ use native.Mathlib.Omega.{arith}
 use Rattle.diagnoses.proofs.Diagnosed.{where_made}
 use Rattle.diagnoses.proofs.lines.put_where.Goals as goal
 
-pub returns : goal.returns
-returns c =
-    where_made c.args.file.now c.args.line c.args.column c.requires.file_len_bound c.ranges.line.fits c.ranges.column.fits (omega (arith, c.requires.in_bounds)) c.put_bytes.ensures
+pub returns-clause-written : goal.returns-clause-written
+returns-clause-written c =
+    where_made c.args.file.now c.args.line c.args.column c.requires.file c.ranges.line.fits c.ranges.column.fits (omega (arith, c.requires.room)) c.put_bytes.ensures
     c.put_byte.ensures c.put_number.ensures c.put_byte-2.ensures c.put_number-2.ensures c.put_bytes-2.ensures

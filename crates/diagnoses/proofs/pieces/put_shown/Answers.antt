@@ -15,7 +15,10 @@ loop-b-preserved c =
     let i = c.loop-b.b-index in
     let h : i < min 200 (length line) = omega (arith, c.loop-b-test.true, c.min-n.ensures, length-take n line) in
     let k : i < n = omega (arith, c.min-n.ensures) in
-    more_shown c.loop-b.invariant c.requires h (c.show.ensures ∙ ap shown (get_or-take n line i 0 k)) c.put_byte.ensures
+    record {
+      shown = more_shown c.loop-b.invariant.shown c.requires h (c.show.ensures ∙ ap shown (get_or-take n line i 0 k)) c.put_byte.ensures;
+      same_buffer = c.put_byte.ensures.same_buffer ∙ c.loop-b.invariant.same_buffer;
+    }
 
-pub returns : goal.returns
-returns c = all_shown c.loop-b.invariant (omega (arith, c.loop-b-test.false, c.min-n.ensures, length-take c.min-n.result c.args.line.now))
+pub returns-clause-written : goal.returns-clause-written
+returns-clause-written c = all_shown c.loop-b.invariant.shown (omega (arith, c.loop-b-test.false, c.min-n.ensures, length-take c.min-n.result c.args.line.now))

@@ -2,6 +2,6 @@
 use Rattle.pages.proofs.Assembled.{blank_line_lem}
 use Rattle.pages.proofs.lines.put_blank.Goals as goal
 
-pub returns : goal.returns
-returns c =
+pub returns-clause-written : goal.returns-clause-written
+returns-clause-written c =
     blank_line_lem c.requires c.put_spaces.ensures c.put_byte.ensures

@@ -2,6 +2,6 @@
 use Rattle.pages.proofs.Assembled.{foot_line}
 use Rattle.pages.proofs.lines.put_foot.Goals as goal
 
-pub returns : goal.returns
-returns c =
+pub returns-clause-written : goal.returns-clause-written
+returns-clause-written c =
     foot_line c.args.n c.requires.1 c.put_spaces.ensures c.put_byte.ensures c.put_byte-2.ensures c.put_byte-3.ensures

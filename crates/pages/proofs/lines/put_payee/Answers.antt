@@ -11,13 +11,13 @@ use Rattle.pages.proofs.lines.put_payee.Goals as goal
 
 pub put_party-requires : goal.put_party-requires
 put_party-requires c =
-    record { table_value = c.requires.table_value; party_in_bounds = room_first c.args.out.now (left 32 (get_or (contract_of c.args.table.now).parties c.args.party [])) (bytes " " ++ (right 19 (decimal c.args.amount) ++ spelled line_end)) c.requires.line_end_in_bounds }
+    record { table = c.requires.table; room = room_first _ _ (left 32 (get_or (contract_of c.args.table.now).parties c.args.party [])) (bytes " " ++ (right 19 (decimal c.args.amount) ++ spelled line_end)) c.requires.room }
 
 pub put_right-requires : goal.put_right-requires
 put_right-requires c =
-    third_room (left 32 (get_or (contract_of c.args.table.now).parties c.args.party [])) (bytes " ") (right 19 (decimal c.args.amount)) (spelled line_end) c.requires.line_end_in_bounds c.put_party.ensures c.put_byte.ensures
+    third_room (left 32 (get_or (contract_of c.args.table.now).parties c.args.party [])) (bytes " ") (right 19 (decimal c.args.amount)) (spelled line_end) c.requires.room c.put_party.ensures.written c.put_byte.ensures
 
-pub returns : goal.returns
+pub returns-clause-written : goal.returns-clause-written
 unfolding spelled
-returns c =
-    four_pieces (left 32 (get_or (contract_of c.args.table.now).parties c.args.party [])) (bytes " ") (right 19 (decimal c.args.amount)) (spelled line_end) c.requires.line_end_in_bounds c.put_party.ensures c.put_byte.ensures c.put_right.ensures c.put_byte-2.ensures
+returns-clause-written c =
+    four_pieces (left 32 (get_or (contract_of c.args.table.now).parties c.args.party [])) (bytes " ") (right 19 (decimal c.args.amount)) (spelled line_end) c.requires.room c.put_party.ensures.written c.put_byte.ensures c.put_right.ensures.written c.put_byte-2.ensures

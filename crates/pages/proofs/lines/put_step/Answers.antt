@@ -9,12 +9,12 @@ use Rattle.pages.proofs.lines.put_step.Goals as goal
 
 pub put_right-requires : goal.put_right-requires
 put_right-requires c =
-    room_first c.args.out.now (right 19 (decimal c.args.clock)) (bytes " " ++ (left 11 (rule_name c.args.rule) ++ bytes " ")) c.requires.bytes_in_bounds
+    room_first _ _ (right 19 (decimal c.args.clock)) (bytes " " ++ (left 11 (rule_name c.args.rule) ++ bytes " ")) c.requires.room
 
 pub put_rule-requires : goal.put_rule-requires
 put_rule-requires c =
-    record { rule_value = c.requires.rule_value; rule_in_bounds = third_room (right 19 (decimal c.args.clock)) (bytes " ") (left 11 (rule_name c.args.rule)) (bytes " ") c.requires.bytes_in_bounds c.put_right.ensures c.put_byte.ensures }
+    record { rule = c.requires.rule; room = third_room (right 19 (decimal c.args.clock)) (bytes " ") (left 11 (rule_name c.args.rule)) (bytes " ") c.requires.room c.put_right.ensures.written c.put_byte.ensures }
 
-pub returns : goal.returns
-returns c =
-    four_pieces (right 19 (decimal c.args.clock)) (bytes " ") (left 11 (rule_name c.args.rule)) (bytes " ") c.requires.bytes_in_bounds c.put_right.ensures c.put_byte.ensures c.put_rule.ensures c.put_byte-2.ensures
+pub returns-clause-written : goal.returns-clause-written
+returns-clause-written c =
+    four_pieces (right 19 (decimal c.args.clock)) (bytes " ") (left 11 (rule_name c.args.rule)) (bytes " ") c.requires.room c.put_right.ensures.written c.put_byte.ensures c.put_rule.ensures.written c.put_byte-2.ensures

@@ -1,24 +1,10 @@
 -- `printing::Writer::put_name` meets its contract. Assumes nothing.
 use mathlib.Core.Path.{refl, ◌∙◌}
-use native.Mathlib.Nat.{add-zero}
 use native.Mathlib.Omega.{arith}
 use Rattle.printing.specs.Pieces.{name_bytes}
-use Rattle.printing.proofs.Puts.{has_room, lacks_room, stored}
-use Rattle.printing.proofs.Names.{name_long, name_next}
-use Rattle.printing.proofs.Writers.{puts_whole, puts_nothing}
+use Rattle.printing.proofs.Puts.{lacks_room, stored, puts_whole, puts_nothing}
+use Rattle.printing.proofs.Names.{name_next}
 use Rattle.printing.proofs.Writer.put_name.Goals as goal
-
-pub loop-i-init : goal.loop-i-init
-loop-i-init c =
-    let a = c.args in
-    let n = c.name_length-n.ensures in
-    record {
-      rest = rw add-zero;
-      same_buffer = refl;
-      many = n;
-      room = has_room _ _ _ c.has_room.ensures c.if-has_room.true;
-      whole = omega (arith, n, name_long a.table.now a.o);
-    }
 
 pub loop-i-preserved : goal.loop-i-preserved
 loop-i-preserved c =
@@ -45,4 +31,4 @@ returns-after-loop-i c =
 pub returns-else-has_room : goal.returns-else-has_room
 returns-else-has_room c =
     let a = c.args in
-    puts_nothing a.self.now (name_bytes a.table.now a.o) (omega (arith, c.name_length-n.ensures, lacks_room _ _ _ c.has_room.ensures c.if-has_room.false))
+    puts_nothing _ _ (name_bytes a.table.now a.o) (omega (arith, c.name_length-n.ensures, lacks_room _ _ _ c.has_room.ensures c.if-has_room.false)) refl

@@ -2,9 +2,8 @@
 use Rattle.std.proofs.Common.{ℕ, ◌≡◌, ◌+◌, ◌-◌, ◌≤◌, ◌∙◌, ap, refl, replicate, rules, arith, length}
 use borrow.Rule.Slice.PartMut.{mid_of, mid_len}
 use Rattle.printing.specs.Pieces.{spaces}
-use Rattle.printing.proofs.Puts.{has_room, lacks_room, put_part}
+use Rattle.printing.proofs.Puts.{has_room, lacks_room, put_part, puts_whole, puts_nothing}
 use Rattle.printing.proofs.Names.{spaces_long}
-use Rattle.printing.proofs.Writers.{puts_whole, puts_nothing}
 use Rattle.printing.proofs.Writer.put_spaces.Goals as goal
 
 pub returns-then-has_room : goal.returns-then-has_room
@@ -19,4 +18,4 @@ returns-then-has_room c =
     puts_whole record { place = omega (arith, spaces_long n); list = p.list; room = p.room } refl
 
 pub returns-else-has_room : goal.returns-else-has_room
-returns-else-has_room c = puts_nothing c.args.self.now (spaces c.args.n) (omega (arith, spaces_long c.args.n, lacks_room _ _ _ c.has_room.ensures c.if-has_room.false))
+returns-else-has_room c = puts_nothing _ _ (spaces c.args.n) (omega (arith, spaces_long c.args.n, lacks_room _ _ _ c.has_room.ensures c.if-has_room.false)) refl

@@ -10,7 +10,7 @@ use Rattle.printing.proofs.Writer.store_digits.Goals as goal
 pub loop-i-init : goal.loop-i-init
 loop-i-init c =
     let s = c.args.self.now in
-    record { digits = ap (sets s.buffer.now s.at) (all_digits (s.at + c.args.count - s.at) c.args.n (omega (arith, c.requires.count_value))); same_buffer = refl }
+    record { digits = ap (sets s.buffer.now s.at) (all_digits (s.at + c.args.count - s.at) c.args.n (omega (arith, c.requires.count))); same_buffer = refl }
 
 pub loop-i-preserved : goal.loop-i-preserved
 loop-i-preserved c =
@@ -35,9 +35,9 @@ returns c =
     let s = c.args.self.now in
     record {
       written = record {
-        place = ap (λ (k : ℕ). s.at + k) c.requires.count_value;
+        place = ap (λ (k : ℕ). s.at + k) c.requires.count;
         list = no_digits l.self.buffer.now s.at (l.i - s.at) l.rest (omega (arith, c.loop-i-test.false)) ∙ l.invariant.digits;
-        room = omega (arith, c.requires.count_value, c.requires.count_in_bounds);
+        room = omega (arith, c.requires.count, c.requires.in_bounds);
       };
       same_buffer = l.invariant.same_buffer;
     }

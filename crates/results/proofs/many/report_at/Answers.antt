@@ -22,4 +22,4 @@ returns-then-numbers-i c = at_end _ _ _ (past c.then-numbers-i.either)
 pub returns : goal.returns
 returns c =
     let f : SFits w64 (get_or c.args.integers.now c.args.i (pos 0)) = record { sfits = omega arith } in
-    c.report_of.ensures ∙ at_whole _ _ _ (omega (arith, c.if-numbers-i.false, c.if-integers-i.false)) (to_z-of_z f)
+    c.from_numbers.ensures ∙ at_whole _ _ _ (omega (arith, c.if-numbers-i.false, c.if-integers-i.false)) (to_z-of_z f)

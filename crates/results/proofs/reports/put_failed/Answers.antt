@@ -9,6 +9,6 @@ put_refusal-requires c =
     let p = c.put_rule.ensures.written in
     omega (arith, p.place, kept p, rule_short 2, c.requires)
 
-pub returns : goal.returns
-returns c =
-    failed_line c.ranges.n.fits c.requires c.put_rule.ensures c.put_refusal.ensures
+pub returns-clause-written : goal.returns-clause-written
+returns-clause-written c =
+    failed_line c.ranges.n.fits c.requires c.put_rule.ensures.written c.put_refusal.ensures.written

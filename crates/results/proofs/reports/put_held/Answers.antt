@@ -9,6 +9,6 @@ overflow_mul-asset c = record { fits = omega (arith, (ready_asset c.requires).lo
 pub overflow_add-asset : goal.overflow_add-asset
 overflow_add-asset c = record { fits = omega (arith, (ready_asset c.requires).low) }
 
-pub returns : goal.returns
-returns c =
+pub returns-clause-written : goal.returns-clause-written
+returns-clause-written c =
     held_line c.requires c.ranges.amount.fits c.put_name.ensures c.put_bytes.ensures c.put_number.ensures c.put_byte.ensures

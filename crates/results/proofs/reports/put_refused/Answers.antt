@@ -2,6 +2,6 @@
 use Rattle.results.proofs.Assembled.{refused_piece}
 use Rattle.results.proofs.reports.put_refused.Goals as goal
 
-pub returns : goal.returns
-returns c =
+pub returns-clause-written : goal.returns-clause-written
+returns-clause-written c =
     refused_piece c.ranges.n.fits c.requires c.put_word.ensures c.put_byte.ensures c.put_number.ensures

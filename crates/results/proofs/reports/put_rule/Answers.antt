@@ -1,8 +1,8 @@
 -- `results::reports::put_rule` meets its contract. Assumes nothing.
-use Rattle.printing.proofs.Writers.{puts_same}
+use Rattle.printing.proofs.Puts.{puts_same}
 use Rattle.results.proofs.Assembled.{rule_piece}
 use Rattle.results.proofs.reports.put_rule.Goals as goal
 
-pub returns : goal.returns
-returns c =
-    rule_piece c.args.rule c.requires c.put_byte.ensures (puts_same c.rule_word.ensures c.put_word.ensures) c.put_bytes.ensures
+pub returns-clause-written : goal.returns-clause-written
+returns-clause-written c =
+    rule_piece c.args.rule c.requires c.put_byte.ensures (puts_same _ _ c.rule_word.ensures c.put_word.ensures) c.put_bytes.ensures

@@ -9,6 +9,6 @@ overflow_mul-state c = record { fits = omega (arith, (ready_state c.requires).lo
 pub overflow_add-state : goal.overflow_add-state
 overflow_add-state c = record { fits = omega (arith, (ready_state c.requires).low) }
 
-pub returns : goal.returns
-returns c =
-    ruled_line c.requires c.ranges.clock.fits c.put_rule.ensures c.put_name.ensures c.put_bytes.ensures c.put_number.ensures c.put_byte.ensures
+pub returns-clause-written : goal.returns-clause-written
+returns-clause-written c =
+    ruled_line c.requires c.ranges.clock.fits c.put_rule.ensures.written c.put_name.ensures c.put_bytes.ensures c.put_number.ensures c.put_byte.ensures

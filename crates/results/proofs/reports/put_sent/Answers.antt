@@ -20,7 +20,7 @@ overflow_mul-party c = record { fits = omega (arith, (ready_party c.requires).lo
 pub overflow_add-party : goal.overflow_add-party
 overflow_add-party c = record { fits = omega (arith, (ready_party c.requires).low) }
 
-pub returns : goal.returns
-returns c =
-    sent_line (to_z-of_z c.ranges.value) c.ranges.value c.requires c.put_value.ensures c.put_arrow.ensures c.put_name.ensures
+pub returns-clause-written : goal.returns-clause-written
+returns-clause-written c =
+    sent_line (to_z-of_z c.ranges.value) c.ranges.value c.requires c.put_value.ensures.written c.put_arrow.ensures.written c.put_name.ensures
     c.put_byte.ensures

@@ -1,5 +1,6 @@
 -- `results::reports::value_ok` meets its contract. Assumes nothing.
 use mathlib.Core.Path.{sym, ap, ◌∙◌}
+use native.Mathlib.Omega.{arith}
 use mir.Facts.{to_z-of_z}
 use Rattle.contract.specs.Decode.{contract_of}
 use Rattle.contract_laws.proofs.Sound.{counts}
@@ -7,21 +8,21 @@ use Rattle.results.specs.Lines.{value_ok}
 use Rattle.results.proofs.Ranges.{value_integer, value_negative, value_string, value_amount}
 use Rattle.results.proofs.reports.value_ok.Goals as goal
 
-pub returns-then-kind-eq1 : goal.returns-then-kind-eq1
-returns-then-kind-eq1 c = value_integer _ _ _ c.if-kind-eq1.true
+pub returns-in-1 : goal.returns-in-1
+returns-in-1 c = value_integer _ _ _ c.in-1.is
 
-pub returns-then-value-lt0 : goal.returns-then-value-lt0
-returns-then-value-lt0 c =
-    value_negative _ _ _ c.if-kind-eq1.false c.if-value-lt0.true ∙ ap (value_ok (contract_of c.args.table.now) c.args.kind) (to_z-of_z c.ranges.value)
+pub returns-in_default : goal.returns-in_default
+returns-in_default c =
+    value_negative _ _ _ (λ e. omega (arith, e, c.in_default)) c.if-value-lt0.true ∙ ap (value_ok (contract_of c.args.table.now) c.args.kind) (to_z-of_z c.ranges.value)
 
-pub returns-then-kind-eq2 : goal.returns-then-kind-eq2
-returns-then-kind-eq2 c =
+pub returns-in-2 : goal.returns-in-2
+returns-in-2 c =
     let w = c.args.table.now in
-    value_string _ _ _ c.if-kind-eq1.false c.if-value-lt0.false c.if-kind-eq2.true
+    value_string _ _ _ (λ e. omega (arith, e, c.in-2.is)) c.if-value-lt0.false c.in-2.is
     c.magnitude.ensures (c.word.ensures ∙ sym (counts w).strings)
     ∙ ap (value_ok (contract_of w) c.args.kind) (to_z-of_z c.ranges.value)
 
-pub returns : goal.returns
-returns c =
-    value_amount _ _ _ c.if-kind-eq1.false c.if-value-lt0.false c.if-kind-eq2.false
+pub returns-in_default-2 : goal.returns-in_default-2
+returns-in_default-2 c =
+    value_amount _ _ _ (λ e. omega (arith, e, c.in_default)) c.if-value-lt0.false (λ e. omega (arith, e, c.in_default-2))
     ∙ ap (value_ok (contract_of c.args.table.now) c.args.kind) (to_z-of_z c.ranges.value)

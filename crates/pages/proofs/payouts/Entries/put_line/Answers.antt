@@ -16,19 +16,19 @@ put_step-requires c =
     let ns = c.args.self.now.numbers.now in
     let i = c.args.i in
     let c' = contract_of c.args.self.now.table.now in
-    record { rule_value = (pays_says c' ns c.args.self.now.values.now i c.requires.payable.payout).0; bytes_in_bounds = step_room c' ns c.args.self.now.values.now i c.requires.i_in_bounds.0 c.requires.i_in_bounds.1 c.args.out.now c.requires.i_in_bounds_2 }
+    record { rule = (pays_says c' ns c.args.self.now.values.now i c.requires.payable.payout).0; room = step_room c' ns c.args.self.now.values.now i c.requires.whole.0 c.requires.whole.1 _ _ c.requires.room }
 
 pub put_payee-requires : goal.put_payee-requires
 put_payee-requires c =
     let ns = c.args.self.now.numbers.now in
     let zs = c.args.self.now.values.now in
     let i = c.args.i in
-    let f : SFits w64 (get_or zs i (pos 0)) = record { sfits = omega arith } in record { table_value = (c.requires.payable.table, (pays_says (contract_of c.args.self.now.table.now) ns zs i c.requires.payable.payout).1); line_end_in_bounds = payee_room (contract_of c.args.self.now.table.now) ns zs i c.requires.i_in_bounds.0 c.requires.i_in_bounds.1 (c.magnitude.ensures ∙ ap nat_abs (to_z-of_z f)) c.requires.i_in_bounds_2 c.put_step.ensures }
+    let f : SFits w64 (get_or zs i (pos 0)) = record { sfits = omega arith } in record { table = (c.requires.payable.table, (pays_says (contract_of c.args.self.now.table.now) ns zs i c.requires.payable.payout).1); room = payee_room (contract_of c.args.self.now.table.now) ns zs i c.requires.whole.0 c.requires.whole.1 (c.magnitude.ensures ∙ ap nat_abs (to_z-of_z f)) c.requires.room c.put_step.ensures.written }
 
-pub returns : goal.returns
-returns c =
+pub returns-clause-written : goal.returns-clause-written
+returns-clause-written c =
     let ns = c.args.self.now.numbers.now in
     let zs = c.args.self.now.values.now in
     let i = c.args.i in
     let f : SFits w64 (get_or zs i (pos 0)) = record { sfits = omega arith } in
-    whole_line (contract_of c.args.self.now.table.now) ns zs i c.requires.i_in_bounds.0 c.requires.i_in_bounds.1 (c.magnitude.ensures ∙ ap nat_abs (to_z-of_z f)) c.put_step.ensures c.put_payee.ensures
+    whole_line (contract_of c.args.self.now.table.now) ns zs i c.requires.whole.0 c.requires.whole.1 (c.magnitude.ensures ∙ ap nat_abs (to_z-of_z f)) c.put_step.ensures.written c.put_payee.ensures.written

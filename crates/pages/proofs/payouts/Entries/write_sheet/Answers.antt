@@ -5,17 +5,17 @@ use Rattle.pages.proofs.payouts.Entries.write_sheet.Goals as goal
 
 pub put_lines-requires : goal.put_lines-requires
 put_lines-requires c =
-    record { all_payable = c.requires.all_payable; to_in_bounds = lines_room c.requires.all_payable c.args.number c.first_of-first.ensures c.end_of-end.ensures c.requires.page_bytes_in_bounds c.new-out.ensures }
+    record { all_payable = c.requires.all_payable; to_in_bounds = lines_room c.requires.all_payable c.args.number c.first_of-first.ensures c.end_of-end.ensures c.requires.room c.new-out.ensures.place c.new-out.ensures.bytes }
 
 pub put_blanks-requires : goal.put_blanks-requires
 put_blanks-requires c =
-    blanks_room c.requires.all_payable c.args.number c.first_of-first.ensures c.end_of-end.ensures c.requires.page_bytes_in_bounds c.new-out.ensures c.put_lines.ensures
+    blanks_room c.requires.all_payable c.args.number c.first_of-first.ensures c.end_of-end.ensures c.requires.room c.new-out.ensures.place c.new-out.ensures.bytes c.put_lines.ensures.written
 
 pub put_foot-requires : goal.put_foot-requires
 put_foot-requires c =
-    foot_room c.requires.all_payable c.args.number c.first_of-first.ensures c.end_of-end.ensures c.requires.page_bytes_in_bounds c.new-out.ensures c.put_lines.ensures c.put_blanks.ensures
+    foot_room c.requires.all_payable c.args.number c.first_of-first.ensures c.end_of-end.ensures c.requires.room c.new-out.ensures.place c.new-out.ensures.bytes c.put_lines.ensures.written c.put_blanks.ensures.written
 
 pub returns : goal.returns
 returns c =
-    page_put c.requires.all_payable c.args.number c.first_of-first.ensures c.end_of-end.ensures c.requires.page_bytes_in_bounds c.new-out.ensures c.put_lines.ensures c.put_blanks.ensures c.put_foot.ensures
+    page_put c.requires.all_payable c.args.number c.first_of-first.ensures c.end_of-end.ensures c.requires.room c.new-out.ensures.place c.new-out.ensures.bytes c.put_lines.ensures.written c.put_blanks.ensures.written c.put_foot.ensures.written
     (search rules)

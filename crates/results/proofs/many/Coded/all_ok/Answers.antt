@@ -1,19 +1,15 @@
--- `results::many::Coded::all_ok` meets its contract. The invariant of its loop: the reports before report i pass question 53, so that those from
--- there on decide. Assumes nothing.
-use mathlib.Core.Path.{sym, ◌∙◌}
-use Rattle.results.proofs.Turns.{asked_none, asked_one, asked_bad, asked_all}
+-- `results::many::Coded::all_ok` meets its contract. Assumes nothing.
+use Rattle.std.proofs.Common.{rules, refl, ◌∙◌, ◌-◌}
+use Rattle.std.proofs.lemmas.Iterator.{YieldsList-from_range}
+use Rattle.std.proofs.lemmas.Iterator.Search.{all_from_yields_List}
+use Rattle.contract.specs.Decode.{contract_of}
+use Rattle.results.specs.Coded.{report_at}
+use Rattle.results.specs.Lines.{report_ok}
+use Rattle.results.proofs.Turns.{all_reports}
 use Rattle.results.proofs.many.Coded.all_ok.Goals as goal
 
-pub loop-i-init : goal.loop-i-init
-loop-i-init c = asked_none
-
-pub returns-then-not-report_ok : goal.returns-then-not-report_ok
-returns-then-not-report_ok c =
-    asked_bad c.loop-i.invariant c.loop-i-test.true c.report_at.ensures (sym c.report_ok.ensures ∙ c.if-not-report_ok.true)
-
-pub loop-i-preserved : goal.loop-i-preserved
-loop-i-preserved c =
-    asked_one c.loop-i.invariant c.loop-i-test.true c.report_at.ensures (sym c.report_ok.ensures ∙ c.if-not-report_ok.false)
-
 pub returns : goal.returns
-returns c = asked_all c.loop-i.invariant c.loop-i-test.false
+returns c =
+    let s = c.args.self.now in
+    all_from_yields_List (λ i. report_ok (contract_of s.table.now) (report_at s.numbers.now s.integers.now i)) _ _ c.all.result c.all.ensures.ran (YieldsList-from_range s.from s.to (s.to - s.from) refl refl) (λ x b q k. search rules)
+    ∙ all_reports (report_ok (contract_of s.table.now)) s.numbers.now s.integers.now (s.to - s.from) s.from

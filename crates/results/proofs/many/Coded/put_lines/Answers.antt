@@ -1,26 +1,11 @@
 -- `results::many::Coded::put_lines` meets its contract. The invariant of its loop: the lines before report i stand first in the buffer, none of them
 -- longer than 128 bytes. Assumes nothing.
 use native.Mathlib.Omega.{arith}
-use Rattle.printing.proofs.Puts.{kept}
-use Rattle.results.proofs.Turns.{ready_at, start, next_room, part_room, turn, all_put}
+use Rattle.results.proofs.Turns.{ready_at, start, part_room, turn}
 use Rattle.results.proofs.many.Coded.put_lines.Goals as goal
 
 pub loop-i-init : goal.loop-i-init
 loop-i-init c = start
-
-pub overflow_add-used : goal.overflow_add-used
-overflow_add-used c =
-    record {
-      fits =
-          omega (
-            arith,
-            next_room c.loop-i.invariant c.requires.room c.loop-i-test.true,
-            kept c.loop-i.invariant.lines,
-          );
-    }
-
-pub slice_bounds-write_line-end : goal.slice_bounds-write_line-end
-slice_bounds-write_line-end c = next_room c.loop-i.invariant c.requires.room c.loop-i-test.true
 
 pub write_line-used-requires : goal.write_line-used-requires
 write_line-used-requires c =
@@ -38,12 +23,3 @@ loop-i-preserved c =
     turn c.loop-i.invariant c.requires.room c.loop-i-test.true
     c.report_at-report.ensures
     c.write_line-used.ensures
-
-pub overflow_add-used-in-loop-i : goal.overflow_add-used-in-loop-i
-overflow_add-used-in-loop-i c = record { fits = omega (arith, (loop-i-preserved c).lines.place, (loop-i-preserved c).lines.room) }
-
-pub shape_of-buffer : goal.shape_of-buffer
-shape_of-buffer c = kept c.loop-i.invariant.lines
-
-pub returns : goal.returns
-returns c = all_put c.loop-i.invariant c.loop-i-test.false
