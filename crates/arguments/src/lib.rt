@@ -1,8 +1,11 @@
 // What the desk's arguments ask for: its options, its FILE, and the first thing that is wrong with them.
 #![tactic(auto)]
 
-ghost use Rattle.std.specs.Prelude.{◌≡◌};
+ghost use Rattle.std.specs.Prelude.{◌≡◌, Some};
 ghost use Rattle.arguments.specs.Asking.{nothing_asked, kind_of, wrong, once, with_file, with_out, heard, ended};
+ghost use Rattle.arguments.specs.Saying.{words_of, said};
+
+use std::fmt;
 
 // What one argument is.
 #[derive(Clone, Copy)]
@@ -40,6 +43,31 @@ pub struct Fault {
     pub mistake: Mistake,
 }
 
+// What is wrong, in words.
+impl fmt::Display for Mistake {
+    ghost output = { λ m. Some (words_of m) };
+
+    fn fmt<W: fmt::Write>(&self, f: &mut fmt::Formatter<W>) -> fmt::Result {
+        f.write_str(match self {
+            Mistake::Long => " is over 1024 bytes",
+            Mistake::Unknown => " is no option of the desk",
+            Mistake::Twice => " is an option given before",
+            Mistake::Alone => ": --review goes with no other option",
+            Mistake::Many => " is one FILE too many",
+            Mistake::Without => " is an option without its argument",
+        })
+    }
+}
+
+// The argument by its number, and what is wrong with it.
+impl fmt::Display for Fault {
+    ghost output = { λ f. Some (said f) };
+
+    fn fmt<W: fmt::Write>(&self, f: &mut fmt::Formatter<W>) -> fmt::Result {
+        write!(f, "argument {}{}", self.place, self.mistake)
+    }
+}
+
 // What is asked so far.
 #[derive(Clone, Copy)]
 pub struct Asked {
@@ -74,6 +102,7 @@ impl Asked {
 }
 
 // What an argument is.
+// Kept: (c) one match on byte strings: its arms tell the proof how long the argument is, and not which bytes it has.
 pub fn classify(argument: &[u8]) -> Argument
     ensures { result ≡ kind_of argument.now }
 {
@@ -162,7 +191,7 @@ pub fn hear(asked: Asked, n: usize, argument: &[u8]) -> Result<Asked, Fault>
         }
         Argument::Review => {
             next.review = true;
-            let other = asked.help | asked.explain | asked.pages.is_some();
+            let other = asked.help || asked.explain || asked.pages.is_some();
             once(n, asked.review, other, next)
         }
         Argument::Pages => {

@@ -6,31 +6,15 @@ use contract::Contract;
 use reading::Refusal;
 use results::Report;
 use state::State;
-use std::io;
-use std::rt::{Env, Files};
-use tokens::Digits;
+use std::io::ErrorKind;
+use std::{env, fs, io};
 
-// The bytes of a session, of a file's name and of the first argument; the result lines that are told at once.
-const SESSION: usize = 262144;
-
-const NAME: usize = 1024;
-
-const WORD: usize = 8;
-
+// The result lines that are told at once.
 const LINES: usize = 1024;
-
-// The most parts in which a session is played.
-// Kept: (d) these five are sizes of buffers and counts of parts, and no kinds of anything.
-const PARTS: u64 = 9223372036854775808;
 
 // A checksum with one number more.
 fn mix(sum: u64, number: u64) -> u64 {
     sum.rotate_left(7).wrapping_add(number)
-}
-
-// A checksum with more numbers.
-fn mix_all(sum: u64, numbers: &[u64]) -> u64 {
-    numbers.iter().fold(sum, |sum, number| mix(sum, *number))
 }
 
 fn mix_answer(sum: u64, answer: Result<(), Refusal>) -> u64 {
@@ -42,35 +26,44 @@ fn mix_answer(sum: u64, answer: Result<(), Refusal>) -> u64 {
 
 // The checksum of so many readings of a text, and of the table at the end.
 fn read_often(text: &[u8], table: &mut [u64], times: u64) -> u64 {
-    let mut sum = 0;
+    let mut answers = 0;
     for _ in 0..times {
-        sum = mix_answer(sum, reader::read(text, table));
+        answers = mix_answer(answers, reader::read(text, table));
     }
-    mix_all(sum, table)
+    table.iter().fold(answers, |sum, word| mix(sum, *word))
 }
 
 // The numbers and the integers that a session tells at once.
+// Kept: (a) the two lists that `machine::play` is lent; how many result lines they have is its answer.
 #[derive(Drop)]
 struct Told {
     numbers: [u64; LINES * Report::WORDS],
     integers: [i64; LINES],
 }
 
-// The checksum with what a session tells.
-fn play_once(table: &[u64], input: &[u8], told: &mut Told, sum: u64) -> u64 {
-    let mut state = State::fresh(0);
-    let mut next = sum;
-    let mut rest = input;
-    for _ in 0..PARTS {
-        let p = machine::play(table, state, rest, &mut told.numbers, &mut told.integers);
-        if p.many == 0 {
-            break;
+impl Told {
+    // The checksum with what a session tells.
+    fn play(&mut self, table: &[u64], input: &[u8], before: u64) -> u64 {
+        let mut state = State::fresh(0);
+        let mut sum = before;
+        let mut rest = input;
+        // Until a turn tells nothing: a loop has to be shown to end, and a range does.
+        for _ in 0..u64::MAX {
+            let p = machine::play(table, state, rest, &mut self.numbers, &mut self.integers);
+            if p.many == 0 {
+                break;
+            }
+            let (reports, _) = self.numbers.as_chunks::<{ Report::WORDS }>();
+            sum = reports
+                .iter()
+                .take(p.many)
+                .flatten()
+                .fold(sum, |s, number| mix(s, *number));
+            state = p.state;
+            rest = rest.get(p.used..).unwrap_or(&[]);
         }
-        next = mix_all(next, &told.numbers[..Report::WORDS * p.many.min(LINES)]);
-        state = p.state;
-        rest = &rest[p.used.min(rest.len())..];
+        sum
     }
-    next
 }
 
 // The checksum of what so many sessions tell.
@@ -79,48 +72,34 @@ fn play_often(table: &[u64], input: &[u8], times: u64) -> u64 {
         numbers: [0; LINES * Report::WORDS],
         integers: [0; LINES],
     };
-    let mut sum = 0;
-    for _ in 0..times {
-        sum = play_once(table, input, &mut told, sum);
-    }
-    sum
+    (0..times).fold(0, |sum, _| told.play(table, input, sum))
 }
 
-// The bytes of the file that argument i names.
-fn load(rt: &(impl Env + Files), i: usize, bytes: &mut [u8]) -> usize {
-    let mut name = [0u8; NAME];
-    let n = rt.arg(i, &mut name).unwrap_or(0);
-    streams::load(rt, tokens::between(&name, 0, n), bytes).unwrap_or(0)
+// How often an argument says.
+fn number(argument: &str) -> io::Result<u64> {
+    argument
+        .parse()
+        .map_err(|_| io::Error::from(ErrorKind::InvalidInput))
 }
 
-// The number that argument i is.
-fn number(rt: &impl Env, i: usize) -> u64 {
-    let mut digits = [0u8; Digits::MOST];
-    let n = rt.arg(i, &mut digits).unwrap_or(0);
-    tokens::value_of(tokens::between(&digits, 0, n), 0)
-}
-
-// Reads the text, so many times; then plays the session, so many times.
-fn work(rt: &(impl Env + Files), reads: u64, plays: u64) -> u64 {
-    let mut table = [0u64; Contract::TABLE];
-    let mut text = [0u8; Contract::TEXT + 1];
-    let n = load(rt, 2, &mut text);
-    let sum = read_often(tokens::between(&text, 0, n), &mut table, reads);
-    if plays == 0 {
-        return sum;
-    }
-    let mut session = [0u8; SESSION];
-    let size = load(rt, 3, &mut session);
-    play_often(&table, tokens::between(&session, 0, size), plays)
-}
-
+// Both kinds of work read by one call, so that their counts compare.
 fn main(rt: HostRuntime) -> io::Result<()> {
-    let mut word = [0u8; WORD];
-    let _ = rt.arg(1, &mut word);
-    let sum = if word[0] == b'r' {
-        work(&rt, number(&rt, 3), 0)
-    } else {
-        work(&rt, 1, number(&rt, 4))
+    let args = env::args(&rt)?.collect::<Vec<String>>(rt.alloc())?;
+    let mut table = [0; Contract::TABLE];
+    let (file, reads, session) = match args.as_slice() {
+        [_, what, file, times] if what.as_str() == "read" => (file, number(times)?, None),
+        [_, what, file, session, times] if what.as_str() == "play" => (
+            file,
+            1,
+            Some((session, number(times)?)),
+        ),
+        _ => return Err(io::Error::from(ErrorKind::InvalidInput)),
+    };
+    let text = fs::read(&rt, file.as_str())?;
+    let answers = read_often(&text, &mut table, reads);
+    let sum = match session {
+        Some((session, plays)) => play_often(&table, &fs::read(&rt, session.as_str())?, plays),
+        None => answers,
     };
     println!(rt; "{sum}")
 }

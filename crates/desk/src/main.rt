@@ -3,16 +3,16 @@
 // settlement pages of the session's payouts.
 #![tactic(auto)]
 
-use arguments::{Asked, Fault, Mistake};
+use arguments::{Asked, Fault};
 use contract::Contract;
 use diagnoses::Diagnosis;
 use pages::{Gathered, Sheet};
-use question_words::Sentence;
 use reading::Refusal;
 use results::Report;
 use state::State;
 use std::io;
 use std::io::Write;
+use std::ops::Range;
 use std::rt::{Env, Files};
 use streams::Errors;
 
@@ -32,38 +32,31 @@ fn say(rt: &impl Errors, bytes: &[u8]) {
     let _ = rt.write_error(bytes);
 }
 
-// Says of a file what can't be done with it.
-fn say_of(rt: &impl Errors, name: &[u8], words: &[u8]) -> Said {
-    say(rt, b"desk: ");
-    say(rt, name);
-    say(rt, words);
+// Says of a file or a stream that it can't be read or written.
+fn fail(rt: &impl Errors, name: &[u8], done: &[u8]) -> Said {
+    for words in [b"desk: ", name, b" can't be ", done, b"\n"] {
+        say(rt, words);
+    }
     Said
 }
 
 // Writes on standard output.
 fn print(rt: &(impl Print + Errors), bytes: &[u8]) -> Result<(), Said> {
-    if rt.write_all(bytes).is_ok() {
-        return Ok(());
-    }
-    say(rt, b"desk: standard output can't be written\n");
-    Err(Said)
+    rt.write_all(bytes)
+        .map_err(|_| fail(rt, b"standard output", b"written"))
 }
 
-// Prints the words of a question on a line of their own; of 0, nothing.
+// Prints the words of a question on a line of their own.
 fn explain(rt: &(impl Print + Errors), question: u8) -> Result<(), Said> {
-    if question == 0 {
-        return Ok(());
-    }
-    let mut words = [0u8; Sentence::BYTES];
-    let n = question_words::words(question, &mut words);
     print(rt, b"  ")?;
-    print(rt, tokens::between(&words, 0, n))?;
+    print(rt, question_words::words(question))?;
     print(rt, b"\n")
 }
 
 // ---- result lines
 
 // Result lines as numbers, four and an integer each, and the bytes that they print as: 128 for each, and no line is longer.
+// Kept: (a) the lists that `machine::play` and `results::write_batch` are lent; what the desk holds is fixed, however long a session is.
 #[derive(Drop)]
 struct Reports {
     numbers: [u64; LINES * Report::WORDS],
@@ -72,22 +65,22 @@ struct Reports {
 }
 
 impl Reports {
-    // Prints those from `from` up to, not including, `to`.
+    // Prints some of them.
     fn print(
         &mut self,
         rt: &(impl Print + Errors),
         table: &[u64],
-        from: usize,
-        to: usize,
+        lines: Range<usize>,
     ) -> Result<(), Said> {
         let batch = results::write_batch(
             table,
             &self.numbers,
             &self.integers,
-            from,
-            to,
+            lines.start,
+            lines.end,
             &mut self.out,
         );
+        // A batch that is refused prints nothing: the machine's own reports pass question 53, and there is room for each line.
         let used = batch.map_or(0, |lines| lines.used);
         print(rt, tokens::between(&self.out, 0, used))
     }
@@ -100,8 +93,10 @@ impl Reports {
         many: usize,
     ) -> Result<(), Said> {
         for i in 0..many {
-            self.print(rt, table, i, i + 1)?;
-            explain(rt, desk_lines::question_of(&self.numbers, i))?;
+            self.print(rt, table, i..i + 1)?;
+            if let Some(question) = desk_lines::question_of(&self.numbers, i) {
+                explain(rt, question)?;
+            }
         }
         Ok(())
     }
@@ -109,7 +104,9 @@ impl Reports {
 
 // ---- settlement pages
 
-// The settlement pages of a session: their file and its name, what is gathered for the next page, and whether a page is written.
+// The settlement pages of a session: their file and its name, what is gathered for the next page, the page's bytes, and whether a page is
+// written.
+// Kept: (a) the lists that `pages::gather` and `pages::page` are lent, as many entries as one page has. (d) `begun` is no more than that truth.
 #[derive(Drop)]
 struct Settlement<'a, W> {
     name: &'a [u8],
@@ -117,26 +114,19 @@ struct Settlement<'a, W> {
     gathered: Gathered,
     entries: [u64; Sheet::LINES * Sheet::NUMBERS],
     values: [i64; Sheet::LINES],
+    page: [u8; Sheet::BYTES],
     begun: bool,
 }
 
 impl<W: Write> Settlement<'_, W> {
-    // The file can't be written.
-    fn fail(&self, rt: &impl Errors) -> Result<(), Said> {
-        Err(say_of(rt, self.name, b" can't be written\n"))
-    }
-
     // Writes the page of what is gathered; then nothing is.
     fn write_page(&mut self, rt: &impl Errors, table: &[u64]) -> Result<(), Said> {
         let count = self.gathered.count.min(Sheet::LINES);
         let numbers = &self.entries[..Sheet::NUMBERS * count];
         let values = &self.values[..count];
-        let mut page = [0u8; Sheet::BYTES];
-        if pages::page(table, numbers, values, 0, &mut page).is_err() {
-            return self.fail(rt);
-        }
-        if self.file.write_all(&page).is_err() {
-            return self.fail(rt);
+        let made = pages::page(table, numbers, values, 0, &mut self.page);
+        if made.is_err() || self.file.write_all(&self.page).is_err() {
+            return Err(fail(rt, self.name, b"written"));
         }
         self.gathered.count = 0;
         self.begun = true;
@@ -169,17 +159,16 @@ impl<W: Write> Settlement<'_, W> {
 
     // The last page, if it has a payout or is the only one.
     fn close(&mut self, rt: &impl Errors, table: &[u64]) -> Result<(), Said> {
-        if (0 < self.gathered.count) | !self.begun {
+        if 0 < self.gathered.count || !self.begun {
             self.write_page(rt, table)?;
         }
-        if self.file.flush().is_err() {
-            return self.fail(rt);
-        }
-        Ok(())
+        let flushed = self.file.flush();
+        flushed.map_err(|_| fail(rt, self.name, b"written"))
     }
 }
 
 // Takes the numbers of standard streams that are closed, so that OUT gets none of them.
+// Kept: (c) an array of three: that it has room in memory is not proved of files of any type; (a) a Vec of them, since memory could end here.
 fn hold_streams<R: Files>(
     rt: &R,
 ) -> (
@@ -202,24 +191,23 @@ fn open_pages<'a, R: Files + Errors>(
     let held = hold_streams(rt);
     let made = streams::create(rt, name);
     drop(held);
-    match made {
-        Ok(file) => Ok(Settlement {
-            name,
-            file,
-            gathered: Gathered::nothing(),
-            entries: [0; Sheet::LINES * Sheet::NUMBERS],
-            values: [0; Sheet::LINES],
-            begun: false,
-        }),
-        Err(_) => Err(say_of(rt, name, b" can't be written\n")),
-    }
+    Ok(Settlement {
+        name,
+        file: made.map_err(|_| fail(rt, name, b"written"))?,
+        gathered: Gathered::nothing(),
+        entries: [0; Sheet::LINES * Sheet::NUMBERS],
+        values: [0; Sheet::LINES],
+        page: [0; Sheet::BYTES],
+        begun: false,
+    })
 }
 
 // ---- a session, line by line
 
 // The bytes of a session that are read and not yet taken: those from `at` up to `size`. The last byte stays free.
 // Kept: (d) a line may begin in one block and end in the next, so what is left of it moves to the front and the rest is read after it; a
-// `BufReader` is such an array and two places too, takes them from the heap, and has no place for the end that a last line may lack.
+// `BufReader` is such an array and two places too, and has no place for the end that a last line may lack; (a) what the desk holds is bounded,
+// however long a line is, so no line is read into a String.
 #[derive(Drop)]
 struct Session {
     bytes: [u8; BLOCK],
@@ -241,20 +229,15 @@ impl Session {
         match streams::get(&mut rt.reader(), &mut self.bytes[kept..last]) {
             Ok(0) => self.size = desk_lines::close(&mut self.bytes, kept),
             Ok(n) => self.size = desk_lines::past(kept, n, last),
-            Err(_) => {
-                say(rt, b"desk: the session can't be read\n");
-                return Err(Said);
-            }
+            Err(_) => return Err(fail(rt, b"the session", b"read")),
         }
         Ok(self.size != 0)
     }
 }
 
-// The most steps of a session.
-const STEPS: u64 = 9223372036854775808;
-
 // Takes each line of standard input and fires the events that are due, as many at once as there is room for; the result lines go where they
 // are asked for.
+// Kept: (d) the table and the desk's parts go by themselves: `play` makes the parts, and has its own use for each when the session is over.
 fn take_session<W: Write>(
     rt: &(impl Input + Print + Errors),
     table: &[u64],
@@ -264,7 +247,8 @@ fn take_session<W: Write>(
     reports: &mut Reports,
 ) -> Result<State, Said> {
     let mut state = State::fresh(0);
-    for _ in 0..STEPS {
+    // Until there is no line more: standard input may have no end, and a loop has to be shown to end.
+    for _ in 0..u64::MAX {
         let input = tokens::between(&session.bytes, session.at, session.size);
         let p = machine::play(
             table,
@@ -278,14 +262,14 @@ fn take_session<W: Write>(
         if explained {
             reports.explain(rt, table, p.many)?;
         } else {
-            reports.print(rt, table, 0, p.many)?;
+            reports.print(rt, table, 0..p.many)?;
         }
         if let Some(pages) = pages {
             pages.settle(rt, table, reports, p.many)?;
         }
         if p.many == 0 {
             let more = session.read_more(rt)?;
-            if !more | p.question.is_some() {
+            if !more || p.question.is_some() {
                 break;
             }
         }
@@ -318,7 +302,7 @@ where
         pages.close(rt, table)?;
     }
     let assets = desk_lines::held(table, state, &mut reports.numbers);
-    reports.print(rt, table, 0, assets)
+    reports.print(rt, table, 0..assets)
 }
 
 // A session, with its pages where they are asked for.
@@ -381,16 +365,10 @@ fn begin(
     text: &[u8],
 ) -> Result<(), Said> {
     let mut table = [0u64; Contract::TABLE];
-    let answer = reader::read(text, &mut table);
-    match answer {
+    match reader::read(text, &mut table) {
         Err(refusal) => refuse(rt, name, text, refusal),
-        Ok(()) => {
-            if asked.review {
-                review(rt, &table)
-            } else {
-                run(rt, &table, asked)
-            }
-        }
+        Ok(()) if asked.review => review(rt, &table),
+        Ok(()) => run(rt, &table, asked),
     }
 }
 
@@ -403,7 +381,7 @@ fn start(
     let mut text = [0u8; Contract::TEXT + 1];
     match streams::load(rt, name, &mut text) {
         Ok(n) => begin(rt, asked, name, &text[..n]),
-        Err(_) => Err(say_of(rt, name, b" can't be read\n")),
+        Err(_) => Err(fail(rt, name, b"read")),
     }
 }
 
@@ -426,24 +404,6 @@ fn ask(rt: &impl Env) -> Result<Asked, Fault> {
         asked = arguments::hear(asked, i, &argument[..n])?;
     }
     arguments::finish(asked)
-}
-
-fn words_of(mistake: Mistake) -> &'static str {
-    match mistake {
-        Mistake::Long => " is over 1024 bytes",
-        Mistake::Unknown => " is no option of the desk",
-        Mistake::Twice => " is an option given before",
-        Mistake::Alone => ": --review goes with no other option",
-        Mistake::Without => " is an option without its argument",
-        Mistake::Many => " is one FILE too many",
-    }
-}
-
-// What is wrong with the arguments.
-fn complain(rt: &impl Eprint, fault: Fault) {
-    let place = fault.place;
-    let words = words_of(fault.mistake);
-    let _ = eprintln!(rt; "desk: argument {place}{words}\ndesk: try desk --help");
 }
 
 fn help(rt: &(impl Print + Errors)) -> Result<(), Said> {
@@ -476,6 +436,8 @@ fn main(rt: HostRuntime) {
         Ok(asked) => {
             let _ = answer(&rt, asked);
         }
-        Err(fault) => complain(&rt, fault),
+        Err(fault) => {
+            let _ = eprintln!(rt; "desk: {fault}\ndesk: try desk --help");
+        }
     }
 }

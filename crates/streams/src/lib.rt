@@ -26,7 +26,7 @@ fn is_interrupted(error: &io::Error) -> bool {
     error.kind() == ErrorKind::Interrupted
 }
 
-/// Reads once. A read that a signal interrupts is tried again.
+/// Reads once. A read that a signal interrupts is tried again, as often as 64 bits count: a loop has to be shown to end. Then it timed out.
 pub fn get<R: Read>(from: &mut R, bytes: &mut [u8]) -> io::Result<usize>
     ensures within { ReadsAtMost result bytes.new }
     ensures ok { IfOk result (λ n. Consumes (R.remaining from.old) (R.remaining from.new) (take n bytes.new)) }
@@ -36,11 +36,8 @@ pub fn get<R: Read>(from: &mut R, bytes: &mut [u8]) -> io::Result<usize>
     for _ in 0..u64::MAX {
         match from.read(bytes) {
             Ok(n) => return Ok(n),
-            Err(error) => {
-                if !is_interrupted(&error) {
-                    return Err(error);
-                }
-            }
+            Err(error) if is_interrupted(&error) => {}
+            Err(error) => return Err(error),
         }
     }
     Err(io::Error::from(ErrorKind::TimedOut))
@@ -99,6 +96,7 @@ pub fn load<R: Files>(rt: &R, path: &[u8], bytes: &mut [u8]) -> io::Result<usize
 
 /// Puts argument `i` at the buffer's start and answers its length: all of the buffer where it has no room for it, `None` past the last.
 /// Which arguments there are, and which bytes they have, std's contract of `Env::arg` does not say.
+// Kept: (d) a length, as std's own answer is: whoever lends room for a byte more than may be asks of the length alone whether it is too long.
 pub fn argument<R: Env>(rt: &R, i: usize, bytes: &mut [u8]) -> Option<usize>
     ensures { IfSome result (λ n. n ≤ length bytes.new) }
 {

@@ -9,7 +9,6 @@
 use arguments::{Asked, Fault};
 use contract::Contract;
 use diagnoses::Diagnosis;
-use question_words::Sentence;
 use reading::Refusal;
 use results::Report;
 use std::rt::Files;
@@ -30,6 +29,8 @@ fn argument(lines: &str, n: Option<usize>) -> Option<&str> {
 }
 
 // A refused text, as the desk tells it.
+// Kept: (a) this and the next are the desk's. No crate can call into a program, and a library for both would have public functions that print,
+// of which no equation can be given; what is printed are bytes of `results`, `diagnoses` and `reviews`, which both call.
 fn refuse(rt: &impl Print, name: &str, text: &[u8], refusal: Refusal) -> io::Result<()> {
     let number = refusal.question.number();
     let place = refusal.place;
@@ -44,6 +45,7 @@ fn refuse(rt: &impl Print, name: &str, text: &[u8], refusal: Refusal) -> io::Res
 }
 
 // What the terms say before any session.
+// Kept: (a) the reason at `refuse`.
 fn review(rt: &impl Print, table: &[u64]) -> io::Result<()> {
     for x in 0..Contract::FIELDS {
         if reviews::never_agreed(table, x) {
@@ -66,6 +68,7 @@ fn accept(rt: &impl Print, out: Option<&str>) -> io::Result<()> {
     }
 }
 
+// What is asked of the text of a contract.
 fn begin(
     rt: &impl Print,
     asked: Asked,
@@ -74,16 +77,10 @@ fn begin(
     text: &[u8],
 ) -> io::Result<()> {
     let mut table = [0u64; Contract::TABLE];
-    let answer = reader::read(text, &mut table);
-    match answer {
+    match reader::read(text, &mut table) {
         Err(refusal) => refuse(rt, name, text, refusal),
-        Ok(()) => {
-            if asked.review {
-                review(rt, &table)
-            } else {
-                accept(rt, out)
-            }
-        }
+        Ok(()) if asked.review => review(rt, &table),
+        Ok(()) => accept(rt, out),
     }
 }
 
@@ -117,14 +114,20 @@ fn show(rt: &(impl Alloc + Files + Print), folder: &str) -> io::Result<()> {
 
 // A question that has words.
 fn show_words(rt: &impl Print, question: u8) -> io::Result<()> {
-    let mut words = [0u8; Sentence::BYTES];
-    let n = question_words::words(question, &mut words);
-    if n == 0 {
+    let words = question_words::words(question);
+    if words.is_empty() {
         return Ok(());
     }
     print!(rt; "{question} ")?;
-    rt.write_all(tokens::between(&words, 0, n))?;
+    rt.write_all(words)?;
     println!(rt)
+}
+
+fn show_all_words(rt: &impl Print) -> io::Result<()> {
+    for question in 0..=u8::MAX {
+        show_words(rt, question)?;
+    }
+    Ok(())
 }
 
 fn main(rt: HostRuntime) -> io::Result<()> {
@@ -132,8 +135,5 @@ fn main(rt: HostRuntime) -> io::Result<()> {
     for name in names.as_str().lines() {
         show(&rt, name)?;
     }
-    for question in 0..u8::MAX {
-        show_words(&rt, question)?;
-    }
-    Ok(())
+    show_all_words(&rt)
 }

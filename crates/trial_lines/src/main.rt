@@ -5,28 +5,30 @@
 // document 02, F-3; the others are to be read against document 01 (50 and 51), and who worked them out, and how, is not recorded here.
 #![tactic(auto)]
 
-use lines::{Agreement, Line, Request};
+use lines::{Agreement, Call, Line, Request};
 use std::io;
 use std::io::Read;
 
-fn print_call(rt: &impl Print, line: &Line, numbers: &[i64]) -> io::Result<()> {
-    let Line {
-        party_start,
-        party_end,
-        function_start,
-        function_end,
-        ..
-    } = line;
-    print!(rt; "call {party_start} {party_end} {function_start} {function_end} (")?;
-    print_integers(rt, numbers, 0, line.values)?;
+fn print_call(rt: &impl Print, call: Call, numbers: &[i64]) -> io::Result<()> {
+    let Call {
+        party,
+        function,
+        values,
+        assets,
+    } = call;
+    print!(rt;
+        "call {} {} {} {} (",
+        party.start, party.end, function.start, function.end
+    )?;
+    print_integers(rt, numbers.get(..values).unwrap_or(&[]))?;
     print!(rt; " ) [")?;
-    print_integers(rt, numbers, line.values, line.assets)?;
+    let rest = numbers.get(values..).unwrap_or(&[]);
+    print_integers(rt, rest.get(..assets).unwrap_or(&[]))?;
     println!(rt; " ]")
 }
 
-// So many integers from a place on.
-fn print_integers(rt: &impl Print, all: &[i64], from: usize, many: usize) -> io::Result<()> {
-    for z in all.iter().skip(from).take(many) {
+fn print_integers(rt: &impl Print, integers: &[i64]) -> io::Result<()> {
+    for z in integers {
         print!(rt; " {z}")?;
     }
     Ok(())
@@ -56,13 +58,12 @@ fn print_agreement(rt: &impl Print, a: &Agreement) -> io::Result<()> {
 // What one line asks for.
 fn show(rt: &impl Print, text: &[u8]) -> io::Result<()> {
     let mut numbers = [0; Line::NUMBERS];
-    let line = lines::read(text, &mut numbers);
-    match line.request {
-        Request::Refused(question) => println!(rt; "refused {}", question.number()),
-        Request::Tick => println!(rt; "tick"),
-        Request::Jump(clock) => println!(rt; "jump {clock}"),
-        Request::Call => print_call(rt, &line, &numbers),
-        Request::Agreement => print_agreement(rt, &lines::agreement_of(text)),
+    match lines::read(text, &mut numbers) {
+        Err(question) => println!(rt; "refused {}", question.number()),
+        Ok(Request::Tick) => println!(rt; "tick"),
+        Ok(Request::Jump(clock)) => println!(rt; "jump {clock}"),
+        Ok(Request::Call(call)) => print_call(rt, call, &numbers),
+        Ok(Request::Agreement) => print_agreement(rt, &lines::agreement_of(text)),
     }
 }
 

@@ -2,25 +2,20 @@
 ghost use Rattle.std.specs.Prelude.{◌≤◌};
 
 use crate::pieces::{Listing, Put, Section};
-use contract::{Contract, Function};
+use contract::{Function, Verb};
 
-fn arrow_of(verb: usize) -> u8 {
-    if verb == 0 {
-        return words::SET_ARROW;
+// The arrow that stands for a verb.
+// Kept: (d) a fixed word for each, which a `From` would hide: words are numbers, of which many things have one.
+fn arrow_of(verb: Verb) -> u8 {
+    match verb {
+        Verb::Set => words::SET_ARROW,
+        Verb::Ok => words::OK_ARROW,
     }
-    words::OK_ARROW
-}
-
-// The sum of two numbers of nodes.
-fn sum(a: usize, b: usize) -> usize {
-    if (Contract::NODES < a) | (Contract::NODES < b) {
-        return 0;
-    }
-    a + b
 }
 
 impl Listing<'_> {
     // The first n names of a section.
+    // Kept: (d) here and below a list is a loop of two lines: a function over them would be lent the listing, and its closure again.
     fn put_names(&mut self, section: Section, n: usize) -> Put {
         for i in 0..n {
             self.put_comma(i)?;
@@ -59,7 +54,7 @@ impl Listing<'_> {
         let clause = contract::clause_at(self.table, i);
         self.put_line(2)?;
         self.put_name(Section::Parties, clause.party)?;
-        self.put_between(arrow_of(clause.verb))?;
+        self.put_between(arrow_of(Verb::from(clause.verb)))?;
         self.put_fields(i, clause.fields)
     }
 
@@ -84,37 +79,40 @@ impl Listing<'_> {
 
     // ---- functions
 
-    // The n parameters of function f that stand from `from` on, after the word that opens them; the next word closes them.
-    fn put_parameters(&mut self, f: usize, from: usize, n: usize, mark: u8) -> Put
-        requires from_bound { from ≤ 8 }
-        requires mark_bound { mark ≤ 24 }
+    // The n parameters of function f that stand from `from` on, with commas between them.
+    // Kept: (d) `from` is a place among a function's rows, as in `put_parameter`, and no kind.
+    fn put_parameters(&mut self, f: usize, from: usize, n: usize) -> Put
+        requires { from ≤ 8 }
     {
-        self.put_apart(mark)?;
         for i in 0..n {
             self.put_comma(i)?;
             self.put_parameter(f, from, i)?;
         }
-        self.put_word(mark + 1)
+        Ok(())
     }
 
     // Its value parameters. `(` straight after its name would open them, so that a precondition without parameters comes after ().
     fn put_values(&mut self, f: usize) -> Put {
         let function = contract::function_at(self.table, f);
         let n = function.values;
-        if (n != 0) | ((function.parameters == 0) & (function.precondition != 0)) {
-            self.put_parameters(f, 0, n, words::OPEN_PAREN)?;
+        if n == 0 && (function.parameters != 0 || function.precondition == 0) {
+            return Ok(());
         }
-        Ok(())
+        self.put_apart(words::OPEN_PAREN)?;
+        self.put_parameters(f, 0, n)?;
+        self.put_word(words::CLOSE_PAREN)
     }
 
     // Its asset parameters.
     fn put_assets(&mut self, f: usize) -> Put {
         let function = contract::function_at(self.table, f);
         let n = function.parameters;
-        if n != 0 {
-            self.put_parameters(f, Function::VALUES, n, words::OPEN_BRACKET)?;
+        if n == 0 {
+            return Ok(());
         }
-        Ok(())
+        self.put_apart(words::OPEN_BRACKET)?;
+        self.put_parameters(f, Function::VALUES, n)?;
+        self.put_word(words::CLOSE_BRACKET)
     }
 
     fn put_precondition(&mut self, f: usize) -> Put {
@@ -123,7 +121,7 @@ impl Listing<'_> {
             return Ok(());
         }
         self.put_space()?;
-        self.put_test(f, sum(function.first, function.precondition))
+        self.put_test(f, function.first.saturating_add(function.precondition))
     }
 
     // @Q A : f
@@ -149,10 +147,10 @@ impl Listing<'_> {
     // The statements of function f, then its events.
     fn put_body(&mut self, f: usize) -> Put {
         let function = contract::function_at(self.table, f);
-        let first = sum(function.first, function.precondition);
-        self.put_block(f, first, sum(first, function.body), 2)?;
+        let first = function.first.saturating_add(function.precondition);
+        self.put_block(f, first, first.saturating_add(function.body), 2)?;
         for i in 0..function.events {
-            self.put_event(f, sum(function.event, i))?;
+            self.put_event(f, function.event.saturating_add(i))?;
         }
         Ok(())
     }
@@ -161,7 +159,7 @@ impl Listing<'_> {
         let function = contract::function_at(self.table, f);
         self.put_head(f)?;
         self.put_body(f)?;
-        let empty = (function.body == 0) & (function.events == 0);
+        let empty = function.body == 0 && function.events == 0;
         self.put_end(empty, 1, function.last)
     }
 

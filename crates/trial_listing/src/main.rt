@@ -13,11 +13,14 @@ mod listing;
 mod pieces;
 mod terms;
 
-// Whether a text reads as the contract of a table; nothing where it is refused.
-fn reads_as(text: &[u8], table: &[u64]) -> Option<bool> {
+// Says whether a text reads as the contract of a table.
+fn read_back(rt: &impl Print, text: &[u8], table: &[u64]) -> io::Result<()> {
     let mut second = [0u64; Contract::TABLE];
-    reader::read(text, &mut second).ok()?;
-    Some(table == second.as_slice())
+    match reader::read(text, &mut second) {
+        Ok(()) if table == second.as_slice() => println!(rt; "// reads back"),
+        Ok(()) => println!(rt; "// reads back as another contract"),
+        Err(_) => println!(rt; "// is refused, or over 16384 bytes"),
+    }
 }
 
 // Lists the contract in a table: prints the listing, and whether it reads as the table that it was made from.
@@ -28,11 +31,7 @@ fn list(rt: &impl Print, alloc: Global, table: &[u64]) -> io::Result<()> {
     };
     listing.put_contract()?;
     rt.write_all(&listing.text)?;
-    match reads_as(&listing.text, table) {
-        Some(true) => println!(rt; "// reads back"),
-        Some(false) => println!(rt; "// reads back as another contract"),
-        None => println!(rt; "// is refused, or over 16384 bytes"),
-    }
+    read_back(rt, &listing.text, table)
 }
 
 // Reads a text into a table, and lists its contract.

@@ -80,11 +80,12 @@ impl Listing<'_> {
         Ok(())
     }
 
+    // Kept: (d) by `write!` into the text its io::Error would be turned into an AllocError again.
     pub(crate) fn put_number(&mut self, n: u64) -> Put {
         let mut digits = [0u8; Digits::MOST];
         let mut out = Writer::new(&mut digits);
         out.put_number(n);
-        let many = out.used();
+        let many = out.at;
         self.put_all(tokens::between(&digits, 0, many))
     }
 
@@ -98,11 +99,10 @@ impl Listing<'_> {
         if Contract::STRING < n {
             return Ok(());
         }
-        for i in 0..n {
-            let b = contract::word(self.table, o + 1 + i) % 256;
-            self.text.push(b as u8)?;
-        }
-        Ok(())
+        let start = o + 1;
+        let letters = self.table.get(start..start + n).unwrap_or(&[]);
+        self.text
+            .extend(letters.iter().map(|letter| (*letter % 256) as u8))
     }
 
     // Name i of a section.
@@ -136,16 +136,14 @@ impl Listing<'_> {
     pub(crate) fn put_parameter(&mut self, f: usize, from: usize, i: usize) -> Put
         requires { from ≤ 8 }
     {
-        if (Contract::FUNCTIONS <= f) | (Function::VALUES <= i) {
+        if Contract::FUNCTIONS <= f || Function::VALUES <= i {
             return Ok(());
         }
         let row = f * Function::NAMES + from + i;
         let n = contract::packed_length(self.table, row) as usize;
-        for j in 0..n {
-            let b = contract::packed_byte(self.table, row, j) % 256;
-            self.text.push(b as u8)?;
-        }
-        Ok(())
+        let table = self.table;
+        self.text
+            .extend((0..n).map(|j| contract::packed_byte(table, row, j) as u8))
     }
 
     // @Q

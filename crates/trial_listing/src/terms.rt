@@ -1,5 +1,5 @@
 // Expressions, conditions and statements, which stand in a table with their parts before them.
-ghost use Rattle.std.specs.Prelude.{◌≤◌};
+ghost use Rattle.std.specs.Prelude.{◌≤◌, IfSome};
 
 use crate::pieces::{Listing, Put, Section};
 use contract::{Contract, Function, Node};
@@ -18,14 +18,14 @@ fn start_of(table: &[u64], end: usize) -> usize
     end.saturating_sub(node.size)
 }
 
-// Where the left part of node k ends; 0 where it has none.
-fn left_of(table: &[u64], k: usize) -> usize
-    ensures { result ≤ k }
+// Where the left part of node k, which has parts, ends: ~ has none.
+fn left_of(table: &[u64], k: usize) -> Option<usize>
+    ensures { IfSome result (λ end. end ≤ k) }
 {
-    if kind_at(table, k) == Node::NOT {
-        return 0;
+    match kind_at(table, k) {
+        Node::NOT => None,
+        _ => Some(start_of(table, k)),
     }
-    start_of(table, k)
 }
 
 // Where the first part of the statement or event at node k ends: before its block or its handler, before its source and its target, or before
@@ -47,7 +47,8 @@ fn first_of(table: &[u64], k: usize) -> usize
 // operator must bind more than the operator, since those of one rank go left to right: its least rank is the odd number from the operator's on.
 // Of ~ in a row each may be the part of another.
 // Kept: (d) this and the next two say how a node of each kind is printed. Kinds and words are numbers of the crates `contract` and `words`, so
-// a `From` would be one from any number to a rank, a word or a section, and would not say which of them it is.
+// a `From` would be one from any number to a rank, a word or a section, and would not say which of them it is. Ranks are numbers, since the odd
+// one after a rank says `more than this`, which no variant of an enum would.
 fn rank_of(kind: u64) -> u8 {
     match kind {
         Node::OR => 2,
@@ -135,16 +136,17 @@ impl Listing<'_> {
 
     // The expression or condition that ends before node `end`, in parentheses if its rank is below the least.
     fn put_term(&mut self, f: usize, end: usize, least: u8) -> Put {
-        if end == 0 {
+        let Some(k) = end.checked_sub(1) else {
             return Ok(());
-        }
-        let k = end - 1;
+        };
         let rank = rank_of(kind_at(self.table, k));
         if rank == LEAF {
             return self.put_leaf(f, k);
         }
         self.put_mark(rank < least, words::OPEN_PAREN)?;
-        self.put_term(f, left_of(self.table, k), rank)?;
+        if let Some(left) = left_of(self.table, k) {
+            self.put_term(f, left, rank)?;
+        }
         self.put_operator(k)?;
         self.put_term(f, k, rank | 1)?;
         self.put_mark(rank < least, words::CLOSE_PAREN)

@@ -23,17 +23,19 @@
 #![tactic(auto)]
 
 use contract::Contract;
+use evaluation::FieldKind;
 use outcomes::Stepped;
 use state::State;
 use std::alloc::{AllocError, Global};
-use std::io;
+use std::{io, iter};
 use trial_states::{Part, Said};
-use trial_text::{number, number_at, store};
+use trial_text::{number, number_at, store_line};
 
 // One word more than a table has.
 const WORDS: usize = Contract::TABLE + 1;
 
 // What the lines so far set up: a table of so many of these words, the words that are kept, and a state.
+// Kept: (d) how many words the table has is set beside them: a line may make it shorter and a later one longer, with the words still there.
 #[derive(Drop)]
 struct Trial {
     all: Vec<u64>,
@@ -46,30 +48,38 @@ struct Trial {
 
 // Numbers that rise by the last of the words, at places so far apart.
 fn repeat(numbers: &mut [u64], words: &str) {
-    let mut at: usize = number_at(words, 0);
-    let step = number_at(words, 1);
-    let times = number_at(words, 2);
-    let mut value: u64 = number_at(words, 3);
+    let step: usize = number_at(words, 1);
     let add = number_at(words, 4);
-    for _ in 0..times {
-        if let Some(place) = numbers.get_mut(at) {
-            *place = value;
-        }
-        at = at.wrapping_add(step);
-        value = value.wrapping_add(add);
+    let places = numbers
+        .iter_mut()
+        .skip(number_at(words, 0))
+        .step_by(step.max(1));
+    let values = iter::successors(
+        Some(number_at(words, 3)),
+        |v: &u64| Some(v.wrapping_add(add)),
+    );
+    for (place, value) in places.zip(values).take(number_at(words, 2)) {
+        *place = value;
     }
 }
 
 // ---- agreements and calls
 
 // An agreement as the machine takes it: four numbers a party, two a field, one a value.
+// Kept: (a) three lists, since the machine takes them so, and a case may give numbers that are no whole party, field or value.
 #[derive(Drop)]
 struct Parts {
     parts: Vec<usize>,
     spans: Vec<usize>,
     values: Vec<i64>,
-    // Whether the party was named last, so that numbers are its own.
-    at_party: bool,
+    // What was named last, so that numbers are its own.
+    named: Named,
+}
+
+#[derive(Clone, Copy)]
+enum Named {
+    Party,
+    Field,
 }
 
 impl Parts {
@@ -78,29 +88,31 @@ impl Parts {
             parts: Vec::new(alloc),
             spans: Vec::new(alloc),
             values: Vec::new(alloc),
-            at_party: false,
+            named: Named::Field,
         }
     }
 
     // A word of the line, from its first byte up to, not including, its end.
     fn add(&mut self, word: &str, start: usize, end: usize) -> Result<(), AllocError> {
         let name = start.saturating_add(1);
-        match word.as_bytes() {
-            [b'@', ..] => {
-                self.at_party = true;
-                self.parts.extend_from_slice(&[name, end])
+        match (word.as_bytes(), self.named) {
+            ([b'@', ..], _) => {
+                self.named = Named::Party;
+                self.parts.extend_from_slice(&[name, end])?;
             }
-            [b':' | b'?', ..] => {
-                self.at_party = false;
-                self.spans.extend_from_slice(&[name, end])
+            ([b':' | b'?', ..], _) => {
+                self.named = Named::Field;
+                self.spans.extend_from_slice(&[name, end])?;
             }
-            _ if self.at_party => self.parts.extend_from_slice(&[number(Some(word))]),
-            _ => self.values.extend_from_slice(&[number(Some(word))]),
+            (_, Named::Party) => self.parts.push(number(Some(word)))?,
+            (_, Named::Field) => self.values.push(number(Some(word)))?,
         }
+        Ok(())
     }
 }
 
 // The parts that a line names after its letter and its room.
+// Kept: (d) the place of a word is the sum of the words before it: an iterator of words with their places would carry the same sum.
 fn parts_of(alloc: Global, line: &str) -> Result<Parts, AllocError> {
     let mut p = Parts::none(alloc);
     let mut start = 0usize;
@@ -125,9 +137,9 @@ fn integers(alloc: Global, words: &str) -> Result<Vec<i64>, AllocError> {
 
 fn print_field(rt: &impl Print, kind: u8, number: i64, text: u8) -> io::Result<()> {
     match kind {
-        0 => print!(rt; " _"),
-        1 => print!(rt; " {number}"),
-        2 => print!(rt; " \"{text}"),
+        FieldKind::NOTHING => print!(rt; " _"),
+        FieldKind::INTEGER => print!(rt; " {number}"),
+        FieldKind::STRING => print!(rt; " \"{text}"),
         _ => print!(rt; " ?"),
     }
 }
@@ -194,6 +206,7 @@ impl Trial {
     }
 
     // The caller, the function and the values, and the assets behind a slash.
+    // Kept: (d) a word and the rest are two calls of the library, here and in the other trials: a function's contract would say them again.
     fn call(&self, alloc: Global, room: usize, words: &str) -> Result<Stepped, AllocError> {
         let (names, assets) = words.split_once('/').unwrap_or((words, ""));
         let (caller, names) = names.split_once(' ').unwrap_or((names, ""));
@@ -209,33 +222,30 @@ impl Trial {
         ))
     }
 
-    // The step that a line asks for by its letter, its room and the words after it.
+    // The step that a line asks for by its letter, its room and the words after it; none where its letter is no step's.
     fn step(
         &self,
         alloc: Global,
         kind: &str,
         words: &str,
         line: &str,
-    ) -> Result<Stepped, AllocError> {
+    ) -> Result<Option<Stepped>, AllocError> {
         let (room, rest) = words.split_once(' ').unwrap_or((words, ""));
         let room = number(Some(room));
-        match kind {
-            "a" => self.agree(alloc, room, line),
-            "c" => self.call(alloc, room, rest),
-            "e" => Ok(machine::fire(self.table(), self.state, room)),
-            "j" => Ok(machine::jump(self.table(), self.state, room, number(Some(rest)))),
-            _ => Ok(machine::tick(self.table(), self.state, room)),
-        }
+        Ok(Some(match kind {
+            "a" => self.agree(alloc, room, line)?,
+            "c" => self.call(alloc, room, rest)?,
+            "e" => machine::fire(self.table(), self.state, room),
+            "j" => machine::jump(self.table(), self.state, room, number(Some(rest))),
+            "t" => machine::tick(self.table(), self.state, room),
+            _ => return Ok(None),
+        }))
     }
 
     // What a line says of the table or the state.
     fn set_up(&mut self, kind: &str, rest: &str) -> Result<(), AllocError> {
         match kind {
-            "w" => {
-                if let Some((at, numbers)) = rest.split_once(' ') {
-                    store(&mut self.all, number(Some(at)), numbers);
-                }
-            }
+            "w" => store_line(&mut self.all, rest),
             "r" => repeat(&mut self.all, rest),
             "l" => self.words = number_at(rest, 0),
             "k" => self.kept = self.all.clone()?,
@@ -261,12 +271,13 @@ impl Trial {
         match kind {
             "#" => println!(rt; "{line}")?,
             "p" => self.ask(rt, words)?,
-            "a" | "c" | "e" | "j" | "t" => {
-                let stepped = self.step(rt.alloc(), kind, words, line)?;
-                print_step(rt, line, self.table(), &stepped)?;
-                self.state = stepped.state;
-            }
-            _ => self.set_up(kind, words)?,
+            _ => match self.step(rt.alloc(), kind, words, line)? {
+                Some(stepped) => {
+                    print_step(rt, line, self.table(), &stepped)?;
+                    self.state = stepped.state;
+                }
+                None => self.set_up(kind, words)?,
+            },
         }
         Ok(())
     }

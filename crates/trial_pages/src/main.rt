@@ -18,8 +18,9 @@
 use contract::Contract;
 use pages::{Gathered, Sheet};
 use questions::Question;
+use results::Report;
 use std::rt::Files;
-use std::{array, io};
+use std::{array, fs, io};
 use trial_text::{number_at, rest_word};
 
 // The entries that there is room for, and the bytes that there are for a buffer.
@@ -29,7 +30,8 @@ const ROOM: usize = 5200;
 
 // What the lines so far set up: the table, the buffer's bytes, the entries and their values, how many numbers and how many values are given,
 // and what is gathered.
-// Kept: (d) the counts are what a case gives, also more than there is, and not how many the arrays hold.
+// Kept: (d) the counts are what a case gives, also more than there is, and not how many the arrays hold; (a) entries and values are the two
+// lists that `pages::gather` and `pages::page` are lent.
 #[derive(Drop)]
 struct Trial {
     table: Vec<u64>,
@@ -77,10 +79,10 @@ fn show(rt: &impl Print, answer: Result<(), Question>, buffer: &[u8]) -> io::Res
 // ---- what the lines say
 
 impl Trial {
-    fn read_terms(&mut self, rt: &impl Files) {
-        let mut text = [0u8; Contract::TEXT + 1];
-        let n = streams::load(rt, b"terms.stipula", &mut text).unwrap_or(0);
-        let _ = reader::read(&text[..n], &mut self.table);
+    fn read_terms(&mut self, rt: &(impl Files + AllocGlobal)) -> io::Result<()> {
+        let text = fs::read(rt, "terms.stipula")?;
+        let _ = reader::read(&text, &mut self.table);
+        Ok(())
     }
 
     // The first entries are given.
@@ -92,29 +94,30 @@ impl Trial {
     }
 
     fn make_entries(&mut self, many: usize) {
-        for i in 0..many.min(ENTRIES) {
-            self.entries[i] = make_entry(i as u64);
-            self.values[i] = make_value(i as u64);
+        let places = self.entries.iter_mut().zip(&mut self.values);
+        for ((entry, value), i) in places.take(many).zip(0..) {
+            *entry = make_entry(i);
+            *value = make_value(i);
         }
         self.give(many);
     }
 
     fn change_number(&mut self, entry: usize, k: usize, v: u64) {
-        if (entry < ENTRIES) & (k < Sheet::NUMBERS) {
-            self.entries[entry][k] = v;
+        if let Some(number) = self.entries.get_mut(entry).and_then(|e| e.get_mut(k)) {
+            *number = v;
         }
     }
 
     fn change_value(&mut self, entry: usize, v: i64) {
-        if entry < ENTRIES {
-            self.values[entry] = v;
+        if let Some(value) = self.values.get_mut(entry) {
+            *value = v;
         }
     }
 
     // A result line, by its four numbers and its integer.
     fn gather(&mut self, rt: &impl Print, words: &str) -> io::Result<()> {
-        let report: [u64; 4] = array::from_fn(|k| number_at(words, k));
-        let integers = [number_at(words, 4)];
+        let report: [u64; Report::WORDS] = array::from_fn(|k| number_at(words, k));
+        let integers = [number_at(words, Report::WORDS)];
         self.gathered = pages::gather(
             self.gathered,
             &report,
@@ -125,12 +128,12 @@ impl Trial {
         );
         let count = self.gathered.count;
         println!(rt; "{count}")?;
-        if count < ENTRIES {
-            self.give(count);
-        }
+        self.give(count);
         Ok(())
     }
 
+    // Kept: (a) trial_results lends a buffer in the same way: one function for both would be public in `trial_text`, and require that its
+    // closure may be called.
     fn ask(&self, rt: &impl Print, page: usize) -> io::Result<()> {
         let numbers = self.entries.as_flattened();
         let numbers = numbers.get(..self.numbers_given).unwrap_or(numbers);
@@ -162,11 +165,11 @@ impl Trial {
         Ok(())
     }
 
-    fn take(&mut self, rt: &(impl Files + Print), line: &str) -> io::Result<()> {
+    fn take(&mut self, rt: &(impl Files + Print + AllocGlobal), line: &str) -> io::Result<()> {
         println!(rt; "{line}")?;
         let (kind, words) = line.split_once(' ').unwrap_or((line, ""));
         match kind {
-            "t" => self.read_terms(rt),
+            "t" => self.read_terms(rt)?,
             "s" => self.gathered = Gathered::nothing(),
             "g" => self.gather(rt, words)?,
             _ => self.take_numbers(rt, kind, words)?,

@@ -20,7 +20,7 @@ use contract::Contract;
 use questions::Question;
 use results::{Batch, Report};
 use std::io;
-use trial_text::{number, number_at, rest_word, store};
+use trial_text::{number_at, rest_word, store, store_line};
 
 // The bytes that there are for a buffer, and the reports at once that there are numbers for.
 const ROOM: usize = 640;
@@ -60,30 +60,36 @@ fn show_batch(rt: &impl Print, answer: Result<Batch, Question>, buffer: &[u8]) -
 // ---- what the lines say
 
 impl Trial {
-    // Lends the buffer, and shows what `write` left there.
-    fn ask<F: FnOnce(&mut [u8]) -> Result<usize, Question>>(
+    // Lends the buffer, and shows what `write` answers and left there.
+    // Kept: (a) trial_pages lends a buffer in the same way: one function for both would be public in `trial_text`, and require that its
+    // closures may be called.
+    fn ask<T, W: FnOnce(&mut [u8]) -> T, S: FnOnce(T, &[u8]) -> io::Result<()>>(
         &self,
-        rt: &impl Print,
-        write: F,
+        write: W,
+        show: S,
     ) -> io::Result<()>
-        requires { F.IsAlwaysCallable write }
+        requires write { W.IsAlwaysCallable write }
+        requires show { S.IsAlwaysCallable show }
     {
         let mut buffer = [b'.'; ROOM];
         let Some(part) = buffer.get_mut(..self.size) else {
             return Ok(());
         };
         let answer = write(part);
-        show(rt, answer, &buffer)
+        show(answer, &buffer)
     }
 
     fn write(&self, rt: &impl Print, report: Report) -> io::Result<()> {
-        self.ask(rt, |part| results::write(&self.table, report, part))
+        self.ask(
+            |part| results::write(&self.table, report, part),
+            |answer, buffer| show(rt, answer, buffer),
+        )
     }
 
     fn write_refusal(&self, rt: &impl Print, question: u8, place: usize) -> io::Result<()> {
         self.ask(
-            rt,
             |part| results::write_text_refusal(question, place, part),
+            |answer, buffer| show(rt, answer, buffer),
         )
     }
 
@@ -93,12 +99,10 @@ impl Trial {
         if let Some((_, reports)) = words.split_once(' ') {
             store(&mut numbers, 0, reports);
         }
-        let mut buffer = [b'.'; ROOM];
-        let Some(part) = buffer.get_mut(..self.size) else {
-            return Ok(());
-        };
-        let answer = results::write_batch(&self.table, &numbers, &[3, -1250, 0, 7], 0, many, part);
-        show_batch(rt, answer, &buffer)
+        self.ask(
+            |part| results::write_batch(&self.table, &numbers, &[3, -1250, 0, 7], 0, many, part),
+            |answer, buffer| show_batch(rt, answer, buffer),
+        )
     }
 
     // A report of up to three numbers, or many at once.
@@ -130,9 +134,7 @@ impl Trial {
     fn take(&mut self, rt: &impl Print, line: &str) -> io::Result<()> {
         let (kind, words) = line.split_once(' ').unwrap_or((line, ""));
         if kind == "w" {
-            if let Some((at, numbers)) = words.split_once(' ') {
-                store(&mut self.table, number(Some(at)), numbers);
-            }
+            store_line(&mut self.table, words);
             return Ok(());
         }
         println!(rt; "{line}")?;

@@ -1,5 +1,5 @@
-// Plays the session of each folder that standard input names, one a line, and prints the name and what the desk prints. The functions
-// under "a session" are those of crate `desk` without its options and without what it says of failures. Expected results: what the
+// Plays the session of each folder that standard input names, one a line, and prints the name and what the desk prints. What
+// stands under "a session" plays it as the desk does, without its options and without what it says of failures. Expected results: what the
 // published vectors expect of each session once requests up to F-5 have landed, byte for byte, and of 33 sessions of F-06, whose answers
 // that request does not change; of the examples, what the customer's plain desk prints.
 #![tactic(auto)]
@@ -22,7 +22,7 @@ const LINES: usize = 1024;
 
 // Kept: (a) no crate can call into the desk, which is a program. A library for both would have a public function that reads, plays and prints a
 // whole session, and a library's function says here what comes of all that it is given; of this one that can't be said, since std's contract of
-// `write_all` leaves out which bytes were written before an error.
+// `write_all` leaves out which bytes were written before an error. So it has the desk's block of bytes with two places, as `desk_lines` takes it.
 
 // A session as it is played: its state, the bytes of its file that are read and not yet taken, and room for result lines.
 #[derive(Drop)]
@@ -106,6 +106,7 @@ impl<'a> Session<'a> {
 
     // The session in a file, then what each asset holds.
     fn run(&mut self, rt: &impl Print, file: &mut impl Read) -> io::Result<()> {
+        // A file may have no end, and a loop has to be shown to end: so many turns as 64 bits count.
         for _ in 0..u64::MAX {
             if !self.turn(rt, file)? {
                 break;

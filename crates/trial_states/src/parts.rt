@@ -7,6 +7,7 @@ use std::str::FromStr;
 use trial_text::number_at;
 
 /// A part of a state that a case sets, in range or not.
+// Kept: (d) what a variant has stands in the order of a line's words, by which alone it is made, so that names would be said twice.
 #[derive(Clone, Copy)]
 pub enum Part {
     /// Agreed or not, the state's number, the clock, and how many events are pending.
@@ -98,22 +99,12 @@ impl Part {
                 next.pending = pending;
             }
             Part::Field(at, kind, number, text) => {
-                if at < next.kinds.len() {
-                    next.kinds[at] = kind;
-                    next.numbers[at] = number;
-                    next.texts[at] = text;
-                }
+                items::set(&mut next.kinds, at, kind);
+                items::set(&mut next.numbers, at, number);
+                items::set(&mut next.texts, at, text);
             }
-            Part::Asset(at, amount) => {
-                if at < next.assets.len() {
-                    next.assets[at] = amount;
-                }
-            }
-            Part::Event(at, event) => {
-                if at < next.events.len() {
-                    next.events[at] = event;
-                }
-            }
+            Part::Asset(at, amount) => items::set(&mut next.assets, at, amount),
+            Part::Event(at, event) => items::set(&mut next.events, at, event),
         }
         next
     }

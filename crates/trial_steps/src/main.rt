@@ -20,7 +20,7 @@ use statements::Label;
 use std::{array, io};
 use steps::Left;
 use trial_states::{Part, Said};
-use trial_text::{number, number_at, store};
+use trial_text::{number_at, store_line};
 
 // The entries that there are to lend.
 const ENTRIES: usize = 100;
@@ -43,15 +43,11 @@ fn mark(i: usize) -> Label {
     }
 }
 
-fn is_mark(label: &Label, i: usize) -> bool {
-    label.kind == 9 && label.party == i && label.value == 1000
-}
-
 fn print_left(rt: &impl Print, left: &Left, labels: &[Label]) -> io::Result<()> {
     let kept = labels
         .iter()
         .enumerate()
-        .filter(|(i, label)| is_mark(label, *i))
+        .filter(|(i, label)| **label == mark(*i))
         .count();
     println!(rt;
         ": {}, labels {}, kept {kept}",
@@ -59,7 +55,7 @@ fn print_left(rt: &impl Print, left: &Left, labels: &[Label]) -> io::Result<()> 
         left.count
     )?;
     for (i, label) in labels.iter().enumerate() {
-        if !is_mark(label, i) {
+        if *label != mark(i) {
             println!(rt; "  {i}: {} {} {}", label.kind, label.party, label.value)?;
         }
     }
@@ -94,6 +90,11 @@ fn print_state(rt: &impl Print, s: &State) -> io::Result<()> {
     println!(rt)
 }
 
+// Whether the word at a place says that the state is handed on.
+fn is_handed(words: &str, i: usize) -> bool {
+    number_at::<u64>(words, i) != 0
+}
+
 impl Trial {
     fn fire(&self, rt: &impl Print, slots: usize) -> io::Result<Option<State>> {
         lend(
@@ -112,9 +113,9 @@ impl Trial {
     }
 
     // Takes the state that a step left, if it is handed on.
-    fn go_on(&mut self, rt: &impl Print, after: Option<State>, handed: u64) -> io::Result<()> {
+    fn go_on(&mut self, rt: &impl Print, after: Option<State>, handed: bool) -> io::Result<()> {
         if let Some(state) = after
-            && handed != 0
+            && handed
         {
             print_state(rt, &state)?;
             self.state = state;
@@ -126,22 +127,18 @@ impl Trial {
         let (kind, rest) = line.split_once(' ').unwrap_or((line, ""));
         match kind {
             "#" => println!(rt; "{line}")?,
-            "w" => {
-                if let Some((at, numbers)) = rest.split_once(' ') {
-                    store(&mut self.table, number(Some(at)), numbers);
-                }
-            }
+            "w" => store_line(&mut self.table, rest),
             "f" => self.state = State::fresh(number_at(rest, 0)),
             "s" => self.state = Part::put_named(rest, self.state),
             "e" => {
                 print!(rt; "{line}")?;
                 let after = self.fire(rt, number_at(rest, 0))?;
-                self.go_on(rt, after, number_at(rest, 1))?;
+                self.go_on(rt, after, is_handed(rest, 1))?;
             }
             "j" => {
                 print!(rt; "{line}")?;
                 let after = self.jump(rt, number_at(rest, 0), number_at(rest, 1))?;
-                self.go_on(rt, after, number_at(rest, 2))?;
+                self.go_on(rt, after, is_handed(rest, 2))?;
             }
             _ => {}
         }

@@ -1,12 +1,14 @@
 -- Numbers written over others, one place after the other. Assumes nothing.
-use Rattle.std.proofs.Common.{◌≡◌, ℕ, ◌+◌, ◌<◌, ◌≤◌, suc, List, [], ◌∷◌, length, map, drop, get_or, min, sym, ap, ◌∙◌, refl, arith, set, inl, inr}
+use Rattle.std.proofs.Common.{◌≡◌, ◌≢◌, ℕ, ◌+◌, ◌<◌, ◌≤◌, suc, List, [], ◌∷◌, length, map, drop, get_or, min, sym, ap, ◌∙◌, refl, arith, set, inl, inr, eqb, false, ne_eqb}
 use Rattle.std.proofs.lemmas.Bool.Decides.{leb_tells}
-use Rattle.std.specs.List.{range_with_len, zip}
+use Rattle.std.specs.List.{range_with_len, zip, position_or_len, before_first, after_first}
 use Rattle.std.proofs.Math.Seq.{drop-cons}
 use Rattle.std.proofs.lemmas.List.{length-map, get_or-map, set_past, drop_all}
 use Rattle.std.proofs.lemmas.List.FromFn.{get_or-range_with_len, length-range_with_len}
+use Rattle.std.proofs.lemmas.List.Elements.{All-from_get_or}
+use Rattle.std.proofs.lemmas.List.Splits.{slice_split_first, slice_split_none}
 use Rattle.std.proofs.lemmas.Slice.Zip.{length-zip, get_or-zip}
-use Rattle.trial_text.specs.Numbers.{natural, overwritten}
+use Rattle.trial_text.specs.Numbers.{words, natural, overwritten, stored}
 
 -- nothing is written past the end
 past_end : (at : ℕ) (ns xs : List ℕ) → length xs ≤ at → overwritten at ns xs ≡ xs
@@ -53,3 +55,15 @@ all_written from n k ws xs e size =
       | inl h ↦ past_end (from + k) (drop k ns) xs (omega (arith, h.1))
       | inr h ↦ ap (λ l. overwritten (from + k) l xs) (drop_all k ns (omega (arith, h.1, least, room, some)))
     ]
+
+-- a line of a word, a space and a rest
+pub stored_behind : (line place rest xs : List ℕ) (n : ℕ) {new : List ℕ} → position_or_len (λ b. eqb b 32) line < length line → place ≡ before_first (λ b. eqb b 32) line → rest ≡ after_first (λ b. eqb b 32) line → n ≡ natural 64 place → new ≡ overwritten n (map (natural 64) (words rest)) xs → new ≡ stored line xs
+stored_behind line place rest xs n inside front back from e =
+    let cut : words line ≡ place ∷ words rest = slice_split_first (λ b. eqb b 32) line 0 inside ∙ ap (λ w. w ∷ words (after_first (λ b. eqb b 32) line)) (sym front) ∙ ap (λ w. place ∷ words w) (sym back) in
+    rw cut (e ∙ ap (λ k. overwritten k (map (natural 64) (words rest)) xs) from)
+
+-- a line of one word
+pub stored_none : (line xs : List ℕ) → ((i : ℕ) → i < length line → get_or line i 0 ≢ 32) → xs ≡ stored line xs
+stored_none line xs h =
+    let one : words line ≡ line ∷ [] = slice_split_none (λ b. eqb b 32) line (All-from_get_or (λ b. eqb b 32 ≡ false) line 0 (λ i l. ne_eqb (get_or line i 0) 32 (h i l))) in
+    rw one refl

@@ -1,4 +1,4 @@
-use Rattle.std.specs.Prelude.{ℕ, ◌+◌, ◌^◌, Bool, ◌&&◌, if◌then◌else◌, List, [], ◌∷◌, length, nat_lt, nat_eq, slice_get, slice_set, Result, ℤ, pos}
+use Rattle.std.specs.Prelude.{ℕ, ◌+◌, ◌^◌, Bool, ◌&&◌, if◌then◌else◌, List, [], ◌∷◌, length, drop, map, nat_lt, nat_eq, slice_get, slice_set, Result, ℤ, pos}
 use Rattle.std.specs.List.{slice_split}
 use Rattle.std.specs.Option.{unwrap_or}
 use Rattle.std.specs.Result.{ResultUnwrapsOrElse}
@@ -39,3 +39,7 @@ integer_at text k = integer (unwrap_or (slice_get (words text) k) [])
 abbrev pub overwritten : ℕ → List ℕ → List ℕ → List ℕ
 overwritten at [] numbers = numbers
 overwritten at (n ∷ more) numbers = overwritten (at + 1) more (slice_set numbers at n)
+
+-- numbers with those of a line written over them: its first word is the place, and the words after it are the numbers
+abbrev pub stored : List ℕ → List ℕ → List ℕ
+stored line numbers = overwritten (natural_at 64 line 0) (map (natural 64) (drop 1 (words line))) numbers

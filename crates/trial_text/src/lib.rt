@@ -4,7 +4,7 @@
 
 ghost use Rattle.std.specs.Prelude.{◌≡◌, ◌↔◌, IsTrue, IsNone, IfSome, MatchOption, length, map, slice_get, codes};
 ghost use Rattle.std.specs.List.{AllWithin};
-ghost use Rattle.trial_text.specs.Numbers.{StandsFor, words, natural, overwritten};
+ghost use Rattle.trial_text.specs.Numbers.{StandsFor, words, natural, overwritten, stored};
 
 use std::str::FromStr;
 
@@ -34,12 +34,21 @@ where
 
 /// Stores the numbers that the words of a text stand for, one after another from a place on, as far as there is room.
 // Kept: (d) the place is one that a case names, also past the end, and not how far a buffer is filled; with a slice from there on each caller
-// would test the place itself.
+// would test the place itself. The loop goes over places, since std's contract of an adapter of `iter_mut` leaves out what is written.
 pub fn store(numbers: &mut [u64], from: usize, text: &str)
     ensures { numbers.new ≡ overwritten from (map (natural 64) (words text.now)) numbers.old }
 {
     for (place, word) in (from..numbers.len()).zip(text.split(' ')) {
         numbers[place] = number(Some(word));
+    }
+}
+
+/// Stores what a line of a case says: its first word is a place, and the words after it are the numbers from there on.
+pub fn store_line(numbers: &mut [u64], line: &str)
+    ensures { numbers.new ≡ stored line.now numbers.old }
+{
+    if let Some((place, words)) = line.split_once(' ') {
+        store(numbers, number(Some(place)), words);
     }
 }
 
