@@ -29,19 +29,18 @@ module _ (s : List ℕ) where
       → k ≡ kind_in c → k ≡ nameKind
       → u ≡ start_in first → n₁ ≡ counted 8 u n
       → a ≡ start_in c → b ≡ end_in c → x ≡ value_target s n₁ (between s a b)
-      → o ≡ start_in c → t₂ ≡ (put_name x o (draft t n₁)).table → n₂ ≡ (put_name x o (draft t n₁)).notes
-      → t₃ ≡ (put value_move_kind 0 from (draft t₂ n₂)).table → n₃ ≡ (put value_move_kind 0 from (draft t₂ n₂)).notes
+      → o ≡ start_in c → draft t₂ n₂ ≡ put_name x o (draft t n₁)
+      → draft t₃ n₃ ≡ put value_move_kind 0 from (draft t₂ n₂)
       → e ≡ end_in c → cursor_in s d ≡ cursor_at s e → is_stop d ≡ false
       → AgreesWith (sends s (cursor_in s first) from (cursor_in s c) (draft t n)) (step_in s d) t₃ n₃
   unfolding cursor_in
-  sends_on first c from t n k u a b o e n₁ x t₂ n₂ t₃ n₃ d k-is f u-is h₁ a-is b-is hx o_is a₂ b₂ a₃ b₃ e-is next going =
+  sends_on first c from t n k u a b o e n₁ x t₂ n₂ t₃ n₃ d k-is f u-is h₁ a-is b-is hx o_is a₂ a₃ e-is next going =
       as_on s _ d t₃ n₃ going
       (blocks.sends_on s (cursor_in s first) (cursor_in s c) from t n n₁ x t₂ n₂ t₃ n₃ (cursor_in s d) (sym k-is ∙ f)
       (h₁ ∙ ap (λ (z : ℕ). counted 8 z n) u-is)
       (hx ∙ (λ i. value_target s n₁ (between s (a-is i) (b-is i))))
-      (a₂ ∙ ap (λ (z : ℕ). (put_name x z (draft t n₁)).table) o_is)
-      (b₂ ∙ ap (λ (z : ℕ). (put_name x z (draft t n₁)).notes) o_is)
-      a₃ b₃ (next ∙ ap (cursor_at s) e-is))
+      (a₂ ∙ ap (λ (z : ℕ). put_name x z (draft t n₁)) o_is)
+      a₃ (next ∙ ap (cursor_at s) e-is))
 
   -- E -o h, t
 
@@ -56,24 +55,22 @@ module _ (s : List ℕ) where
       → k ≡ kind_in c → k ≡ nameKind
       → u ≡ start_in first → n₁ ≡ counted 8 u n
       → a ≡ start_in source → b ≡ end_in source → x ≡ holder_in s n₁ h (between s a b)
-      → o ≡ start_in source → t₂ ≡ (put_name x o (draft t n₁)).table → n₂ ≡ (put_name x o (draft t n₁)).notes
+      → o ≡ start_in source → draft t₂ n₂ ≡ put_name x o (draft t n₁)
       → a' ≡ start_in c → b' ≡ end_in c → y ≡ asset_target s n₂ h (between s a' b')
-      → o' ≡ start_in c → t₃ ≡ (put_name y o' (draft t₂ n₂)).table → n₃ ≡ (put_name y o' (draft t₂ n₂)).notes
-      → t₄ ≡ (put asset_move_kind 0 from (draft t₃ n₃)).table → n₄ ≡ (put asset_move_kind 0 from (draft t₃ n₃)).notes
+      → o' ≡ start_in c → draft t₃ n₃ ≡ put_name y o' (draft t₂ n₂)
+      → draft t₄ n₄ ≡ put asset_move_kind 0 from (draft t₃ n₃)
       → e ≡ end_in c → cursor_in s d ≡ cursor_at s e → is_stop d ≡ false
       → AgreesWith (moves s h (cursor_in s first) from (cursor_in s source) (cursor_in s c) (draft t n)) (step_in s d) t₄ n₄
   unfolding cursor_in
-  moves_on h first source c from t n k u a b o a' b' o' e n₁ x t₂ n₂ y t₃ n₃ t₄ n₄ d k-is f u-is h₁ a-is b-is hx o_is a₂ b₂ a'-is b'-is hy o'-is a₃ b₃ a₄ b₄ e-is next going =
+  moves_on h first source c from t n k u a b o a' b' o' e n₁ x t₂ n₂ y t₃ n₃ t₄ n₄ d k-is f u-is h₁ a-is b-is hx o_is a₂ a'-is b'-is hy o'-is a₃ a₄ e-is next going =
       as_on s _ d t₄ n₄ going
       (blocks.moves_on s h (cursor_in s first) (cursor_in s source) (cursor_in s c) from t n n₁ x t₂ n₂ y t₃ n₃ t₄ n₄ (cursor_in s d) (sym k-is ∙ f)
       (h₁ ∙ ap (λ (z : ℕ). counted 8 z n) u-is)
       (hx ∙ (λ i. holder_in s n₁ h (between s (a-is i) (b-is i))))
-      (a₂ ∙ ap (λ (z : ℕ). (put_name x z (draft t n₁)).table) o_is)
-      (b₂ ∙ ap (λ (z : ℕ). (put_name x z (draft t n₁)).notes) o_is)
+      (a₂ ∙ ap (λ (z : ℕ). put_name x z (draft t n₁)) o_is)
       (hy ∙ (λ i. asset_target s n₂ h (between s (a'-is i) (b'-is i))))
-      (a₃ ∙ ap (λ (z : ℕ). (put_name y z (draft t₂ n₂)).table) o'-is)
-      (b₃ ∙ ap (λ (z : ℕ). (put_name y z (draft t₂ n₂)).notes) o'-is)
-      a₄ b₄ (next ∙ ap (cursor_at s) e-is))
+      (a₃ ∙ ap (λ (z : ℕ). put_name y z (draft t₂ n₂)) o'-is)
+      a₄ (next ∙ ap (cursor_at s) e-is))
 
   -- h -o t
 
@@ -86,11 +83,11 @@ module _ (s : List ℕ) where
       → a' ≡ start_in c → b' ≡ end_in c → y ≡ asset_target s n₂ h (between s a' b')
       → u' ≡ start_in first → n₃ ≡ wanted x u' n₂
       → o' ≡ start_in c → n₄ ≡ wanted y o' n₃
-      → t₅ ≡ (put y.kind y.number v (draft t n₄)).table → n₅ ≡ (put y.kind y.number v (draft t n₄)).notes
-      → t₆ ≡ (put whole_move_kind 0 from (draft t₅ n₅)).table → n₆ ≡ (put whole_move_kind 0 from (draft t₅ n₅)).notes
-      → (t₆ ≡ (moves_all s h (cursor_in s first) from (cursor_in s c) (draft t n)).table) × (n₆ ≡ (moves_all s h (cursor_in s first) from (cursor_in s c) (draft t n)).notes)
+      → draft t₅ n₅ ≡ put y.kind y.number v (draft t n₄)
+      → draft t₆ n₆ ≡ put whole_move_kind 0 from (draft t₅ n₅)
+      → draft t₆ n₆ ≡ moves_all s h (cursor_in s first) from (cursor_in s c) (draft t n)
   unfolding cursor_in
-  moved_all h first c from t n v u o a b a' b' u' o' n₁ n₂ x y n₃ n₄ t₅ n₅ t₆ n₆ hv u-is h₁ o_is h₂ a-is b-is hx a'-is b'-is hy u'-is h₃ o'-is h₄ a₅ b₅ a₆ b₆ =
+  moved_all h first c from t n v u o a b a' b' u' o' n₁ n₂ x y n₃ n₄ t₅ n₅ t₆ n₆ hv u-is h₁ o_is h₂ a-is b-is hx a'-is b'-is hy u'-is h₃ o'-is h₄ a₅ a₆ =
       blocks.moved_all s h (cursor_in s first) (cursor_in s c) from t n v n₁ n₂ x y n₃ n₄ t₅ n₅ t₆ n₆ hv
       (h₁ ∙ ap (λ (z : ℕ). counted 8 z n) u-is)
       (h₂ ∙ ap (λ (z : ℕ). counted 9 z n₁) o_is)
@@ -98,7 +95,7 @@ module _ (s : List ℕ) where
       (hy ∙ (λ i. asset_target s n₂ h (between s (a'-is i) (b'-is i))))
       (h₃ ∙ ap (λ (z : ℕ). wanted x z n₂) u'-is)
       (h₄ ∙ ap (λ (z : ℕ). wanted y z n₃) o'-is)
-      a₅ b₅ a₆ b₆
+      a₅ a₆
 
   -- after `-o`
 
@@ -118,12 +115,12 @@ module _ (s : List ℕ) where
           (sym l-is ∙ m) (then ∙ ap (cursor_at s) b-is) a
 
       pub asset_all : (t n : List ℕ) → is_stop d ≡ false → (l ≡ comma → ⊥) → alone ≡ true
-          → t ≡ (moves_all s h (cursor_in s first) from (cursor_in s c) p).table → n ≡ (moves_all s h (cursor_in s first) from (cursor_in s c) p).notes
+          → draft t n ≡ moves_all s h (cursor_in s first) from (cursor_in s c) p
           → AgreesWith (asset_move s h (cursor_in s first) from alone (cursor_in s c) p) (step_in s d) t n
       unfolding cursor_in
-      asset_all t n going m o a b =
+      asset_all t n going m o a =
           as_on s _ d t n going
-          (blocks.asset_all s h (cursor_in s first) from alone (cursor_in s c) p (cursor_in s d) (sym k-is ∙ f) (next ∙ ap (cursor_at s) e-is) t n (λ z. m (l-is ∙ z)) o a b)
+          (blocks.asset_all s h (cursor_in s first) from alone (cursor_in s c) p (cursor_in s d) (sym k-is ∙ f) (next ∙ ap (cursor_at s) e-is) t n (λ z. m (l-is ∙ z)) o a)
 
       pub asset_none : (r : ℕ) (t n : List ℕ) → (l ≡ comma → ⊥) → alone ≡ false → step_in s r ≡ unfit_at s (cursor_in s d)
           → AgreesWith (asset_move s h (cursor_in s first) from alone (cursor_in s c) p) (step_in s r) t n

@@ -43,8 +43,8 @@ impl Statement<'_> {
             cursors::start_of(c),
             cursors::end_of(c),
         );
-        entries::put_name(lent.table, notes, target, cursors::start_of(c));
-        entries::put(lent.table, notes, Node::VALUE_MOVE, 0, self.from);
+        lent.put_name(target, cursors::start_of(c));
+        lent.put(Node::VALUE_MOVE, 0, self.from);
         cursors::lex(self.text, cursors::end_of(c))
     }
 
@@ -66,7 +66,8 @@ impl Statement<'_> {
             cursors::start_of(source),
             cursors::end_of(source),
         );
-        entries::put_name(lent.table, notes, holder, cursors::start_of(source));
+        lent.put_name(holder, cursors::start_of(source));
+        let notes = &mut *lent.notes;
         let target = entries::asset_target(
             self.text,
             notes,
@@ -74,8 +75,8 @@ impl Statement<'_> {
             cursors::start_of(c),
             cursors::end_of(c),
         );
-        entries::put_name(lent.table, notes, target, cursors::start_of(c));
-        entries::put(lent.table, notes, Node::ASSET_MOVE, 0, self.from);
+        lent.put_name(target, cursors::start_of(c));
+        lent.put(Node::ASSET_MOVE, 0, self.from);
         cursors::lex(self.text, cursors::end_of(c))
     }
 
@@ -105,8 +106,8 @@ impl Statement<'_> {
         );
         entries::want(notes, holder, cursors::start_of(self.first));
         entries::want(notes, target, cursors::start_of(c));
-        entries::put(lent.table, notes, target.kind, target.number, before);
-        entries::put(lent.table, notes, Node::WHOLE_MOVE, 0, self.from);
+        lent.put(target.kind, target.number, before);
+        lent.put(Node::WHOLE_MOVE, 0, self.from);
     }
 
     // After `-o`.
@@ -296,7 +297,7 @@ impl Block<'_> {
             return after;
         }
         let block = lent.nodes_since(before) as u64;
-        entries::put(lent.table, lent.notes, Node::CONDITIONAL, block, self.from);
+        lent.put(Node::CONDITIONAL, block, self.from);
         after
     }
 }

@@ -53,9 +53,9 @@ impl Bodies<'_> {
             return name;
         }
         let handler = lent.nodes_since(from);
-        let last = cursors::mention_state(self.text, lent.table, lent.notes, name);
+        let last = cursors::mention_state(self.text, lent, name);
         let node = lent.nodes();
-        entries::put(lent.table, lent.notes, Node::EVENT, handler as u64, before);
+        lent.put(Node::EVENT, handler as u64, before);
         entries::event_row(lent.table, i, state, last, node);
         cursors::lex(self.text, cursors::end_of(name))
     }
@@ -77,7 +77,7 @@ impl Bodies<'_> {
         let i = lent.note(entries::EVENT) as usize;
         let from = lent.nodes();
         entries::count(lent.notes, entries::EVENT, place);
-        let state = cursors::mention_state(self.text, lent.table, lent.notes, name);
+        let state = cursors::mention_state(self.text, lent, name);
         items::set(lent.notes, entries::STATEMENT, 0);
         let block = Block {
             text: self.text,

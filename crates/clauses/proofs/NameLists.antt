@@ -28,13 +28,9 @@ follow_pick false c p q o f = refl
 
 module _ (s : List ℕ) where
   -- what is done with the token at a cursor
-  done_table : (f : ℕ → ℕ → Draft) (c a e : ℕ) (t : List ℕ) → a ≡ start_in c → e ≡ end_in c → t ≡ (f a e).table → t ≡ (f (cursor_in s c).start (cursor_in s c).end).table
+  done : (f : ℕ → ℕ → Draft) (c a e : ℕ) (p : Draft) → a ≡ start_in c → e ≡ end_in c → p ≡ f a e → p ≡ f (cursor_in s c).start (cursor_in s c).end
   unfolding cursor_in
-  done_table f c a e t h g i = i ∙ (λ j. (f (h j) (g j)).table)
-
-  done_notes : (f : ℕ → ℕ → Draft) (c a e : ℕ) (n : List ℕ) → a ≡ start_in c → e ≡ end_in c → n ≡ (f a e).notes → n ≡ (f (cursor_in s c).start (cursor_in s c).end).notes
-  unfolding cursor_in
-  done_notes f c a e n h g i = i ∙ (λ j. (f (h j) (g j)).notes)
+  done f c a e p h g i = i ∙ (λ j. f (h j) (g j))
 
   -- ---- lists of names
 
@@ -42,18 +38,17 @@ module _ (s : List ℕ) where
   unfolding one_listed
   one_misfit l c p g = pick_false _ _ _ (ne_eqb _ _ g)
 
-  one_done : (l : Listed) (c d : Cursor) (t n t₁ n₁ : List ℕ) → c.kind ≡ nameKind → d ≡ next_of s c → t₁ ≡ (entered s l c.start c.end (draft t n)).table
-      → n₁ ≡ (entered s l c.start c.end (draft t n)).notes → one_listed s l c (draft t n) ≡ on d (draft t₁ n₁)
+  one_done : (l : Listed) (c d : Cursor) (t n t₁ n₁ : List ℕ) → c.kind ≡ nameKind → d ≡ next_of s c → draft t₁ n₁ ≡ entered s l c.start c.end (draft t n)
+      → one_listed s l c (draft t n) ≡ on d (draft t₁ n₁)
   unfolding one_listed
-  one_done l c d t n t₁ n₁ e h a b = pick_true _ _ _ (eq-eqb _ _ e) ∙ (λ i. on (sym h i) (record { table = sym a i; notes = sym b i }))
+  one_done l c d t n t₁ n₁ e h a = pick_true _ _ _ (eq-eqb _ _ e) ∙ (λ i. on (sym h i) (sym a i))
 
   pub one_read : (l : Listed) (c next y a e e₂ : ℕ) (t n t₁ n₁ : List ℕ) → y ≡ kind_in c → y ≡ nameKind → a ≡ start_in c → e ≡ end_in c → e₂ ≡ end_in c
-      → cursor_in s next ≡ cursor_at s e₂ → t₁ ≡ (entered s l a e (draft t n)).table → n₁ ≡ (entered s l a e (draft t n)).notes
+      → cursor_in s next ≡ cursor_at s e₂ → draft t₁ n₁ ≡ entered s l a e (draft t n)
       → one_listed s l (cursor_in s c) (draft t n) ≡ on (cursor_in s next) (draft t₁ n₁)
-  one_read l c next y a e e₂ t n t₁ n₁ hy hk ha he h₂ hl ht hn =
+  one_read l c next y a e e₂ t n t₁ n₁ hy hk ha he h₂ hl g =
       let f : ℕ → ℕ → Draft = λ u v. entered s l u v (draft t n) in
-      one_done l (cursor_in s c) (cursor_in s next) t n t₁ n₁ (packed.kind_is s c y nameKind hy hk) (packed.next_is s c e₂ next h₂ hl) (done_table f c a e t₁ ha he ht)
-      (done_notes f c a e n₁ ha he hn)
+      one_done l (cursor_in s c) (cursor_in s next) t n t₁ n₁ (packed.kind_is s c y nameKind hy hk) (packed.next_is s c e₂ next h₂ hl) (done f c a e (draft t₁ n₁) ha he g)
 
   pub list_turn : (l : Listed) (left : ℕ) (c d e : Cursor) (p q : Draft) → 0 < left → c.kind ≡ comma → e ≡ next_of s c → one_listed s l e p ≡ on d q
       → more_listed s l (left - 1) d q ≡ more_listed s l left c p
@@ -116,9 +111,8 @@ module _ (s : List ℕ) where
   -- ---- the clauses
 
   pub clause_begin : (c next y a e e₂ : ℕ) (t n t₁ n₁ : List ℕ) → y ≡ kind_in c → y ≡ nameKind → a ≡ start_in c → e ≡ end_in c → e₂ ≡ end_in c
-      → cursor_in s next ≡ cursor_at s e₂ → t₁ ≡ (clause_party s a e (draft t n)).table → n₁ ≡ (clause_party s a e (draft t n)).notes
+      → cursor_in s next ≡ cursor_at s e₂ → draft t₁ n₁ ≡ clause_party s a e (draft t n)
       → clause_from s (cursor_in s next) (draft t₁ n₁) ≡ clause s (cursor_in s c) (draft t n)
-  clause_begin c next y a e e₂ t n t₁ n₁ hy hk ha he h₂ hl ht hn =
+  clause_begin c next y a e e₂ t n t₁ n₁ hy hk ha he h₂ hl g =
       let f : ℕ → ℕ → Draft = λ u v. clause_party s u v (draft t n) in
-      listed.clause_begin s (cursor_in s c) (cursor_in s next) t n t₁ n₁ (packed.kind_is s c y nameKind hy hk) (packed.next_is s c e₂ next h₂ hl) (done_table f c a e t₁ ha he ht)
-      (done_notes f c a e n₁ ha he hn)
+      listed.clause_begin s (cursor_in s c) (cursor_in s next) t n t₁ n₁ (packed.kind_is s c y nameKind hy hk) (packed.next_is s c e₂ next h₂ hl) (done f c a e (draft t₁ n₁) ha he g)

@@ -29,16 +29,14 @@ pub(crate) struct Lists<'a> {
 }
 
 impl Lists<'_> {
-    // Kept: (d) no conversion: each case calls the function of `entries` that enters such a name.
+    // Kept: (d) no conversion: each case calls the method of the lent lists that enters such a name.
     fn enter(&self, lent: &mut Lent, listed: Listed, start: usize, end: usize)
         ensures value { draft_in lent.new ≡ entered self.now.text.now listed start end (draft_in lent.old) }
         ensures same_lists { SameLists lent.old lent.new }
     {
         match listed {
-            Listed::Declared(kind) => entries::declare(
-                self.text, lent.table, lent.notes, kind, start, end,
-            ),
-            Listed::Fields => entries::clause_field(self.text, lent.table, lent.notes, start, end),
+            Listed::Declared(kind) => lent.declare(self.text, kind, start, end),
+            Listed::Fields => lent.clause_field(self.text, start, end),
         }
     }
 
@@ -142,9 +140,7 @@ impl Lists<'_> {
             words::OK_ARROW => Verb::Ok,
             _ => return cursors::unfit(self.text, c),
         };
-        // Lent by a name of its own: a place behind a loan can't yet be lent to be read beside one that is written.
-        let notes = &mut *lent.notes;
-        entries::clause_verb(lent.table, notes, verb as u64);
+        lent.clause_verb(verb as u64);
         self.clause_rest(lent, cursors::lex(self.text, cursors::end_of(c)))
     }
 
@@ -156,13 +152,7 @@ impl Lists<'_> {
         if cursors::kind_of(c) != Token::NAME {
             return cursors::unfit(self.text, c);
         }
-        entries::clause_party(
-            self.text,
-            lent.table,
-            lent.notes,
-            cursors::start_of(c),
-            cursors::end_of(c),
-        );
+        lent.clause_party(self.text, cursors::start_of(c), cursors::end_of(c));
         self.clause_from(lent, cursors::lex(self.text, cursors::end_of(c)))
     }
 

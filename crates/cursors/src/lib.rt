@@ -6,11 +6,13 @@
 #![tactic(auto)]
 
 ghost use Rattle.std.specs.Prelude.{◌≡◌, true, false, ◌%◌, []};
+ghost use Rattle.entries.specs.Lending.{draft_in, SameLists};
 ghost use Rattle.cursors.specs.Packed.{kind_in, start_in, end_in, at_in, question_in, is_stop, cursor_in, step_in};
 ghost use Rattle.cursors.specs.Packed.{clipped, clipped_step, left_after};
 ghost use Rattle.reading_laws.specs.Walk as walk;
-ghost use Rattle.reading_laws.specs.Walk.{Stop, draft};
+ghost use Rattle.reading_laws.specs.Walk.{Stop};
 
+use entries::Lent;
 use questions::Question;
 use tokens::{Lexed, Token};
 
@@ -165,14 +167,14 @@ pub fn state_at(text: &[u8], c: u64) -> u64
 }
 
 // A state's mention, and its number.
-pub fn mention_state(text: &[u8], table: &mut [u64], notes: &mut [u64], c: u64) -> usize
-    ensures value { result ≡ walk.state_number text.now (cursor_in text.now c) (draft table.old notes.old) }
-    ensures table_after { table.new ≡ (walk.stated text.now (cursor_in text.now c) (draft table.old notes.old)).table }
-    ensures notes_after { notes.new ≡ (walk.stated text.now (cursor_in text.now c) (draft table.old notes.old)).notes }
+pub fn mention_state(text: &[u8], lent: &mut Lent, c: u64) -> usize
+    ensures number { result ≡ walk.state_number text.now (cursor_in text.now c) (draft_in lent.old) }
+    ensures value { draft_in lent.new ≡ walk.stated text.now (cursor_in text.now c) (draft_in lent.old) }
+    ensures same_lists { SameLists lent.old lent.new }
 {
     let start = start_of(c);
     let end = end_of(c);
-    entries::mention(text, table, notes, entries::STATE, start, end, start)
+    lent.mention(text, entries::STATE, start, end, start)
 }
 
 // Past the closing parenthesis.

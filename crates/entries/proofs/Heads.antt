@@ -11,55 +11,49 @@ use borrow.Author.Tests.{lt-ltb, le-ltb}
 use Rattle.laws.specs.Choice.{pick}
 use Rattle.laws.proofs.Choice.{pick_true, pick_false}
 use Rattle.tokens.specs.Tokens.{between}
-use Rattle.entries.specs.Draft.{name_used, Draft, note, found, known_count, number_in, among_in, clause_party, clause_verb, field_at, clause_field, clause_end, find_from, head_mark, headed, is_headed, head_notes, head_entered, head, rowed, slotted}
+use Rattle.entries.specs.Draft.{name_used, Draft, note, found, known_count, number_in, among_in, clause_party, clause_verb, field_at, clause_field, clause_end, find_from, head_mark, headed, is_headed, head_notes, head_entered, no_parameters, head, rowed, slotted}
 use Rattle.entries.proofs.Finds.{among_is}
 
 -- ---- the clause at hand, row r
 
-module _ (s : List ℕ) (a e : ℕ) (t n : List ℕ) where
-  pub party_row : (r x : ℕ) (l : List ℕ) → r ≡ note n 11 → x ≡ number_in s n 0 (between s a e) → r < 16 → l ≡ set t (5027 + 35 * r) x
-      → l ≡ (clause_party s a e (record { table = t; notes = n })).table
+module _ (s : List ℕ) (a e : ℕ) (t n : List ℕ) (r : ℕ) (l : List ℕ) (q : r ≡ note n 11) (u : l ≡ name_used s 0 a e n) where
+  pub party_row : (x : ℕ) (t₁ : List ℕ) → x ≡ number_in s n 0 (between s a e) → r < 16 → t₁ ≡ set t (5027 + 35 * r) x
+      → record { table = t₁; notes = l } ≡ clause_party s a e (record { table = t; notes = n })
   unfolding clause_party
-  party_row r x l q f h k =
-      k ∙ (λ i. set t (5027 + 35 * q i) (f i)) ∙ sym (pick_true _ _ _ (lt-ltb (note n 11) 16 (omega (arith, q))))
+  party_row x t₁ f h k =
+      let p = k ∙ (λ i. set t (5027 + 35 * q i) (f i)) ∙ sym (pick_true _ _ _ (lt-ltb (note n 11) 16 (omega (arith, q)))) in
+      λ i. record { table = p i; notes = u i }
 
-  pub party_past : (r : ℕ) → r ≡ note n 11 → 16 ≤ r → t ≡ (clause_party s a e (record { table = t; notes = n })).table
+  pub party_past : 16 ≤ r → record { table = t; notes = l } ≡ clause_party s a e (record { table = t; notes = n })
   unfolding clause_party
-  party_past r q h = sym (pick_false _ _ _ (le-ltb (note n 11) 16 (omega (arith, q))))
-
-  pub party_used_lem : (l : List ℕ) → l ≡ name_used s 0 a e n → l ≡ (clause_party s a e (record { table = t; notes = n })).notes
-  unfolding clause_party
-  party_used_lem l h = h
+  party_past h =
+      let p = sym (pick_false _ _ _ (le-ltb (note n 11) 16 (omega (arith, q)))) in
+      λ i. record { table = p i; notes = u i }
 
 pub verb_row : (v r : ℕ) (t n l : List ℕ) → r ≡ note n 11 → r < 16 → l ≡ set t (5027 + 35 * r + 1) v
-    → l ≡ (clause_verb v (record { table = t; notes = n })).table
+    → record { table = l; notes = n } ≡ clause_verb v (record { table = t; notes = n })
 unfolding clause_verb
 verb_row v r t n l q h k =
-    k ∙ (λ i. set t (5027 + 35 * q i + 1) v)
-    ∙ ap (λ (p : Draft). p.table) (sym (pick_true _ _ _ (lt-ltb (note n 11) 16 (omega (arith, q)))))
+    let p = k ∙ (λ i. set t (5027 + 35 * q i + 1) v) in
+    (λ i. record { table = p i; notes = n }) ∙ sym (pick_true _ _ _ (lt-ltb (note n 11) 16 (omega (arith, q))))
 
-pub verb_past : (v r : ℕ) (t n : List ℕ) → r ≡ note n 11 → 16 ≤ r → t ≡ (clause_verb v (record { table = t; notes = n })).table
+pub verb_past : (v r : ℕ) (t n : List ℕ) → r ≡ note n 11 → 16 ≤ r
+    → record { table = t; notes = n } ≡ clause_verb v (record { table = t; notes = n })
 unfolding clause_verb
-verb_past v r t n q h = ap (λ (p : Draft). p.table) (sym (pick_false _ _ _ (le-ltb (note n 11) 16 (omega (arith, q)))))
+verb_past v r t n q h = sym (pick_false _ _ _ (le-ltb (note n 11) 16 (omega (arith, q))))
 
 module _ (r j x : ℕ) (t n : List ℕ) where
   pub field_in : (t₁ t₂ : List ℕ) → j < 32 → t₁ ≡ set t (r + 3 + j) x → t₂ ≡ set t₁ (r + 2) (j + 1)
-      → (t₂ ≡ (field_at r j x (record { table = t; notes = n })).table) × (n ≡ (field_at r j x (record { table = t; notes = n })).notes)
+      → record { table = t₂; notes = n } ≡ field_at r j x (record { table = t; notes = n })
   unfolding field_at
   field_in t₁ t₂ h k₁ k₂ =
-      let e = pick_true (ltb j 32) _ _ (lt-ltb j 32 h) in (
-        k₂ ∙ ap (λ (l : List ℕ). set l (r + 2) (j + 1)) k₁ ∙ ap (λ (p : Draft). p.table) (sym e),
-        ap (λ (p : Draft). p.notes) (sym e),
-      )
+      let p = k₂ ∙ ap (λ (l : List ℕ). set l (r + 2) (j + 1)) k₁ in
+      (λ i. record { table = p i; notes = n }) ∙ sym (pick_true _ _ _ (lt-ltb j 32 h))
 
   pub field_out : (l : List ℕ) → 32 ≤ j → l ≡ set n 15 1
-      → (t ≡ (field_at r j x (record { table = t; notes = n })).table) × (l ≡ (field_at r j x (record { table = t; notes = n })).notes)
+      → record { table = t; notes = l } ≡ field_at r j x (record { table = t; notes = n })
   unfolding field_at
-  field_out l h k =
-      let e = pick_false (ltb j 32) _ _ (le-ltb j 32 h) in (
-        ap (λ (p : Draft). p.table) (sym e),
-        k ∙ ap (λ (p : Draft). p.notes) (sym e),
-      )
+  field_out l h k = (λ i. record { table = t; notes = k i }) ∙ sym (pick_false _ _ _ (le-ltb j 32 h))
 
 -- the notes after a name is looked up among those of a kind
 pub looked : (s : List ℕ) (k a e : ℕ) (w n l : List ℕ) (x m : ℕ) → w ≡ between s a e → x ≡ number_in s n k w → m ≡ known_count n k
@@ -69,30 +63,18 @@ looked s k a e w n l x m c f g h =
 
 module _ (s : List ℕ) (a e : ℕ) (t n : List ℕ) (r : ℕ) (l : List ℕ) (q : r ≡ note n 11)
     (u : l ≡ pick (among_in s n 2 (between s a e)) n (found 13 a n)) where
-  field_row : (x j : ℕ) → x ≡ number_in s n 2 (between s a e) → r < 16 → j ≡ get_or t (5027 + 35 * r + 2) 0
-      → field_at (5027 + 35 * r) j x (record { table = t; notes = l }) ≡ clause_field s a e (record { table = t; notes = n })
+  pub clause_field_in : (x j : ℕ) (p : Draft) → x ≡ number_in s n 2 (between s a e) → r < 16 → j ≡ get_or t (5027 + 35 * r + 2) 0
+      → p ≡ field_at (5027 + 35 * r) j x (record { table = t; notes = l }) → p ≡ clause_field s a e (record { table = t; notes = n })
   unfolding clause_field
-  field_row x j f h g =
+  clause_field_in x j p f h g k =
       let z : j ≡ get_or t (5027 + 35 * note n 11 + 2) 0 = g ∙ ap (λ (i : ℕ). get_or t (5027 + 35 * i + 2) 0) q in
-      (λ i. field_at (5027 + 35 * q i) (z i) (f i) (record { table = t; notes = u i }))
+      k
+      ∙ (λ i. field_at (5027 + 35 * q i) (z i) (f i) (record { table = t; notes = u i }))
       ∙ sym (pick_true _ _ _ (lt-ltb (note n 11) 16 (omega (arith, q))))
 
-  pub clause_field_in : (x j : ℕ) (t₁ n₁ : List ℕ) → x ≡ number_in s n 2 (between s a e) → r < 16 → j ≡ get_or t (5027 + 35 * r + 2) 0
-      → t₁ ≡ (field_at (5027 + 35 * r) j x (record { table = t; notes = l })).table
-      → n₁ ≡ (field_at (5027 + 35 * r) j x (record { table = t; notes = l })).notes
-      → (t₁ ≡ (clause_field s a e (record { table = t; notes = n })).table) × (n₁ ≡ (clause_field s a e (record { table = t; notes = n })).notes)
-  clause_field_in x j t₁ n₁ f h g k₁ k₂ = (
-    k₁ ∙ ap (λ (p : Draft). p.table) (field_row x j f h g),
-    k₂ ∙ ap (λ (p : Draft). p.notes) (field_row x j f h g),
-  )
-
-  field_past : 16 ≤ r → record { table = t; notes = l } ≡ clause_field s a e (record { table = t; notes = n })
+  pub clause_field_out : 16 ≤ r → record { table = t; notes = l } ≡ clause_field s a e (record { table = t; notes = n })
   unfolding clause_field
-  field_past h = (λ i. record { table = t; notes = u i }) ∙ sym (pick_false _ _ _ (le-ltb (note n 11) 16 (omega (arith, q))))
-
-  pub clause_field_out : 16 ≤ r
-      → (t ≡ (clause_field s a e (record { table = t; notes = n })).table) × (l ≡ (clause_field s a e (record { table = t; notes = n })).notes)
-  clause_field_out h = (ap (λ (p : Draft). p.table) (field_past h), ap (λ (p : Draft). p.notes) (field_past h))
+  clause_field_out h = (λ i. record { table = t; notes = u i }) ∙ sym (pick_false _ _ _ (le-ltb (note n 11) 16 (omega (arith, q))))
 
 pub end_in : (n l : List ℕ) (r : ℕ) → r ≡ note n 11 → r < 16 → l ≡ set n 11 (r + 1) → l ≡ clause_end n
 unfolding clause_end
@@ -142,10 +124,9 @@ module _ (s : List ℕ) (o q a f e : ℕ) (t n : List ℕ) where
   pub entered_past : (v : ℕ) (n₁ : List ℕ) → v ≡ note n 10 → n₁ ≡ head_notes s o q a f e n → 64 ≤ v → record { table = t; notes = n₁ } ≡ Entered
   entered_past v n₁ g u h = row_past v n₁ g u h
 
-  pub head_done : (t₁ n₂ n₃ n₄ : List ℕ) → t₁ ≡ Entered.table → n₂ ≡ Entered.notes → n₃ ≡ set n₂ 3 0 → n₄ ≡ set n₃ 4 0
-      → (t₁ ≡ (head s o q a f e (record { table = t; notes = n })).table) × (n₄ ≡ (head s o q a f e (record { table = t; notes = n })).notes)
+  pub head_done : (p : Draft) (n₁ n₂ : List ℕ) → p ≡ Entered → n₁ ≡ set p.notes 3 0 → n₂ ≡ set n₁ 4 0
+      → record { table = p.table; notes = n₂ } ≡ head s o q a f e (record { table = t; notes = n })
   unfolding head
-  head_done t₁ n₂ n₃ n₄ r u h k = (
-    r,
-    k ∙ ap (λ (l : List ℕ). set l 4 0) (h ∙ ap (λ (l : List ℕ). set l 3 0) u),
-  )
+  head_done p n₁ n₂ r h k =
+      let m = k ∙ ap (λ (l : List ℕ). set l 4 0) h in
+      (λ i. record { table = p.table; notes = m i }) ∙ ap no_parameters r

@@ -10,10 +10,6 @@ use Rattle.laws.proofs.Choice.{pick_true, pick_false}
 use Rattle.tokens.specs.Tokens.{between}
 use Rattle.entries.specs.Draft.{Draft, note, limit, slot_of, section_of, width_of, mark_of, known_count, found, function_count, rowed, parameter_put, slotted, entered, declared_in, declare, mention, number_in, among_in}
 
--- ---- a lent list ends as what it was lent for left it
-pub ends_as : {A : Type 0} {x y z : A} → y ≡ z → x ≡ y → x ≡ z
-ends_as e h = h ∙ e
-
 -- ---- name i of a kind
 module _ (s t n : List ℕ) (k i a e : ℕ) (w : List ℕ) (f : w ≡ between s a e) where
   pub entered_table :

@@ -26,49 +26,27 @@ module _ (kind argument before : ℕ) (t n : List ℕ) (w : ℕ) (e : w ≡ note
 
   pub put_more : (size : ℕ) (t₁ n₁ : List ℕ) → w < 4096 → size ≡ w - before + 1
       → t₁ ≡ sets t (8531 + 3 * w) (kind ∷ argument ∷ size ∷ []) → n₁ ≡ set n 14 (w + 1)
-      → (t₁ ≡ (put kind argument before (record { table = t; notes = n })).table)
-      × (n₁ ≡ (put kind argument before (record { table = t; notes = n })).notes)
-  put_more size t₁ n₁ h z h₁ k = (
-    h₁ ∙ (λ i. sets t (8531 + 3 * w) (kind ∷ argument ∷ z i ∷ [])) ∙ ap (λ (p : Draft). p.table) (sym (node_more h)),
-    k ∙ ap (λ (p : Draft). p.notes) (sym (node_more h)),
-  )
+      → record { table = t₁; notes = n₁ } ≡ put kind argument before (record { table = t; notes = n })
+  put_more size t₁ n₁ h z h₁ k =
+      let p = h₁ ∙ (λ i. sets t (8531 + 3 * w) (kind ∷ argument ∷ z i ∷ [])) in
+      (λ i. record { table = p i; notes = k i }) ∙ sym (node_more h)
 
-  node_full : 4096 ≤ w → put kind argument before (record { table = t; notes = n }) ≡ record { table = t; notes = n }
+  pub put_full : 4096 ≤ w → record { table = t; notes = n } ≡ put kind argument before (record { table = t; notes = n })
   unfolding put
-  node_full h = pick_false _ _ _ (le-ltb (note n 14) 4096 (omega (arith, e)))
-
-  pub put_full : 4096 ≤ w
-      → (t ≡ (put kind argument before (record { table = t; notes = n })).table)
-      × (n ≡ (put kind argument before (record { table = t; notes = n })).notes)
-  put_full h = (ap (λ (p : Draft). p.table) (sym (node_full h)), ap (λ (p : Draft). p.notes) (sym (node_full h)))
+  put_full h = sym (pick_false _ _ _ (le-ltb (note n 14) 4096 (omega (arith, e))))
 
 module _ (o : ℕ) (t n : List ℕ) (b : ℕ) (n₁ : List ℕ) (e : b ≡ note n 14) (f : n₁ ≡ counted 9 o n) where
-  name_put : (x : Known) (n₂ : List ℕ) → n₂ ≡ wanted x o n₁
-      → put x.kind x.number b (record { table = t; notes = n₂ }) ≡ put_name x o (record { table = t; notes = n })
+  pub put_named : (x : Known) (n₂ : List ℕ) (p : Draft) → n₂ ≡ wanted x o n₁
+      → p ≡ put x.kind x.number b (record { table = t; notes = n₂ }) → p ≡ put_name x o (record { table = t; notes = n })
   unfolding put_name
-  name_put x n₂ g =
+  put_named x n₂ p g h =
       let q : n₂ ≡ wanted x o (counted 9 o n) = g ∙ ap (wanted x o) f in
-      λ i. put x.kind x.number (e i) (record { table = t; notes = q i })
+      h ∙ (λ i. put x.kind x.number (e i) (record { table = t; notes = q i }))
 
-  pub put_named : (x : Known) (n₂ t₁ n₃ : List ℕ) → n₂ ≡ wanted x o n₁
-      → t₁ ≡ (put x.kind x.number b (record { table = t; notes = n₂ })).table
-      → n₃ ≡ (put x.kind x.number b (record { table = t; notes = n₂ })).notes
-      → (t₁ ≡ (put_name x o (record { table = t; notes = n })).table) × (n₃ ≡ (put_name x o (record { table = t; notes = n })).notes)
-  put_named x n₂ t₁ n₃ g h k =
-      (h ∙ ap (λ (p : Draft). p.table) (name_put x n₂ g), k ∙ ap (λ (p : Draft). p.notes) (name_put x n₂ g))
-
-  leaf_put : (kind argument : ℕ)
-      → put kind argument b (record { table = t; notes = n₁ }) ≡ put_leaf kind argument o (record { table = t; notes = n })
+  pub put_leafed : (kind argument : ℕ) (p : Draft) → p ≡ put kind argument b (record { table = t; notes = n₁ })
+      → p ≡ put_leaf kind argument o (record { table = t; notes = n })
   unfolding put_leaf
-  leaf_put kind argument = λ i. put kind argument (e i) (record { table = t; notes = f i })
-
-  pub put_leafed : (kind argument : ℕ) (t₁ n₃ : List ℕ)
-      → t₁ ≡ (put kind argument b (record { table = t; notes = n₁ })).table
-      → n₃ ≡ (put kind argument b (record { table = t; notes = n₁ })).notes
-      → (t₁ ≡ (put_leaf kind argument o (record { table = t; notes = n })).table)
-      × (n₃ ≡ (put_leaf kind argument o (record { table = t; notes = n })).notes)
-  put_leafed kind argument t₁ n₃ h k =
-      (h ∙ ap (λ (p : Draft). p.table) (leaf_put kind argument), k ∙ ap (λ (p : Draft). p.notes) (leaf_put kind argument))
+  put_leafed kind argument p h = h ∙ (λ i. put kind argument (e i) (record { table = t; notes = f i }))
 
 -- ---- an event's row, the rest of a function's row
 
@@ -85,13 +63,13 @@ module _ (i : ℕ) (t : List ℕ) where
 module _ (i : ℕ) (t n : List ℕ) (last first condition body event events : ℕ) where
   pub rest_in : (v p : ℕ) (t₁ : List ℕ) → i < 64 → v ≡ note n 3 → p ≡ note n 4
       → t₁ ≡ sets t (5587 + 43 * i + 2) (last ∷ v ∷ p ∷ first ∷ condition ∷ body ∷ event ∷ events ∷ [])
-      → t₁ ≡ (function_rest i last first condition body event events (record { table = t; notes = n })).table
+      → record { table = t₁; notes = n } ≡ function_rest i last first condition body event events (record { table = t; notes = n })
   unfolding function_rest
   rest_in v p t₁ h e f h₁ =
-      h₁
-      ∙ (λ j. sets t (5587 + 43 * i + 2) (last ∷ e j ∷ f j ∷ first ∷ condition ∷ body ∷ event ∷ events ∷ []))
-      ∙ ap (λ (q : Draft). q.table) (sym (pick_true _ _ _ (lt-ltb i 64 h)))
+      let q = h₁ ∙ (λ j. sets t (5587 + 43 * i + 2) (last ∷ e j ∷ f j ∷ first ∷ condition ∷ body ∷ event ∷ events ∷ [])) in
+      (λ j. record { table = q j; notes = n }) ∙ sym (pick_true _ _ _ (lt-ltb i 64 h))
 
-  pub rest_out : 64 ≤ i → t ≡ (function_rest i last first condition body event events (record { table = t; notes = n })).table
+  pub rest_out : 64 ≤ i
+      → record { table = t; notes = n } ≡ function_rest i last first condition body event events (record { table = t; notes = n })
   unfolding function_rest
-  rest_out h = ap (λ (q : Draft). q.table) (sym (pick_false _ _ _ (le-ltb i 64 h)))
+  rest_out h = sym (pick_false _ _ _ (le-ltb i 64 h))

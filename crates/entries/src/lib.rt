@@ -538,50 +538,43 @@ fn declare_notes(name: &NameAt, notes: &mut [u64], kind: usize)
     ask(notes, new, Question::NameNew, name.start);
 }
 
-// A declared name.
-// Kept: (a) these are a public function's own parameters, any text, lists and places; inside, `NameAt` and `Lent` have them.
-pub fn declare(
-    text: &[u8],
-    table: &mut [u64],
-    notes: &mut [u64],
-    kind: usize,
-    start: usize,
-    end: usize,
-)
-    ensures table_after { table.exit.now ≡ (draft.declare text.now kind start end (record { table = table.entry.now; notes = notes.old })).table }
-    ensures notes_after { notes.new ≡ (draft.declare text.now kind start end (record { table = table.entry.now; notes = notes.old })).notes }
-{
-    let name = NameAt::of(text, start, end);
-    let n = contract::word(notes, kind) as usize;
-    declare_notes(&name, notes, kind);
-    if n < limit(kind) {
-        let mut lent = Lent { table, notes };
-        lent.enter(&name, kind, n);
+impl Lent<'_> {
+    // A declared name.
+    // Kept: (a) a text and the places of a name in it are a public function's own parameters, any text and places; inside, `NameAt` has them.
+    pub fn declare(&mut self, text: &[u8], kind: usize, start: usize, end: usize)
+        ensures value { draft_in self.new ≡ draft.declare text.now kind start end (draft_in self.old) }
+        ensures same_lists { SameLists self.old self.new }
+    {
+        let name = NameAt::of(text, start, end);
+        let n = self.note(kind) as usize;
+        declare_notes(&name, self.notes, kind);
+        if n < limit(kind) {
+            self.enter(&name, kind, n);
+        }
     }
-}
 
-// A state or a string, and its number.
-// Kept: (a) as `count` and `declare`.
-pub fn mention(
-    text: &[u8],
-    table: &mut [u64],
-    notes: &mut [u64],
-    kind: usize,
-    start: usize,
-    end: usize,
-    place: usize,
-) -> usize
-    ensures value { result ≡ draft.number_in text.now notes.old kind (between text.now start end) }
-    ensures table_after { table.exit.now ≡ (draft.mention text.now kind start end place (record { table = table.entry.now; notes = notes.old })).table }
-    ensures notes_after { notes.new ≡ (draft.mention text.now kind start end place (record { table = table.entry.now; notes = notes.old })).notes }
-{
-    let name = NameAt::of(text, start, end);
-    let i = name.number(notes, kind);
-    if many_of(notes, kind) <= i {
-        let mut lent = Lent { table, notes };
-        lent.enter_new(&name, kind, place);
+    // A state or a string, and its number.
+    // Kept: (a) as `count` and `declare`.
+    pub fn mention(
+        &mut self,
+        text: &[u8],
+        kind: usize,
+        start: usize,
+        end: usize,
+        place: usize,
+    ) -> usize
+        ensures number { result ≡ draft.number_in text.now self.old.notes.now kind (between text.now start end) }
+        ensures value { draft_in self.new ≡ draft.mention text.now kind start end place (draft_in self.old) }
+        ensures same_lists { SameLists self.old self.new }
+    {
+        let name = NameAt::of(text, start, end);
+        let notes = &mut *self.notes;
+        let i = name.number(notes, kind);
+        if many_of(notes, kind) <= i {
+            self.enter_new(&name, kind, place);
+        }
+        i
     }
-    i
 }
 
 // ---- Used names.
@@ -678,43 +671,42 @@ pub fn want(notes: &mut [u64], name: Known, place: usize)
 
 // ---- Nodes.
 
-// One more node; its size counts the nodes from `before` on.
-// Kept: (a) as `declare`.
-pub fn put(table: &mut [u64], notes: &mut [u64], kind: u64, argument: u64, before: usize)
-    ensures table_after { table.exit.now ≡ (draft.put kind argument before (record { table = table.entry.now; notes = notes.old })).table }
-    ensures notes_after { notes.new ≡ (draft.put kind argument before (record { table = table.entry.now; notes = notes.old })).notes }
-{
-    let n = contract::word(notes, WRITTEN) as usize;
-    if n < Contract::NODES {
-        let at = contract::NODES + Node::WORDS * n;
-        let size = n.saturating_sub(before) + 1;
-        items::store_all(table, at, &[kind, argument, size as u64]);
-        items::set(notes, WRITTEN, n as u64 + 1);
+impl Lent<'_> {
+    // One more node; its size counts the nodes from `before` on.
+    pub fn put(&mut self, kind: u64, argument: u64, before: usize)
+        ensures value { draft_in self.new ≡ draft.put kind argument before (draft_in self.old) }
+        ensures same_lists { SameLists self.old self.new }
+    {
+        let n = self.nodes();
+        if n < Contract::NODES {
+            let at = contract::NODES + Node::WORDS * n;
+            let size = n.saturating_sub(before) + 1;
+            items::store_all(self.table, at, &[kind, argument, size as u64]);
+            items::set(self.notes, WRITTEN, n as u64 + 1);
+        }
     }
-}
 
-// A name's node.
-// Kept: (a) as `declare`.
-#[inline(always)]
-pub fn put_name(table: &mut [u64], notes: &mut [u64], name: Known, place: usize)
-    ensures table_after { table.exit.now ≡ (draft.put_name name place (record { table = table.entry.now; notes = notes.old })).table }
-    ensures notes_after { notes.new ≡ (draft.put_name name place (record { table = table.entry.now; notes = notes.old })).notes }
-{
-    let before = contract::word(notes, WRITTEN) as usize;
-    count(notes, NODE, place);
-    want(notes, name, place);
-    put(table, notes, name.kind, name.number, before);
-}
+    // A name's node.
+    #[inline(always)]
+    pub fn put_name(&mut self, name: Known, place: usize)
+        ensures value { draft_in self.new ≡ draft.put_name name place (draft_in self.old) }
+        ensures same_lists { SameLists self.old self.new }
+    {
+        let before = self.nodes();
+        count(self.notes, NODE, place);
+        want(self.notes, name, place);
+        self.put(name.kind, name.number, before);
+    }
 
-// A node without parts that is no name.
-// Kept: (a) as `declare`.
-pub fn put_leaf(table: &mut [u64], notes: &mut [u64], kind: u64, argument: u64, place: usize)
-    ensures table_after { table.exit.now ≡ (draft.put_leaf kind argument place (record { table = table.entry.now; notes = notes.old })).table }
-    ensures notes_after { notes.new ≡ (draft.put_leaf kind argument place (record { table = table.entry.now; notes = notes.old })).notes }
-{
-    let before = contract::word(notes, WRITTEN) as usize;
-    count(notes, NODE, place);
-    put(table, notes, kind, argument, before);
+    // A node without parts that is no name.
+    pub fn put_leaf(&mut self, kind: u64, argument: u64, place: usize)
+        ensures value { draft_in self.new ≡ draft.put_leaf kind argument place (draft_in self.old) }
+        ensures same_lists { SameLists self.old self.new }
+    {
+        let before = self.nodes();
+        count(self.notes, NODE, place);
+        self.put(kind, argument, before);
+    }
 }
 
 // ---- Rows.
@@ -736,19 +728,6 @@ const CLAUSE_VERB: usize = 1;
 
 const CLAUSE_MANY: usize = 2;
 
-// The party of the clause at hand.
-// Kept: (a) as `declare`; the places are those of a name in the text.
-pub fn clause_party(text: &[u8], table: &mut [u64], notes: &mut [u64], start: usize, end: usize)
-    ensures table_after { table.exit.now ≡ (draft.clause_party text.now start end (record { table = table.entry.now; notes = notes.old })).table }
-    ensures notes_after { notes.new ≡ (draft.clause_party text.now start end (record { table = table.entry.now; notes = notes.old })).notes }
-{
-    let row = contract::word(notes, CLAUSES) as usize;
-    let party = use_name(&NameAt::of(text, start, end), notes, PARTY);
-    if row < Contract::CLAUSES {
-        items::set(table, contract::CLAUSES + Clause::WORDS * row, party as u64);
-    }
-}
-
 // A party that a function names, and its number.
 // Kept: (a) as `declare`; the places are those of a name in the text.
 pub fn use_party(text: &[u8], notes: &mut [u64], start: usize, end: usize) -> usize
@@ -758,22 +737,39 @@ pub fn use_party(text: &[u8], notes: &mut [u64], start: usize, end: usize) -> us
     use_name(&NameAt::of(text, start, end), notes, PARTY)
 }
 
-// Its verb: 0 for SET, 1 for OK.
-// Kept: (a) as `declare`.
-pub fn clause_verb(table: &mut [u64], notes: &[u64], verb: u64)
-    ensures { table.exit.now ≡ (draft.clause_verb verb (record { table = table.entry.now; notes = notes.now })).table }
-{
-    let row = contract::word(notes, CLAUSES) as usize;
-    if row < Contract::CLAUSES {
-        items::set(
-            table,
-            contract::CLAUSES + Clause::WORDS * row + CLAUSE_VERB,
-            verb,
-        );
-    }
-}
-
 impl Lent<'_> {
+    // The party of the clause at hand.
+    // Kept: (a) as `declare`.
+    pub fn clause_party(&mut self, text: &[u8], start: usize, end: usize)
+        ensures value { draft_in self.new ≡ draft.clause_party text.now start end (draft_in self.old) }
+        ensures same_lists { SameLists self.old self.new }
+    {
+        let row = self.note(CLAUSES) as usize;
+        let party = use_name(&NameAt::of(text, start, end), self.notes, PARTY);
+        if row < Contract::CLAUSES {
+            items::set(
+                self.table,
+                contract::CLAUSES + Clause::WORDS * row,
+                party as u64,
+            );
+        }
+    }
+
+    // Its verb: 0 for SET, 1 for OK.
+    pub fn clause_verb(&mut self, verb: u64)
+        ensures value { draft_in self.new ≡ draft.clause_verb verb (draft_in self.old) }
+        ensures same_lists { SameLists self.old self.new }
+    {
+        let row = self.note(CLAUSES) as usize;
+        if row < Contract::CLAUSES {
+            items::set(
+                self.table,
+                contract::CLAUSES + Clause::WORDS * row + CLAUSE_VERB,
+                verb,
+            );
+        }
+    }
+
     // Field number `field` in the row at `at`, the j-th there.
     fn field_at(&mut self, at: usize, j: u64, field: usize)
         requires { at ≤ 300000 }
@@ -787,21 +783,21 @@ impl Lent<'_> {
             items::set(self.notes, EXCESS, 1);
         }
     }
-}
 
-// One more field of it.
-// Kept: (a) as `declare`; the places are those of a name in the text.
-pub fn clause_field(text: &[u8], table: &mut [u64], notes: &mut [u64], start: usize, end: usize)
-    ensures table_after { table.exit.now ≡ (draft.clause_field text.now start end (record { table = table.entry.now; notes = notes.old })).table }
-    ensures notes_after { notes.new ≡ (draft.clause_field text.now start end (record { table = table.entry.now; notes = notes.old })).notes }
-{
-    let row = contract::word(notes, CLAUSES) as usize;
-    let field = use_name(&NameAt::of(text, start, end), notes, FIELD);
-    if row < Contract::CLAUSES {
-        let at = contract::CLAUSES + Clause::WORDS * row;
-        let j = contract::word(table, at + CLAUSE_MANY);
-        let mut lent = Lent { table, notes };
-        lent.field_at(at, j, field);
+    // One more field of it.
+    // Kept: (a) as `declare`.
+    pub fn clause_field(&mut self, text: &[u8], start: usize, end: usize)
+        ensures value { draft_in self.new ≡ draft.clause_field text.now start end (draft_in self.old) }
+        ensures same_lists { SameLists self.old self.new }
+    {
+        let row = self.note(CLAUSES) as usize;
+        let field = use_name(&NameAt::of(text, start, end), self.notes, FIELD);
+        if row < Contract::CLAUSES {
+            let at = contract::CLAUSES + Clause::WORDS * row;
+            let table = &mut *self.table;
+            let j = contract::word(table, at + CLAUSE_MANY);
+            self.field_at(at, j, field);
+        }
     }
 }
 
@@ -868,28 +864,26 @@ impl Lent<'_> {
             self.write_head(name, n, state, party);
         }
     }
-}
 
-// A function's head: its place, its state's and its party's number, its name.
-// Kept: (a) as `declare`; the place is one in the text.
-pub fn head(
-    text: &[u8],
-    table: &mut [u64],
-    notes: &mut [u64],
-    place: usize,
-    state: usize,
-    party: usize,
-    start: usize,
-    end: usize,
-)
-    ensures table_after { table.exit.now ≡ (draft.head text.now place state party start end (record { table = table.entry.now; notes = notes.old })).table }
-    ensures notes_after { notes.new ≡ (draft.head text.now place state party start end (record { table = table.entry.now; notes = notes.old })).notes }
-{
-    let name = NameAt::of(text, start, end);
-    let mut lent = Lent { table, notes };
-    lent.enter_head(&name, place, state, party);
-    items::set(lent.notes, VALUE, 0);
-    items::set(lent.notes, PARAMETER, 0);
+    // A function's head: its place, its state's and its party's number, its name.
+    // Kept: (a) as `declare`; the place is one in the text.
+    pub fn head(
+        &mut self,
+        text: &[u8],
+        place: usize,
+        state: usize,
+        party: usize,
+        start: usize,
+        end: usize,
+    )
+        ensures value { draft_in self.new ≡ draft.head text.now place state party start end (draft_in self.old) }
+        ensures same_lists { SameLists self.old self.new }
+    {
+        let name = NameAt::of(text, start, end);
+        self.enter_head(&name, place, state, party);
+        items::set(self.notes, VALUE, 0);
+        items::set(self.notes, PARAMETER, 0);
+    }
 }
 
 // Where the rest of a function's row starts: after its state and its party.
@@ -906,25 +900,28 @@ pub struct Rest {
     pub events: usize,
 }
 
-// Kept: (a) as `declare`.
-pub fn function_rest(table: &mut [u64], notes: &[u64], i: usize, rest: Rest)
-    ensures { table.exit.now ≡ (draft.function_rest i rest.last rest.first rest.precondition rest.body rest.event rest.events (record { table = table.entry.now; notes = notes.now })).table }
-{
-    if i < Contract::FUNCTIONS {
-        let at = contract::FUNCTIONS + Function::WORDS * i + FUNCTION_REST;
-        let values = contract::word(notes, VALUE);
-        let parameters = contract::word(notes, PARAMETER);
-        let row = [
-            rest.last as u64,
-            values,
-            parameters,
-            rest.first as u64,
-            rest.precondition as u64,
-            rest.body as u64,
-            rest.event as u64,
-            rest.events as u64,
-        ];
-        items::store_all(table, at, &row);
+impl Lent<'_> {
+    // The rest of function i's row.
+    pub fn function_rest(&mut self, i: usize, rest: Rest)
+        ensures value { draft_in self.new ≡ draft.function_rest i rest.last rest.first rest.precondition rest.body rest.event rest.events (draft_in self.old) }
+        ensures same_lists { SameLists self.old self.new }
+    {
+        if i < Contract::FUNCTIONS {
+            let at = contract::FUNCTIONS + Function::WORDS * i + FUNCTION_REST;
+            let values = self.note(VALUE);
+            let parameters = self.note(PARAMETER);
+            let row = [
+                rest.last as u64,
+                values,
+                parameters,
+                rest.first as u64,
+                rest.precondition as u64,
+                rest.body as u64,
+                rest.event as u64,
+                rest.events as u64,
+            ];
+            items::store_all(self.table, at, &row);
+        }
     }
 }
 
@@ -947,24 +944,26 @@ pub fn title(text: &[u8], table: &mut [u64], start: usize, end: usize)
     write_row(table, contract::NAME, tokens::between(text, start, end));
 }
 
-// How many there are of each, and the initial state.
-// Kept: (a) as `declare`.
-pub fn write_counts(table: &mut [u64], notes: &[u64], initial: usize)
-    ensures { table.new ≡ draft.counts initial notes.now table.old }
-{
-    let counts = [
-        contract::word(notes, PARTY),
-        contract::word(notes, ASSET),
-        contract::word(notes, FIELD),
-        contract::word(notes, STATE),
-        contract::word(notes, STRING),
-        contract::word(notes, CLAUSES),
-        contract::word(notes, FUNCTIONS),
-        contract::word(notes, EVENT),
-        contract::word(notes, WRITTEN),
-        initial as u64,
-    ];
-    items::store_all(table, 0, &counts);
+impl Lent<'_> {
+    // How many there are of each, and the initial state.
+    pub fn write_counts(&mut self, initial: usize)
+        ensures value { draft_in self.new ≡ draft.with_table (draft_in self.old) (draft.counts initial self.old.notes.now self.old.table.now) }
+        ensures same_lists { SameLists self.old self.new }
+    {
+        let counts = [
+            self.note(PARTY),
+            self.note(ASSET),
+            self.note(FIELD),
+            self.note(STATE),
+            self.note(STRING),
+            self.note(CLAUSES),
+            self.note(FUNCTIONS),
+            self.note(EVENT),
+            self.note(WRITTEN),
+            initial as u64,
+        ];
+        items::store_all(self.table, 0, &counts);
+    }
 }
 
 // How many words are cleared at once.

@@ -15,7 +15,9 @@ use Rattle.cursors.specs.Packed.{kind_in, start_in, end_in, is_stop, cursor_in, 
 use Rattle.expressions.specs.Private.{NotsAre}
 use Rattle.reading_laws.specs.Walk.{Stop}
 use Rattle.cursors.proofs.Packs.{step_in_on, step_in_stop}
-use Rattle.reading_laws.proofs.AgreesWith.{went, leaves_same, is_on, is_stop_lem, goes, handed}
+use Rattle.reading_laws.proofs.AgreesWith.{went, leaves_same, is_on, is_stop_lem, handed}
+use Rattle.reading_laws.proofs.Blocks.{goes_on}
+use Rattle.cursors.proofs.Tested.{as_on}
 use Rattle.expressions.proofs.Ranks.{row_off, row_halt, row_turn, chain_halt, chain_more, chain_done, factor_shut, factor_open, simple_shut, simple_open, primary_halt, primary_done, compare_halt, compare_unfit, compare_stop, compare_done}
 
 module _ (s : List ℕ) where
@@ -80,12 +82,12 @@ module _ (s : List ℕ) where
           (count_is c o n n₁ o_is n-is) (next_is c e d e-is d-is) z)
 
       pub row_turns : (t₃ n₃ : List ℕ) (m : ℕ) → is_stop q ≡ false → m ≡ operator_node k
-          → t₃ ≡ (put m 0 b (draft t₂ n₂)).table → n₃ ≡ (put m 0 b (draft t₂ n₂)).notes
+          → draft t₃ n₃ ≡ put m 0 b (draft t₂ n₂)
           → row_from s r op b (f - 1) (cursor_in s q) (draft t₃ n₃) ≡ row_from s r op b f (cursor_in s c) (draft t n)
-      row_turns t₃ n₃ m g m-is t-is u-is =
+      row_turns t₃ n₃ m g m-is put-is =
           row_turn s r op b f (cursor_in s c) t n n₁ (cursor_in s d) (cursor_in s q) t₂ n₂ t₃ n₃ m more (one_is (operators r) c k true k-is is)
           (count_is c o n n₁ o_is n-is) (next_is c e d e-is d-is) (went_on (op (cursor_in s d) (draft t n₁)) q t₂ n₂ l g)
-          (node_is c k m k-is m-is) t-is u-is
+          (node_is c k m k-is m-is) put-is
 
   module _ (r : ℕ) (op : Cursor → Draft → Walk) (c : Cursor) (p : Draft) (q : ℕ) (t n : List ℕ) (l : AgreesWith (op c p) (step_in s q) t n) where
     pub chain_stops : (x y : List ℕ) → is_stop q ≡ true → AgreesWith (chain s r op c p) (step_in s q) x y
@@ -144,16 +146,15 @@ module _ (s : List ℕ) where
         -- true or false, at o, and the cursor after it
         word_leaves : (w : Walk) (m : ℕ) (t n x y : List ℕ) (o e a : ℕ)
             → w ≡ on (next_of s (cursor_in s c)) (put_leaf m 0 (cursor_in s c).start (draft t n)) → o ≡ start_in c
-            → x ≡ (put_leaf m 0 o (draft t n)).table → y ≡ (put_leaf m 0 o (draft t n)).notes → e ≡ end_in c → cursor_in s a ≡ cursor_at s e
+            → draft x y ≡ put_leaf m 0 o (draft t n) → e ≡ end_in c → cursor_in s a ≡ cursor_at s e
             → is_stop a ≡ false → AgreesWith w (step_in s a) x y
-        word_leaves w m t n x y o e a w-is o_is x-is y-is e-is a-is g =
-            goes w (step_in s a) (next_of s (cursor_in s c)) (cursor_in s a) (put_leaf m 0 (cursor_in s c).start (draft t n)) x y w-is (step_in_on s a g)
-            (next_is c e a e-is a-is)
-            (x-is ∙ ap (λ (j : ℕ). (put_leaf m 0 j (draft t n)).table) (start_is c o o_is))
-            (y-is ∙ ap (λ (j : ℕ). (put_leaf m 0 j (draft t n)).notes) (start_is c o o_is))
+        word_leaves w m t n x y o e a w-is o_is put-is e-is a-is g =
+            as_on s w a x y g
+            (goes_on w (next_of s (cursor_in s c)) (cursor_in s a) (put_leaf m 0 (cursor_in s c).start (draft t n)) x y w-is (next_is c e a e-is a-is)
+            (put-is ∙ ap (λ (j : ℕ). put_leaf m 0 j (draft t n)) (start_is c o o_is)))
 
         pub simple_true : (t n x y : List ℕ) (o e a : ℕ) → k ≡ 5 → o ≡ start_in c
-            → x ≡ (put_leaf 12 0 o (draft t n)).table → y ≡ (put_leaf 12 0 o (draft t n)).notes → e ≡ end_in c → cursor_in s a ≡ cursor_at s e
+            → draft x y ≡ put_leaf 12 0 o (draft t n) → e ≡ end_in c → cursor_in s a ≡ cursor_at s e
             → is_stop a ≡ false → AgreesWith (simple s h lv inside (cursor_in s c) (draft t n)) (step_in s a) x y
         unfolding simple
         simple_true t n x y o e a is =
@@ -161,7 +162,7 @@ module _ (s : List ℕ) where
             (pick_false _ _ _ (ne_eqb _ _ (kind_not 20 open-not)) ∙ pick_true _ _ _ (eq-eqb _ _ (kind_yes 5 is)))
 
         pub simple_false : (t n x y : List ℕ) (o e a : ℕ) → (k ≡ 5 → ⊥) → k ≡ 6 → o ≡ start_in c
-            → x ≡ (put_leaf 13 0 o (draft t n)).table → y ≡ (put_leaf 13 0 o (draft t n)).notes → e ≡ end_in c → cursor_in s a ≡ cursor_at s e
+            → draft x y ≡ put_leaf 13 0 o (draft t n) → e ≡ end_in c → cursor_in s a ≡ cursor_at s e
             → is_stop a ≡ false → AgreesWith (simple s h lv inside (cursor_in s c) (draft t n)) (step_in s a) x y
         unfolding simple
         simple_false t n x y o e a not is =
@@ -184,12 +185,12 @@ module _ (s : List ℕ) where
           hands (simple s h lv inside (cursor_in s r.next) (draft t n₁)) (primary s h lv inside c (draft t n)) q t₂ n₂ x y l e
           (λ i j z. primary_halt s h lv inside c t n n₁ r are i j z)
 
-      pub primary_ends : (b : ℕ) (t₃ n₃ : List ℕ) → is_stop q ≡ false → b ≡ note n 14 → t₃ ≡ (negations r.many b (draft t₂ n₂)).table
-          → n₃ ≡ (negations r.many b (draft t₂ n₂)).notes → AgreesWith (primary s h lv inside c (draft t n)) (step_in s q) t₃ n₃
-      primary_ends b t₃ n₃ g b-is t-is n-is =
+      pub primary_ends : (b : ℕ) (t₃ n₃ : List ℕ) → is_stop q ≡ false → b ≡ note n 14 → draft t₃ n₃ ≡ negations r.many b (draft t₂ n₂)
+          → AgreesWith (primary s h lv inside c (draft t n)) (step_in s q) t₃ n₃
+      primary_ends b t₃ n₃ g b-is nots-is =
           ends_on (primary s h lv inside c (draft t n)) q t₃ n₃
           (primary_done s h lv inside c t n n₁ r are (cursor_in s q) t₂ n₂ b t₃ n₃
-          (went_on (simple s h lv inside (cursor_in s r.next) (draft t n₁)) q t₂ n₂ l g) b-is t-is n-is) g
+          (went_on (simple s h lv inside (cursor_in s r.next) (draft t n₁)) q t₂ n₂ l g) b-is nots-is) g
 
     module _ (lv : ℕ) (c : Cursor) (p : Draft) (q : ℕ) (t n : List ℕ) (l : AgreesWith (expression s h lv c p) (step_in s q) t n) where
       pub compare_stops : (x y : List ℕ) → is_stop q ≡ true → AgreesWith (comparison s h lv c p) (step_in s q) x y
@@ -214,9 +215,9 @@ module _ (s : List ℕ) where
               (count_is q o n n₁ o_is n-is) (cursor_in s d) (next_is q e d e-is d-is) i j v)
 
           pub compare_ends : (a b : ℕ) (t₃ n₃ : List ℕ) → is_stop u ≡ false → a ≡ operator_node k → b ≡ note p.notes 14
-              → t₃ ≡ (put a 0 b (draft t₂ n₂)).table → n₃ ≡ (put a 0 b (draft t₂ n₂)).notes → AgreesWith (comparison s h lv c p) (step_in s u) t₃ n₃
-          compare_ends a b t₃ n₃ z a-is b-is t-is m-is =
+              → draft t₃ n₃ ≡ put a 0 b (draft t₂ n₂) → AgreesWith (comparison s h lv c p) (step_in s u) t₃ n₃
+          compare_ends a b t₃ n₃ z a-is b-is put-is =
               ends_on (comparison s h lv c p) u t₃ n₃
               (compare_done s h lv c p (cursor_in s q) t n (went_on (expression s h lv c p) q t n l g) (one_is comparisons q k true k-is is) n₁
               (count_is q o n n₁ o_is n-is) (cursor_in s d) (next_is q e d e-is d-is) (cursor_in s u) t₂ n₂ a b t₃ n₃
-              (went_on (expression s h lv (cursor_in s d) (draft t n₁)) u t₂ n₂ m z) (node_is q k a k-is a-is) b-is t-is m-is) z
+              (went_on (expression s h lv (cursor_in s d) (draft t n₁)) u t₂ n₂ m z) (node_is q k a k-is a-is) b-is put-is) z

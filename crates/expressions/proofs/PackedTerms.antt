@@ -15,8 +15,9 @@ use Rattle.entries.specs.declared.Known.{Known}
 use Rattle.entries.specs.Draft.{note, counted, mention, number_in, name_in, put, put_name, put_leaf}
 use Rattle.reading_laws.specs.Walk.{AgreesWith, draft, cursor_at, unfit_at, string_leaf, leaf}
 use Rattle.cursors.specs.Packed.{kind_in, start_in, end_in, is_stop, digits_at, cursor_in, step_in}
-use Rattle.cursors.proofs.Packs.{step_in_on}
-use Rattle.reading_laws.proofs.AgreesWith.{goes, is_stop_lem}
+use Rattle.cursors.proofs.Tested.{as_on}
+use Rattle.reading_laws.proofs.AgreesWith.{is_stop_lem}
+use Rattle.reading_laws.proofs.Blocks.{goes_on}
 use Rattle.reading_laws.proofs.Operators.{inner, stringed, NotsLeft, nots_turn}
 
 -- ---- strings
@@ -27,19 +28,17 @@ Inside a₀ e₀ a e = ((a₀ < e₀) × (a ≡ a₀ + 1) × (e ≡ e₀ - 1)) �
 
 pub string_written : (s : List ℕ) (c : ℕ) (t n : List ℕ) (a₀ e₀ o a e : ℕ) → a₀ ≡ start_in c → e₀ ≡ end_in c → o ≡ start_in c → Inside a₀ e₀ a e
     → (n1 : List ℕ) → n1 ≡ counted 9 o n
-    → (x : ℕ) (t2 n2 : List ℕ) → x ≡ number_in s n1 6 (between s a e) → t2 ≡ (mention s 6 a e o (draft t n1)).table → n2 ≡ (mention s 6 a e o (draft t n1)).notes
+    → (x : ℕ) (t2 n2 : List ℕ) → x ≡ number_in s n1 6 (between s a e) → draft t2 n2 ≡ mention s 6 a e o (draft t n1)
     → (b : ℕ) → b ≡ note n2 14
-    → (t3 n3 : List ℕ) → t3 ≡ (put stringNode x b (draft t2 n2)).table → n3 ≡ (put stringNode x b (draft t2 n2)).notes
-    → (t3 ≡ (string_leaf s (cursor_in s c) (draft t n)).table) × (n3 ≡ (string_leaf s (cursor_in s c) (draft t n)).notes)
+    → (t3 n3 : List ℕ) → draft t3 n3 ≡ put stringNode x b (draft t2 n2) → draft t3 n3 ≡ string_leaf s (cursor_in s c) (draft t n)
 unfolding cursor_in
-string_written s c t n a₀ e₀ o a e a-is e-is o_is way n1 h1 x t2 n2 hx ht2 hn2 b hb t3 n3 ht3 hn3 =
+string_written s c t n a₀ e₀ o a e a-is e-is o_is way n1 h1 x t2 n2 hx h2 b hb t3 n3 h3 =
     let way₁ : Inside (start_in c) (end_in c) a e = subst (λ (z : ℕ). Inside z (end_in c) a e) a-is (subst (λ (z : ℕ). Inside a₀ z a e) e-is way) in
     stringed s (cursor_in s c) t n a e (inner s (cursor_in s c) a e way₁)
     n1 (h1 ∙ ap (λ (z : ℕ). counted 9 z n) o_is)
     x t2 n2 hx
-    (ht2 ∙ ap (λ (z : ℕ). (mention s 6 a e z (draft t n1)).table) o_is)
-    (hn2 ∙ ap (λ (z : ℕ). (mention s 6 a e z (draft t n1)).notes) o_is)
-    b hb t3 n3 ht3 hn3
+    (h2 ∙ ap (λ (z : ℕ). mention s 6 a e z (draft t n1)) o_is)
+    b hb t3 n3 h3
 
 -- ---- leaves
 
@@ -63,40 +62,42 @@ module _ (s : List ℕ) (h : Bool) (c k : ℕ) (t n : List ℕ) (k-is : k ≡ ki
     after_it = next ∙ ap (cursor_at s) e-is
 
     pub leaf_name : (a b o : ℕ) (x : Known) → k ≡ nameKind → a ≡ start_in c → b ≡ end_in c → o ≡ start_in c → x ≡ name_in s n h (between s a b)
-        → t' ≡ (put_name x o (draft t n)).table → n' ≡ (put_name x o (draft t n)).notes → AgreesWith (leaf s h (cursor_in s c) (draft t n)) (step_in s d) t' n'
+        → draft t' n' ≡ put_name x o (draft t n) → AgreesWith (leaf s h (cursor_in s c) (draft t n)) (step_in s d) t' n'
     unfolding leaf cursor_in
-    leaf_name a b o x f a-is b-is o_is hx ht hn =
+    leaf_name a b o x f a-is b-is o_is hx g =
         let y : x ≡ name_in s n h (between s (start_in c) (end_in c)) = hx ∙ (λ i. name_in s n h (between s (a-is i) (b-is i))) in
-        goes _ (step_in s d) _ (cursor_in s d) _ t' n' (pick_true _ _ _ (kind_is nameKind f)) (step_in_on s d going) after_it
-        (ht ∙ (λ i. (put_name (y i) (o_is i) (draft t n)).table)) (hn ∙ (λ i. (put_name (y i) (o_is i) (draft t n)).notes))
+        as_on s _ d t' n' going
+        (goes_on _ _ (cursor_in s d) _ t' n' (pick_true _ _ _ (kind_is nameKind f)) after_it (g ∙ (λ i. put_name (y i) (o_is i) (draft t n))))
 
     pub leaf_number : (a v o : ℕ) → (k ≡ nameKind → ⊥) → k ≡ numberKind → a ≡ start_in c → v ≡ digits_at s a → o ≡ start_in c
-        → t' ≡ (put_leaf constant_kind v o (draft t n)).table → n' ≡ (put_leaf constant_kind v o (draft t n)).notes
+        → draft t' n' ≡ put_leaf constant_kind v o (draft t n)
         → AgreesWith (leaf s h (cursor_in s c) (draft t n)) (step_in s d) t' n'
     unfolding leaf cursor_in
-    leaf_number a v o f1 f a-is v-is o_is ht hn =
+    leaf_number a v o f1 f a-is v-is o_is g =
         let y : v ≡ (cursor_in s c).value = v-is ∙ ap (digits_at s) a-is ∙ sym (pick_true _ _ _ (kind_is numberKind f)) in
-        goes _ (step_in s d) _ (cursor_in s d) _ t' n' (pick_false _ _ _ (kind_not nameKind f1) ∙ pick_true _ _ _ (kind_is numberKind f)) (step_in_on s d going) after_it
-        (ht ∙ (λ i. (put_leaf constant_kind (y i) (o_is i) (draft t n)).table)) (hn ∙ (λ i. (put_leaf constant_kind (y i) (o_is i) (draft t n)).notes))
+        as_on s _ d t' n' going
+        (goes_on _ _ (cursor_in s d) _ t' n' (pick_false _ _ _ (kind_not nameKind f1) ∙ pick_true _ _ _ (kind_is numberKind f)) after_it
+        (g ∙ (λ i. put_leaf constant_kind (y i) (o_is i) (draft t n))))
 
     pub leaf_string : (k ≡ nameKind → ⊥) → (k ≡ numberKind → ⊥) → k ≡ string_kind
-        → t' ≡ (string_leaf s (cursor_in s c) (draft t n)).table → n' ≡ (string_leaf s (cursor_in s c) (draft t n)).notes
+        → draft t' n' ≡ string_leaf s (cursor_in s c) (draft t n)
         → AgreesWith (leaf s h (cursor_in s c) (draft t n)) (step_in s d) t' n'
     unfolding leaf cursor_in
-    leaf_string f1 f2 f ht hn =
-        goes _ (step_in s d) _ (cursor_in s d) _ t' n'
+    leaf_string f1 f2 f g =
+        as_on s _ d t' n' going
+        (goes_on _ _ (cursor_in s d) _ t' n'
         (pick_false _ _ _ (kind_not nameKind f1) ∙ pick_false _ _ _ (kind_not numberKind f2) ∙ pick_true _ _ _ (kind_is string_kind f))
-        (step_in_on s d going) after_it ht hn
+        after_it g)
 
     pub leaf_now : (o : ℕ) → (k ≡ nameKind → ⊥) → (k ≡ numberKind → ⊥) → (k ≡ string_kind → ⊥) → k ≡ now_word → o ≡ start_in c
-        → t' ≡ (put_leaf now_kind 0 o (draft t n)).table → n' ≡ (put_leaf now_kind 0 o (draft t n)).notes
+        → draft t' n' ≡ put_leaf now_kind 0 o (draft t n)
         → AgreesWith (leaf s h (cursor_in s c) (draft t n)) (step_in s d) t' n'
     unfolding leaf cursor_in
-    leaf_now o f1 f2 f3 f o_is ht hn =
-        goes _ (step_in s d) _ (cursor_in s d) _ t' n'
+    leaf_now o f1 f2 f3 f o_is g =
+        as_on s _ d t' n' going
+        (goes_on _ _ (cursor_in s d) _ t' n'
         (pick_false _ _ _ (kind_not nameKind f1) ∙ pick_false _ _ _ (kind_not numberKind f2) ∙ pick_false _ _ _ (kind_not string_kind f3) ∙ pick_true _ _ _ (kind_is now_word f))
-        (step_in_on s d going) after_it
-        (ht ∙ (λ i. (put_leaf now_kind 0 (o_is i) (draft t n)).table)) (hn ∙ (λ i. (put_leaf now_kind 0 (o_is i) (draft t n)).notes))
+        after_it (g ∙ (λ i. put_leaf now_kind 0 (o_is i) (draft t n))))
 
 -- ---- `~` in a row
 

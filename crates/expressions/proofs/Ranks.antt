@@ -97,14 +97,14 @@ module _ (s : List ℕ) (r : ℕ) (op : Cursor → Draft → Walk) (b : ℕ) whe
 
   pub row_turn : (f : ℕ) (c : Cursor) (t n n₁ : List ℕ) (d e : Cursor) (t₂ n₂ t₃ n₃ : List ℕ) (k : ℕ) → 0 < f → is_one_of (operators r) c.kind ≡ true
       → n₁ ≡ counted 9 c.start n → d ≡ next_of s c → op d (draft t n₁) ≡ on e (draft t₂ n₂) → k ≡ operator_node c.kind
-      → t₃ ≡ (put k 0 b (draft t₂ n₂)).table → n₃ ≡ (put k 0 b (draft t₂ n₂)).notes
+      → draft t₃ n₃ ≡ put k 0 b (draft t₂ n₂)
       → row_from s r op b (f - 1) e (draft t₃ n₃) ≡ row_from s r op b f c (draft t n)
   unfolding row_from
-  row_turn zero c t n n₁ d e t₂ n₂ t₃ n₃ k h x n-is d-is g k-is t-is m-is = absurd (omega arith)
-  row_turn (suc f) c t n n₁ d e t₂ n₂ t₃ n₃ k h x n-is d-is g k-is t-is m-is =
+  row_turn zero c t n n₁ d e t₂ n₂ t₃ n₃ k h x n-is d-is g k-is put-is = absurd (omega arith)
+  row_turn (suc f) c t n n₁ d e t₂ n₂ t₃ n₃ k h x n-is d-is g k-is put-is =
       let y : op (next_of s c) (counting 9 c.start (draft t n)) ≡ on e (draft t₂ n₂) = (λ i. op (sym d-is i) (draft t (sym n-is i))) ∙ g in
       let z : draft t₃ n₃ ≡ put (operator_node c.kind) 0 b (draft t₂ n₂) =
-      (λ i. record { table = t-is i; notes = m-is i }) ∙ ap (λ (j : ℕ). put j 0 b (draft t₂ n₂)) k-is in
+      put-is ∙ ap (λ (j : ℕ). put j 0 b (draft t₂ n₂)) k-is in
       let f-is : suc f - 1 ≡ f = omega arith in
       (λ i. row_from s r op b (f-is i) e (z i))
       ∙ sym (pick_true _ _ _ x ∙ ap (λ (w : Walk). follow w (λ d q. row_from s r op b f d (put (operator_node c.kind) 0 b q))) y)
@@ -175,11 +175,11 @@ module _ (s : List ℕ) (h : Bool) where
     primary_halt q o e = primary_is ∙ ap (λ (w : Walk). follow w (λ e u. on e (negations r.many (note n 14) u))) e
 
     pub primary_done : (e : Cursor) (t₂ n₂ : List ℕ) (b : ℕ) (t₃ n₃ : List ℕ) → simple s h lv inside (cursor_in s r.next) (draft t n₁) ≡ on e (draft t₂ n₂)
-        → b ≡ note n 14 → t₃ ≡ (negations r.many b (draft t₂ n₂)).table → n₃ ≡ (negations r.many b (draft t₂ n₂)).notes
+        → b ≡ note n 14 → draft t₃ n₃ ≡ negations r.many b (draft t₂ n₂)
         → primary s h lv inside c (draft t n) ≡ on e (draft t₃ n₃)
-    primary_done e t₂ n₂ b t₃ n₃ g b-is t-is m-is =
+    primary_done e t₂ n₂ b t₃ n₃ g b-is nots-is =
         let z : draft t₃ n₃ ≡ negations r.many (note n 14) (draft t₂ n₂) =
-        (λ i. record { table = t-is i; notes = m-is i }) ∙ ap (λ (x : ℕ). negations r.many x (draft t₂ n₂)) b-is in
+        nots-is ∙ ap (λ (x : ℕ). negations r.many x (draft t₂ n₂)) b-is in
         primary_is ∙ ap (λ (w : Walk). follow w (λ e u. on e (negations r.many (note n 14) u))) g ∙ sym (ap (on e) z)
 
   module _ (lv : ℕ) (c : Cursor) (p : Draft) where
@@ -200,12 +200,12 @@ module _ (s : List ℕ) (h : Bool) where
             rw (first, is, k)
 
         pub compare_done : (e : Cursor) (t₂ n₂ : List ℕ) (k b : ℕ) (t₃ n₃ : List ℕ) → expression s h lv d₁ (draft t n₁) ≡ on e (draft t₂ n₂)
-            → k ≡ operator_node d.kind → b ≡ nodes p → t₃ ≡ (put k 0 b (draft t₂ n₂)).table → n₃ ≡ (put k 0 b (draft t₂ n₂)).notes
+            → k ≡ operator_node d.kind → b ≡ nodes p → draft t₃ n₃ ≡ put k 0 b (draft t₂ n₂)
             → comparison s h lv c p ≡ on e (draft t₃ n₃)
         unfolding comparison pick
-        compare_done e t₂ n₂ k b t₃ n₃ g k-is b-is t-is m-is =
+        compare_done e t₂ n₂ k b t₃ n₃ g k-is b-is put-is =
             let y : expression s h lv (next_of s d) (counting 9 d.start (draft t n)) ≡ on e (draft t₂ n₂) = (λ i. expression s h lv (sym d-is i) (draft t (sym n-is i))) ∙ g in
             let z : draft t₃ n₃ ≡ put (operator_node d.kind) 0 (nodes p) (draft t₂ n₂) =
-            (λ i. record { table = t-is i; notes = m-is i }) ∙ (λ i. put (k-is i) 0 (b-is i) (draft t₂ n₂)) in
+            put-is ∙ (λ i. put (k-is i) 0 (b-is i) (draft t₂ n₂)) in
             let all : comparison s h lv c p ≡ on e (put (operator_node d.kind) 0 (nodes p) (draft t₂ n₂)) = rw (first, is, y) in
             all ∙ sym (ap (on e) z)

@@ -35,13 +35,7 @@ impl Scope<'_> {
             if cursors::stops(next) {
                 return next;
             }
-            entries::put(
-                lent.table,
-                lent.notes,
-                terms::operator_node(kind),
-                0,
-                before,
-            );
+            lent.put(terms::operator_node(kind), 0, before);
             here = next;
         }
         here
@@ -185,11 +179,11 @@ impl Scope<'_> {
             return cursors::close(self.text, inner);
         }
         if kind == words::TRUE {
-            entries::put_leaf(lent.table, lent.notes, Node::TRUE, 0, cursors::start_of(c));
+            lent.put_leaf(Node::TRUE, 0, cursors::start_of(c));
             return cursors::lex(self.text, cursors::end_of(c));
         }
         if kind == words::FALSE {
-            entries::put_leaf(lent.table, lent.notes, Node::FALSE, 0, cursors::start_of(c));
+            lent.put_leaf(Node::FALSE, 0, cursors::start_of(c));
             return cursors::lex(self.text, cursors::end_of(c));
         }
         self.comparison(lent, c)
@@ -216,13 +210,7 @@ impl Scope<'_> {
         if cursors::stops(second) {
             return second;
         }
-        entries::put(
-            lent.table,
-            lent.notes,
-            terms::operator_node(kind),
-            0,
-            before,
-        );
+        lent.put(terms::operator_node(kind), 0, before);
         second
     }
 }

@@ -73,7 +73,7 @@ pub(crate) fn negate(lent: &mut Lent, many: usize, before: usize)
     ensures same_lists { SameLists lent.old lent.new }
 {
     for _ in 0..many {
-        entries::put(lent.table, lent.notes, Node::NOT, 0, before);
+        lent.put(Node::NOT, 0, before);
     }
 }
 
@@ -109,17 +109,9 @@ impl Scope<'_> {
         }
         let place = cursors::start_of(c);
         entries::count(lent.notes, entries::NODE, place);
-        let number = entries::mention(
-            self.text,
-            lent.table,
-            lent.notes,
-            entries::STRING,
-            start,
-            end,
-            place,
-        );
+        let number = lent.mention(self.text, entries::STRING, start, end, place);
         let before = lent.nodes();
-        entries::put(lent.table, lent.notes, Node::STRING, number as u64, before);
+        lent.put(Node::STRING, number as u64, before);
     }
 
     // A name, a number, a string or now.
@@ -138,19 +130,15 @@ impl Scope<'_> {
                     cursors::start_of(c),
                     cursors::end_of(c),
                 );
-                entries::put_name(lent.table, notes, name, cursors::start_of(c));
+                lent.put_name(name, cursors::start_of(c));
             }
-            Token::NUMBER => entries::put_leaf(
-                lent.table,
-                lent.notes,
+            Token::NUMBER => lent.put_leaf(
                 Node::CONSTANT,
                 tokens::value_of(self.text, cursors::start_of(c)),
                 cursors::start_of(c),
             ),
             Token::STRING => self.string_leaf(lent, c),
-            words::NOW => {
-                entries::put_leaf(lent.table, lent.notes, Node::NOW, 0, cursors::start_of(c))
-            }
+            words::NOW => lent.put_leaf(Node::NOW, 0, cursors::start_of(c)),
             _ => return cursors::unfit(self.text, c),
         }
         cursors::lex(self.text, cursors::end_of(c))

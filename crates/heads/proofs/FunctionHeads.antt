@@ -1,5 +1,5 @@
 -- Laws of a function's head where a cursor is a number. Assumes nothing.
-use mathlib.Core.Path.{◌≡◌, ap, ◌∙◌}
+use mathlib.Core.Path.{◌≡◌, ◌∙◌}
 use mathlib.Core.List.{List}
 use Prim.Native.Nat.{ℕ}
 use Rattle.tokens.specs.Tokens.{between}
@@ -19,14 +19,7 @@ module _ (s : List ℕ) where
   party_used_lem p a b n m e f h = h ∙ (λ i. party_used s (e i) (f i) n)
 
   module _ (c f a b d state number : ℕ) (t n : List ℕ) (e₁ : a ≡ start_in c) (e₂ : b ≡ start_in f) (e₃ : d ≡ end_in f) where
-    heads_at : head s a state number b d (draft t n) ≡ head s (cursor_in s c).start state number (cursor_in s f).start (cursor_in s f).end (draft t n)
+    pub head_at : (p : Draft) → p ≡ head s a state number b d (draft t n)
+        → p ≡ head s (cursor_in s c).start state number (cursor_in s f).start (cursor_in s f).end (draft t n)
     unfolding cursor_in
-    heads_at = λ i. head s (e₁ i) state number (e₂ i) (e₃ i) (draft t n)
-
-    pub head_table : (u : List ℕ) → u ≡ (head s a state number b d (draft t n)).table
-        → u ≡ (head s (cursor_in s c).start state number (cursor_in s f).start (cursor_in s f).end (draft t n)).table
-    head_table u h = h ∙ ap (λ (p : Draft). p.table) heads_at
-
-    pub head_notes : (u : List ℕ) → u ≡ (head s a state number b d (draft t n)).notes
-        → u ≡ (head s (cursor_in s c).start state number (cursor_in s f).start (cursor_in s f).end (draft t n)).notes
-    head_notes u h = h ∙ ap (λ (p : Draft). p.notes) heads_at
+    head_at p h = h ∙ (λ i. head s (e₁ i) state number (e₂ i) (e₃ i) (draft t n))

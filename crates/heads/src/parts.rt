@@ -100,17 +100,15 @@ impl Functions<'_> {
         if cursors::stops(name) {
             return name;
         }
-        let state = cursors::mention_state(self.text, lent.table, lent.notes, state_name);
+        let state = cursors::mention_state(self.text, lent, state_name);
         let number = entries::use_party(
             self.text,
             lent.notes,
             cursors::start_of(party),
             cursors::end_of(party),
         );
-        entries::head(
+        lent.head(
             self.text,
-            lent.table,
-            lent.notes,
             cursors::start_of(c),
             state,
             number,
@@ -170,7 +168,7 @@ impl Functions<'_> {
         }
         let many = lent.note(Notes::BODY) as usize;
         let events = lent.note(Notes::HERE) as usize;
-        let last = cursors::mention_state(self.text, lent.table, lent.notes, name);
+        let last = cursors::mention_state(self.text, lent, name);
         let rest = Rest {
             last,
             first,
@@ -179,8 +177,7 @@ impl Functions<'_> {
             event,
             events,
         };
-        let notes = &mut *lent.notes;
-        entries::function_rest(lent.table, notes, i, rest);
+        lent.function_rest(i, rest);
         cursors::lex(self.text, cursors::end_of(name))
     }
 

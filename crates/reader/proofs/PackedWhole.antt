@@ -15,9 +15,9 @@ use Rattle.reading_laws.proofs.Enclosing as enclosing
 use Rattle.reading_laws.proofs.Settled.{ends_stop, ends_on}
 
 -- the pass that went on, and settled what the two lists hold
-pub ends_lent : (w : Walk) (r : Step) (d : Cursor) (t n u : List ℕ) (a : Answered) (t₀ n₀ : List ℕ) → AgreesWith w r t n → r ≡ On d
-    → a ≡ settled_answer n₀ → u ≡ settled_table n₀ t₀ → n₀ ≡ n → t₀ ≡ t → Ends w a u
-ends_lent w r d t n u a t₀ n₀ h e j k g f = ends_on w r d t n u a h e (j ∙ ap settled_answer g) (k ∙ (λ i. settled_table (g i) (f i)))
+pub ends_lent : (w : Walk) (r : Step) (d : Cursor) (t n u v : List ℕ) (a : Answered) → AgreesWith w r t n → r ≡ On d → a ≡ settled_answer n
+    → v ≡ settled_table n t → u ≡ v → Ends w a u
+ends_lent w r d t n u v a h e j k g = ends_on w r d t n u a h e j (g ∙ k)
 
 module _ (s : List ℕ) where
   -- legal_contract N {

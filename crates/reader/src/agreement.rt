@@ -38,6 +38,7 @@ fn with(mask: u64, n: usize) -> u64
 }
 
 // A mask with the fields of clause i.
+// Kept: (d) masks by loops, last place first, as the definitions go: a `fold` would carry the same mask through a closure.
 fn with_fields(table: &[u64], i: usize, start: u64) -> u64
     ensures { result ≡ with_all start (row_of table.now i).fields }
 {

@@ -113,7 +113,7 @@ impl Pass<'_> {
         if cursors::stops(name) {
             return name;
         }
-        let state = cursors::mention_state(self.text, lent.table, lent.notes, name);
+        let state = cursors::mention_state(self.text, lent, name);
         items::set(lent.table, TableHead::INITIAL, state as u64);
         cursors::lex(self.text, cursors::end_of(name))
     }
@@ -207,17 +207,19 @@ impl Pass<'_> {
 
 // The least finding, or accepted, and then the table's head.
 // Kept: (a) the finding stands in the lent notes as a number, 0 for none (`entries::find`).
-fn settle(table: &mut [u64], notes: &[u64]) -> Result<(), Refusal>
-    ensures value { result ≡ walk.settled_answer notes.now }
-    ensures table_after { table.new ≡ walk.settled_table notes.now table.old }
+fn settle(lent: &mut Lent) -> Result<(), Refusal>
+    ensures value { result ≡ walk.settled_answer lent.old.notes.now }
+    ensures table_after { lent.new.table.now ≡ walk.settled_table lent.old.notes.now lent.old.table.now }
+    ensures same_lists { SameLists lent.old lent.new }
 {
-    let question = contract::word(notes, entries::QUESTION);
+    let question = lent.note(entries::QUESTION);
     if question != 0 {
-        let place = contract::word(notes, entries::PLACE) as usize;
+        let place = lent.note(entries::PLACE) as usize;
         return Err(Refusal::by_number((question % 256) as u8, place));
     }
+    let table = &mut *lent.table;
     let initial = contract::word(table, TableHead::INITIAL) as usize;
-    entries::write_counts(table, notes, initial);
+    lent.write_counts(initial);
     Ok(())
 }
 
@@ -235,7 +237,7 @@ fn pass_over(text: &[u8], table: &mut [u64]) -> Result<(), Refusal>
     if cursors::stops(r) {
         return Err(Refusal::by_number(cursors::kind_of(r), cursors::start_of(r)));
     }
-    settle(table, &notes)
+    settle(&mut lent)
 }
 
 // Reads a contract's text into a lent table; a refused one leaves zeros.

@@ -22,10 +22,6 @@ use Rattle.reading_laws.specs.Walk.{Step}
 use Rattle.reading_laws.specs.Walk.{On, Stop}
 use Rattle.reading_laws.proofs.AgreesWith.{went, halted, leaves_same, is_on, is_stop_lem, follow_on, follow_stop, after_on, after_stop, steps_on}
 
--- a pass by its two lists
-pub both : (t n : List ℕ) (p : Draft) → t ≡ p.table → n ≡ p.notes → draft t n ≡ p
-both t n p a b = λ i. record { table = a i; notes = b i }
-
 -- what goes on by the same pass
 pub goes_on : (w : Walk) (c d : Cursor) (p : Draft) (t n : List ℕ) → w ≡ on c p → d ≡ c → draft t n ≡ p → AgreesWith w (On d) t n
 goes_on w c d p t n e f g = is_on w (On d) t n d (e ∙ (λ i. on (sym f i) (sym g i))) refl
@@ -77,19 +73,17 @@ module _ (s : List ℕ) where
       → c.kind ≡ nameKind
       → n₁ ≡ counted 8 first.start n
       → x ≡ value_target s n₁ (between s c.start c.end)
-      → t₂ ≡ (put_name x c.start (draft t n₁)).table
-      → n₂ ≡ (put_name x c.start (draft t n₁)).notes
-      → t₃ ≡ (put value_move_kind 0 from (draft t₂ n₂)).table
-      → n₃ ≡ (put value_move_kind 0 from (draft t₂ n₂)).notes
+      → draft t₂ n₂ ≡ put_name x c.start (draft t n₁)
+      → draft t₃ n₃ ≡ put value_move_kind 0 from (draft t₂ n₂)
       → d ≡ cursor_at s c.end
       → AgreesWith (sends s first from c (draft t n)) (On d) t₃ n₃
   unfolding sends
-  sends_on first c from t n n₁ x t₂ n₂ t₃ n₃ d h h₁ hx a₂ b₂ a₃ b₃ e =
+  sends_on first c from t n n₁ x t₂ n₂ t₃ n₃ d h h₁ hx a₂ a₃ e =
       let w = between s c.start c.end in
       let y : x ≡ value_target s (counted 8 first.start n) w = hx ∙ ap (λ (l : List ℕ). value_target s l w) h₁ in
       let g :
       draft t₃ n₃ ≡ put value_move_kind 0 from (put_name (value_target s (counted 8 first.start n) w) c.start (draft t (counted 8 first.start n))) =
-      both t₃ n₃ _ a₃ b₃ ∙ ap (put value_move_kind 0 from) (both t₂ n₂ _ a₂ b₂ ∙ (λ i. put_name (y i) c.start (draft t (h₁ i)))) in
+      a₃ ∙ ap (put value_move_kind 0 from) (a₂ ∙ (λ i. put_name (y i) c.start (draft t (h₁ i)))) in
       goes_on _ _ d _ t₃ n₃ (pick_true _ _ _ (eq-eqb c.kind nameKind h)) e g
 
   -- ---- E -o h, t
@@ -107,25 +101,22 @@ module _ (s : List ℕ) where
       → c.kind ≡ nameKind
       → n₁ ≡ counted 8 first.start n
       → x ≡ holder_in s n₁ h (between s source.start source.end)
-      → t₂ ≡ (put_name x source.start (draft t n₁)).table
-      → n₂ ≡ (put_name x source.start (draft t n₁)).notes
+      → draft t₂ n₂ ≡ put_name x source.start (draft t n₁)
       → y ≡ asset_target s n₂ h (between s c.start c.end)
-      → t₃ ≡ (put_name y c.start (draft t₂ n₂)).table
-      → n₃ ≡ (put_name y c.start (draft t₂ n₂)).notes
-      → t₄ ≡ (put asset_move_kind 0 from (draft t₃ n₃)).table
-      → n₄ ≡ (put asset_move_kind 0 from (draft t₃ n₃)).notes
+      → draft t₃ n₃ ≡ put_name y c.start (draft t₂ n₂)
+      → draft t₄ n₄ ≡ put asset_move_kind 0 from (draft t₃ n₃)
       → d ≡ cursor_at s c.end
       → AgreesWith (moves s h first from source c (draft t n)) (On d) t₄ n₄
   unfolding moves
-  moves_on h first source c from t n n₁ x t₂ n₂ y t₃ n₃ t₄ n₄ d k h₁ hx a₂ b₂ hy a₃ b₃ a₄ b₄ e =
+  moves_on h first source c from t n n₁ x t₂ n₂ y t₃ n₃ t₄ n₄ d k h₁ hx a₂ hy a₃ a₄ e =
       let w = between s source.start source.end in
       let v = between s c.start c.end in
       let x₁ : x ≡ holder_in s (counted 8 first.start n) h w = hx ∙ ap (λ (l : List ℕ). holder_in s l h w) h₁ in
       let q : draft t₂ n₂ ≡ sourced s h first source (draft t n) =
-      both t₂ n₂ _ a₂ b₂ ∙ (λ i. put_name (x₁ i) source.start (draft t (h₁ i))) in
+      a₂ ∙ (λ i. put_name (x₁ i) source.start (draft t (h₁ i))) in
       let y₁ : y ≡ asset_target s (sourced s h first source (draft t n)).notes h v = hy ∙ ap (λ (p : Draft). asset_target s p.notes h v) q in
       let g : draft t₄ n₄ ≡ put asset_move_kind 0 from (targeted s h c (sourced s h first source (draft t n))) =
-      both t₄ n₄ _ a₄ b₄ ∙ ap (put asset_move_kind 0 from) (both t₃ n₃ _ a₃ b₃ ∙ (λ i. put_name (y₁ i) c.start (q i))) in
+      a₄ ∙ ap (put asset_move_kind 0 from) (a₃ ∙ (λ i. put_name (y₁ i) c.start (q i))) in
       goes_on _ _ d _ t₄ n₄ (pick_true _ _ _ (eq-eqb c.kind nameKind k)) e g
 
   -- ---- h -o t
@@ -139,13 +130,11 @@ module _ (s : List ℕ) where
       → y ≡ asset_target s n₂ h (between s c.start c.end)
       → n₃ ≡ wanted x first.start n₂
       → n₄ ≡ wanted y c.start n₃
-      → t₅ ≡ (put y.kind y.number b (draft t n₄)).table
-      → n₅ ≡ (put y.kind y.number b (draft t n₄)).notes
-      → t₆ ≡ (put whole_move_kind 0 from (draft t₅ n₅)).table
-      → n₆ ≡ (put whole_move_kind 0 from (draft t₅ n₅)).notes
-      → (t₆ ≡ (moves_all s h first from c (draft t n)).table) × (n₆ ≡ (moves_all s h first from c (draft t n)).notes)
+      → draft t₅ n₅ ≡ put y.kind y.number b (draft t n₄)
+      → draft t₆ n₆ ≡ put whole_move_kind 0 from (draft t₅ n₅)
+      → draft t₆ n₆ ≡ moves_all s h first from c (draft t n)
   unfolding moves_all
-  moved_all h first c from t n b n₁ n₂ x y n₃ n₄ t₅ n₅ t₆ n₆ hb h₁ h₂ hx hy h₃ h₄ a₅ b₅ a₆ b₆ =
+  moved_all h first c from t n b n₁ n₂ x y n₃ n₄ t₅ n₅ t₆ n₆ hb h₁ h₂ hx hy h₃ h₄ a₅ a₆ =
       let w = between s first.start first.end in
       let v = between s c.start c.end in
       let m : n₂ ≡ whole_notes s first c n = h₂ ∙ ap (counted 9 c.start) h₁ in
@@ -154,8 +143,7 @@ module _ (s : List ℕ) where
       let k₃ : n₃ ≡ wanted (holder_in s (whole_notes s first c n) h w) first.start (whole_notes s first c n) =
       h₃ ∙ (λ i. wanted (x₁ i) first.start (m i)) in
       let k₄ = h₄ ∙ (λ i. wanted (y₁ i) c.start (k₃ i)) in
-      let g = both t₆ n₆ _ a₆ b₆ ∙ ap (put whole_move_kind 0 from) (both t₅ n₅ _ a₅ b₅ ∙ (λ i. put (y₁ i).kind (y₁ i).number (hb i) (draft t (k₄ i)))) in
-      (ap (λ (p : Draft). p.table) g, ap (λ (p : Draft). p.notes) g)
+      a₆ ∙ ap (put whole_move_kind 0 from) (a₅ ∙ (λ i. put (y₁ i).kind (y₁ i).number (hb i) (draft t (k₄ i))))
 
   -- ---- after `-o`
 
@@ -186,8 +174,8 @@ module _ (s : List ℕ) where
           ∙ pick_false _ _ _ (ne_eqb (next_of s c).kind comma (λ z. l (ap (λ (y : Cursor). y.kind) e ∙ z)))
 
       pub asset_all : (t n : List ℕ) → (d.kind ≡ comma → ⊥) → alone ≡ true
-          → t ≡ (moves_all s h first from c p).table → n ≡ (moves_all s h first from c p).notes → AgreesWith (asset_move s h first from alone c p) (On d) t n
-      asset_all t n l o a b = goes_on _ _ d _ t n (asset_last l ∙ pick_true _ _ _ o) e (both t n _ a b)
+          → draft t n ≡ moves_all s h first from c p → AgreesWith (asset_move s h first from alone c p) (On d) t n
+      asset_all t n l o a = goes_on _ _ d _ t n (asset_last l ∙ pick_true _ _ _ o) e a
 
       pub asset_none : (r : Step) (t n : List ℕ) → (d.kind ≡ comma → ⊥) → alone ≡ false → r ≡ Stop d.question d.start
           → AgreesWith (asset_move s h first from alone c p) r t n
@@ -398,10 +386,10 @@ module _ (s : List ℕ) where
             j
 
         pub conditional_on : (i : Cursor) (before block : ℕ) (t₅ n₅ : List ℕ) → v ≡ On i → before ≡ note n₃ 14 → block ≡ note n₄ 14 - before
-            → t₅ ≡ (put conditional_kind block from (draft t₄ n₄)).table → n₅ ≡ (put conditional_kind block from (draft t₄ n₄)).notes
+            → draft t₅ n₅ ≡ put conditional_kind block from (draft t₄ n₄)
             → AgreesWith (conditional s h l from c (draft t₀ n₀)) (On i) t₅ n₅
-        conditional_on i before block t₅ n₅ j k₁ k₂ k₃ k₄ =
+        conditional_on i before block t₅ n₅ j k₁ k₂ k₃ =
             goes_on _ i i _ t₅ n₅
             (blocks ∙ follow_on _ i (draft t₄ n₄) (λ g t. on g (put conditional_kind (nodes t - nodes (draft t₃ n₃)) from t)) (went _ v t₄ n₄ i u j))
             refl
-            (both t₅ n₅ _ k₃ k₄ ∙ ap (λ (m : ℕ). put conditional_kind m from (draft t₄ n₄)) (k₂ ∙ ap (λ (m : ℕ). note n₄ 14 - m) k₁))
+            (k₃ ∙ ap (λ (m : ℕ). put conditional_kind m from (draft t₄ n₄)) (k₂ ∙ ap (λ (m : ℕ). note n₄ 14 - m) k₁))

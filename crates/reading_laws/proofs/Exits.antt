@@ -5,10 +5,10 @@ use mathlib.Core.List.{List, []}
 use Prim.Native.Nat.{ℕ, zero, suc, ◌+◌, ◌-◌, ◌<◌, ◌≤◌}
 use native.Mathlib.Omega.{arith}
 use lib.ListN.{length, set}
-use lib.Dec.{eqb, ltb}
+use lib.Dec.{eqb}
 use borrow.Author.Tests.{eq-eqb, ne_eqb, lt-ltb, le-ltb}
 use Rattle.laws.specs.Choice.{pick}
-use Rattle.laws.proofs.Choice.{pick_true, pick_false, by_cases}
+use Rattle.laws.proofs.Choice.{pick_true, pick_false}
 use Rattle.words.specs.Words.{state_arrow, event_mark, open_paren, close_paren, open_brace, close_brace, open_bracket, close_bracket, colon, at_sign}
 use Rattle.tokens.specs.Tokens.{between}
 use Rattle.contract.specs.Table.{event_kind}
@@ -20,7 +20,7 @@ use Rattle.reading_laws.specs.Walk.{Cursor}
 use Rattle.reading_laws.specs.Walk.{Step}
 use Rattle.reading_laws.specs.Walk.{On, Stop}
 use Rattle.reading_laws.proofs.AgreesWith.{went, halted, leaves_same, is_on, is_stop_lem, follow_on, follow_stop, after_on, after_stop, steps_on}
-use Rattle.reading_laws.proofs.Blocks.{both, goes_on, closed_by_lem}
+use Rattle.reading_laws.proofs.Blocks.{goes_on, closed_by_lem}
 
 -- ---- numbers of a body
 
@@ -36,12 +36,6 @@ no_more n w e h = sym (pick_false _ _ _ (le-ltb (note n 605) 4096 (subst (λ (k 
 more_same : (s n : List ℕ) → one_more_event [] n ≡ one_more_event s n
 unfolding one_more_event
 more_same s n = refl
-
--- a function's row leaves the notes
-rest_notes : (i last first before many event events : ℕ) (p : Draft) → (function_rest i last first before many event events p).notes ≡ p.notes
-unfolding function_rest
-rest_notes i last first before many event events p =
-    by_cases (λ (q : Draft). q.notes ≡ p.notes) (ltb i 64) _ p (λ _. refl) (λ _. refl)
 
 module _ (s : List ℕ) where
   -- ---- => @Q'
@@ -67,22 +61,19 @@ module _ (s : List ℕ) where
           → b ≡ On l
           → handler ≡ note n₀ 14 - from
           → last ≡ state_number s l (draft t₀ n₀)
-          → t₁ ≡ (stated s l (draft t₀ n₀)).table
-          → n₁ ≡ (stated s l (draft t₀ n₀)).notes
+          → draft t₁ n₁ ≡ stated s l (draft t₀ n₀)
           → node ≡ note n₁ 14
-          → t₂ ≡ (put event_kind handler before (draft t₁ n₁)).table
-          → n₂ ≡ (put event_kind handler before (draft t₁ n₁)).notes
+          → draft t₂ n₂ ≡ put event_kind handler before (draft t₁ n₁)
           → t₃ ≡ event_row i state last node t₂
           → f ≡ cursor_at s l.end
           → AgreesWith (event_end s i state before from c (draft t₀ n₀)) (On f) t₃ n₂
-      event_end_on l handler last t₁ n₁ node t₂ n₂ t₃ f y h₁ h₂ a₁ b₁ h₃ a₂ b₂ h₄ z =
-          let p : draft t₁ n₁ ≡ stated s l (draft t₀ n₀) = both t₁ n₁ _ a₁ b₁ in
+      event_end_on l handler last t₁ n₁ node t₂ n₂ t₃ f y h₁ h₂ p h₃ a₂ h₄ z =
           let q : draft t₂ n₂ ≡ put event_kind (note n₀ 14 - from) before (stated s l (draft t₀ n₀)) =
-          both t₂ n₂ _ a₂ b₂ ∙ (λ i. put event_kind (h₁ i) before (p i)) in
+          a₂ ∙ (λ i. put event_kind (h₁ i) before (p i)) in
           let m : node ≡ nodes (stated s l (draft t₀ n₀)) = h₃ ∙ ap nodes p in
           let r : t₃ ≡ event_row i state (state_number s l (draft t₀ n₀)) (nodes (stated s l (draft t₀ n₀))) (put event_kind (note n₀ 14 - from) before (stated s l (draft t₀ n₀))).table =
           h₄ ∙ (λ j. event_row i state (h₂ j) (m j) (q j).table) in
-          goes_on _ _ f _ t₃ n₂ (at_state ∙ after_on _ l last_of (sym k ∙ y)) z (both t₃ n₂ _ r (ap (λ (p : Draft). p.notes) q))
+          goes_on _ _ f _ t₃ n₂ (at_state ∙ after_on _ l last_of (sym k ∙ y)) z (λ j. record { table = r j; notes = (q j).notes })
 
   -- ---- >> @Q { S } => @Q'
 
@@ -105,13 +96,13 @@ module _ (s : List ℕ) where
       event_stops t n q o f = is_stop_lem _ b t n q o (at_handler ∙ after_stop _ q o handled (sym k ∙ f)) f
 
       module _ (q : Cursor) (y : b ≡ On q) (i from : ℕ) (h₁ : i ≡ note n₀ 7) (h₂ : from ≡ note n₀ 14) (n₁ : List ℕ) (h₃ : n₁ ≡ counted 7 place n₀)
-          (state : ℕ) (t₂ n₂ : List ℕ) (h₄ : state ≡ state_number s q (draft t₀ n₁)) (a₂ : t₂ ≡ (stated s q (draft t₀ n₁)).table) (b₂ : n₂ ≡ (stated s q (draft t₀ n₁)).notes)
+          (state : ℕ) (t₂ n₂ : List ℕ) (h₄ : state ≡ state_number s q (draft t₀ n₁)) (a₂ : draft t₂ n₂ ≡ stated s q (draft t₀ n₁))
           (n₃ : List ℕ) (h₅ : n₃ ≡ set n₂ 8 0) (f : Cursor) (z : f ≡ cursor_at s q.end)
           (r : Step) (t₄ n₄ : List ℕ) (u : AgreesWith (braces s true 16 (conditional s true 16) f (draft t₂ n₃)) r t₄ n₄) where
         in_handler : event s place before c (draft t₀ n₀)
             ≡ follow (braces s true 16 (conditional s true 16) f (draft t₂ n₃)) (event_end s i state before from)
         in_handler =
-            let p : draft t₂ n₂ ≡ stated s q (counting 7 place (draft t₀ n₀)) = both t₂ n₂ _ a₂ b₂ ∙ (λ j. stated s q (draft t₀ (h₃ j))) in
+            let p : draft t₂ n₂ ≡ stated s q (counting 7 place (draft t₀ n₀)) = a₂ ∙ (λ j. stated s q (draft t₀ (h₃ j))) in
             let v : draft t₂ n₃ ≡ noting 8 0 (stated s q (counting 7 place (draft t₀ n₀))) =
             (λ j. draft t₂ (h₅ j)) ∙ ap (λ (p : Draft). noting 8 0 p) p in
             let w : state ≡ state_number s q (counting 7 place (draft t₀ n₀)) = h₄ ∙ (λ j. state_number s q (draft t₀ (h₃ j))) in
@@ -369,20 +360,18 @@ module _ (s : List ℕ) where
               (f : Cursor) (state : ℕ) (t₁ n₁ : List ℕ) (number : ℕ) (n₂ t₃ n₃ : List ℕ) (l : Cursor)
               → j ≡ On f
               → state ≡ state_number s q (draft t₀ n₀)
-              → t₁ ≡ (stated s q (draft t₀ n₀)).table
-              → n₁ ≡ (stated s q (draft t₀ n₀)).notes
+              → draft t₁ n₁ ≡ stated s q (draft t₀ n₀)
               → number ≡ number_in s n₁ 0 (between s p.start p.end)
               → n₂ ≡ party_used s p.start p.end n₁
-              → t₃ ≡ (head s c.start state number f.start f.end (draft t₁ n₂)).table
-              → n₃ ≡ (head s c.start state number f.start f.end (draft t₁ n₂)).notes
+              → draft t₃ n₃ ≡ head s c.start state number f.start f.end (draft t₁ n₂)
               → l ≡ cursor_at s f.end
               → AgreesWith (function_head s c (draft t₀ n₀)) (On l) t₃ n₃
-          head_on f state t₁ n₁ number n₂ t₃ n₃ l g₄ k₁ a₁ b₁ k₂ k₃ a₃ b₃ z =
+          head_on f state t₁ n₁ number n₂ t₃ n₃ l g₄ k₁ a₁ k₂ k₃ a₃ z =
               let u : number ≡ number_in s (stated s q (draft t₀ n₀)).notes 0 (between s p.start p.end) =
-              k₂ ∙ ap (λ (m : List ℕ). number_in s m 0 (between s p.start p.end)) b₁ in
-              let v : n₂ ≡ party_used s p.start p.end (stated s q (draft t₀ n₀)).notes = k₃ ∙ ap (party_used s p.start p.end) b₁ in
+              k₂ ∙ ap (λ (d : Draft). number_in s d.notes 0 (between s p.start p.end)) a₁ in
+              let v : n₂ ≡ party_used s p.start p.end (stated s q (draft t₀ n₀)).notes = k₃ ∙ ap (λ (d : Draft). party_used s p.start p.end d.notes) a₁ in
               goes_on _ _ l _ t₃ n₃ (head₃ ∙ after_on _ f heads g₄) z
-              (both t₃ n₃ _ a₃ b₃ ∙ (λ i. head s c.start (k₁ i) (u i) f.start f.end (draft (a₁ i) (v i))))
+              (a₃ ∙ (λ i. head s c.start (k₁ i) (u i) f.start f.end (draft (a₁ i).table (v i))))
 
   -- ---- parameters and precondition
 
@@ -440,22 +429,18 @@ module _ (s : List ℕ) where
         end_no_state t n x o f = is_stop_lem _ b t n x o (end₂ ∙ after_stop _ x o (ends_at (draft t₁ n₁)) f) f
 
         pub end_on :
-            (l : Cursor) (last : ℕ) (t₂ n₂ : List ℕ) (nodes events : ℕ) (t₃ : List ℕ) (f : Cursor)
+            (l : Cursor) (last : ℕ) (t₂ n₂ : List ℕ) (nodes events : ℕ) (t₃ n₃ : List ℕ) (f : Cursor)
             → b ≡ On l
             → last ≡ state_number s l (draft t₁ n₁)
-            → t₂ ≡ (stated s l (draft t₁ n₁)).table
-            → n₂ ≡ (stated s l (draft t₁ n₁)).notes
+            → draft t₂ n₂ ≡ stated s l (draft t₁ n₁)
             → nodes ≡ note n₁ 604
             → events ≡ note n₁ 605
-            → t₃ ≡ (function_rest i last first before nodes event events (draft t₂ n₂)).table
+            → draft t₃ n₃ ≡ function_rest i last first before nodes event events (draft t₂ n₂)
             → f ≡ cursor_at s l.end
-            → AgreesWith (function_end s i first event c (draft t₀ n₀)) (On f) t₃ n₂
-        end_on l last t₂ n₂ many events t₃ f g₃ k₁ a₂ b₂ k₂ k₃ a₃ z =
-            let p : draft t₂ n₂ ≡ stated s l (draft t₁ n₁) = both t₂ n₂ _ a₂ b₂ in
-            let q : t₃ ≡ (function_last s i first (note n₀ 14 - first) event l (draft t₁ n₁)).table =
-            a₃ ∙ (λ j. (function_rest i (k₁ j) first (h₁ j) (k₂ j) event (k₃ j) (p j)).table) in
-            goes_on _ _ f _ t₃ n₂ (end₂ ∙ after_on _ l (ends_at (draft t₁ n₁)) g₃) z
-            (both t₃ n₂ _ q (b₂ ∙ sym (rest_notes i _ first _ _ event _ (stated s l (draft t₁ n₁)))))
+            → AgreesWith (function_end s i first event c (draft t₀ n₀)) (On f) t₃ n₃
+        end_on l last t₂ n₂ many events t₃ n₃ f g₃ k₁ p k₂ k₃ q z =
+            goes_on _ _ f _ t₃ n₃ (end₂ ∙ after_on _ l (ends_at (draft t₁ n₁)) g₃) z
+            (q ∙ (λ j. function_rest i (k₁ j) first (h₁ j) (k₂ j) event (k₃ j) (p j)))
 
   -- ---- a function
 

@@ -5,10 +5,10 @@ use Prim.Native.Nat.{ℕ, zero, suc, ◌-◌, ◌<◌, ◌≤◌}
 use native.Mathlib.Omega.{arith}
 use lib.ListN.{length}
 use borrow.Author.Tests.{eq-eqb, ne_eqb}
-use Rattle.laws.proofs.Choice.{pick_true, pick_false, by_cases}
+use Rattle.laws.proofs.Choice.{pick_true, pick_false}
 use Rattle.words.specs.Words.{comma}
 use Rattle.tokens.specs.Tokens.{name as nameKind}
-use Rattle.entries.specs.Draft.{Draft, declare, clause_field, clause_party, clause_verb}
+use Rattle.entries.specs.Draft.{Draft, declare, clause_field, clause_party}
 use Rattle.reading_laws.specs.Walk.{on, stop, draft, next_of, one_name, names, more_names, one_field, clause_fields, more_fields, clause_rest, clause_from, clause, clauses}
 use Rattle.reading_laws.specs.Walk.{Cursor}
 use Rattle.reading_laws.proofs.AgreesWith.{follow_on, follow_stop}
@@ -93,21 +93,15 @@ fields_end s (suc f) c p l = absurd (omega arith)
 
 -- ---- the clauses
 
--- a verb leaves the notes
-verb_notes : (v : ℕ) (p : Draft) → (clause_verb v p).notes ≡ p.notes
-unfolding clause_verb
-verb_notes v p = by_cases (λ (q : Draft). q.notes ≡ p.notes) _ _ _ (λ _. refl) (λ _. refl)
-
-pub verbed : (s : List ℕ) (v : ℕ) (c next : Cursor) (t n t₁ : List ℕ) → next ≡ next_of s c → t₁ ≡ (clause_verb v (draft t n)).table
-    → clause_rest s next (draft t₁ n) ≡ clause_rest s (next_of s c) (clause_verb v (draft t n))
-verbed s v c next t n t₁ h a = λ i. clause_rest s (h i) (record { table = a i; notes = sym (verb_notes v (draft t n)) i })
+pub verbed : (s : List ℕ) (c next : Cursor) (p q : Draft) → next ≡ next_of s c → p ≡ q → clause_rest s next p ≡ clause_rest s (next_of s c) q
+verbed s c next p q h a = λ i. clause_rest s (h i) (a i)
 
 pub clause_begin : (s : List ℕ) (c next : Cursor) (t n t₁ n₁ : List ℕ) → c.kind ≡ nameKind → next ≡ next_of s c
-    → t₁ ≡ (clause_party s c.start c.end (draft t n)).table → n₁ ≡ (clause_party s c.start c.end (draft t n)).notes
+    → draft t₁ n₁ ≡ clause_party s c.start c.end (draft t n)
     → clause_from s next (draft t₁ n₁) ≡ clause s c (draft t n)
 unfolding clause
-clause_begin s c next t n t₁ n₁ e h a b =
-    (λ i. clause_from s (h i) (record { table = a i; notes = b i })) ∙ sym (pick_true _ _ _ (eq-eqb _ _ e))
+clause_begin s c next t n t₁ n₁ e h a =
+    (λ i. clause_from s (h i) (a i)) ∙ sym (pick_true _ _ _ (eq-eqb _ _ e))
 
 pub clauses_turn : (s : List ℕ) (left : ℕ) (c d : Cursor) (p q : Draft) → 0 < left → c.kind ≡ nameKind → clause s c p ≡ on d q
     → clauses s (left - 1) d q ≡ clauses s left c p

@@ -86,26 +86,25 @@ inner s c a e h =
 
 pub stringed : (s : List ℕ) (c : Cursor) (t n : List ℕ) (a e : ℕ) → (a ≡ inner_start s c) × (e ≡ inner_end s c)
     → (n1 : List ℕ) → n1 ≡ counted 9 c.start n
-    → (x : ℕ) (t2 n2 : List ℕ) → x ≡ number_in s n1 6 (between s a e) → t2 ≡ (mention s 6 a e c.start (draft t n1)).table → n2 ≡ (mention s 6 a e c.start (draft t n1)).notes
+    → (x : ℕ) (t2 n2 : List ℕ) → x ≡ number_in s n1 6 (between s a e) → draft t2 n2 ≡ mention s 6 a e c.start (draft t n1)
     → (b : ℕ) → b ≡ note n2 14
-    → (t3 n3 : List ℕ) → t3 ≡ (put string_kind x b (draft t2 n2)).table → n3 ≡ (put string_kind x b (draft t2 n2)).notes
-    → (t3 ≡ (string_leaf s c (draft t n)).table) × (n3 ≡ (string_leaf s c (draft t n)).notes)
+    → (t3 n3 : List ℕ) → draft t3 n3 ≡ put string_kind x b (draft t2 n2) → draft t3 n3 ≡ string_leaf s c (draft t n)
 unfolding string_leaf
-stringed s c t n a e ae n1 n1-is x t2 n2 x-is t2-is n2-is b b-is t3 n3 t3-is n3-is =
+stringed s c t n a e ae n1 n1-is x t2 n2 x-is mentioned b b-is t3 n3 is =
     let q : draft t2 n2 ≡ mention s 6 (inner_start s c) (inner_end s c) c.start (counting 9 c.start (draft t n)) =
-    (λ i. record { table = t2-is i; notes = n2-is i }) ∙ (λ i. mention s 6 (ae.0 i) (ae.1 i) c.start (draft t (n1-is i))) in
+    mentioned ∙ (λ i. mention s 6 (ae.0 i) (ae.1 i) c.start (draft t (n1-is i))) in
     let y : x ≡ number_in s (counted 9 c.start n) 6 (between s (inner_start s c) (inner_end s c)) = x-is ∙ (λ i. number_in s (n1-is i) 6 (between s (ae.0 i) (ae.1 i))) in
     let m : b ≡ nodes (mention s 6 (inner_start s c) (inner_end s c) c.start (counting 9 c.start (draft t n))) = b-is ∙ (λ i. nodes (q i)) in
-    (t3-is ∙ (λ i. (put string_kind (y i) (m i) (q i)).table), n3-is ∙ (λ i. (put string_kind (y i) (m i) (q i)).notes))
+    is ∙ (λ i. put string_kind (y i) (m i) (q i))
 
 -- ---- `~` in a row
 
-pub negated : (l before : ℕ) (t n t' n' : List ℕ) → 0 < l → t' ≡ (put not_kind 0 before (draft t n)).table → n' ≡ (put not_kind 0 before (draft t n)).notes
+pub negated : (l before : ℕ) (t n t' n' : List ℕ) → 0 < l → draft t' n' ≡ put not_kind 0 before (draft t n)
     → negations (l - 1) before (draft t' n') ≡ negations l before (draft t n)
 unfolding negations
-negated zero before t n t' n' h e f = absurd (omega arith)
-negated (suc m) before t n t' n' h e f =
-    let g : suc m - 1 ≡ m = omega arith in λ i. negations (g i) before (record { table = e i; notes = f i })
+negated zero before t n t' n' h e = absurd (omega arith)
+negated (suc m) before t n t' n' h e =
+    let g : suc m - 1 ≡ m = omega arith in λ i. negations (g i) before (e i)
 
 pub negated_all : (l before : ℕ) (p : Draft) → l ≤ 0 → negations l before p ≡ p
 unfolding negations

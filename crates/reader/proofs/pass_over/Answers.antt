@@ -14,4 +14,4 @@ returns-then-stops c =
 pub returns : goal.returns
 unfolding zeros
 returns c =
-    ends_lent _ _ _ _ _ _ _ _ _ c.contract_text-r.ensures.value (packed.keeps c.args.text.now _ _ c.stops.ensures c.if-stops.false) c.settle.ensures.value c.settle.ensures.table_after (search rules) (search rules)
+    ends_lent _ _ _ _ _ _ _ _ c.contract_text-r.ensures.value (packed.keeps c.args.text.now _ _ c.stops.ensures c.if-stops.false) c.settle.ensures.value c.settle.ensures.table_after (search rules)

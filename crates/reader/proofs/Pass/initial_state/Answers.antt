@@ -1,6 +1,7 @@
 -- `reader::Pass::initial_state` meets its contract. Assumes nothing.
-use mathlib.Core.Path.{sym, ◌∙◌}
+use mathlib.Core.Path.{sym, ap, ◌∙◌}
 use lib.ListN.{set}
+use Rattle.entries.specs.Draft.{Draft}
 use Rattle.reading_laws.specs.Walk as walk
 use Rattle.cursors.proofs.Packs.{step_in_on}
 use Rattle.reading_laws.proofs.AgreesWith.{goes, is_stop_lem, after_on, after_stop}
@@ -34,4 +35,4 @@ returns-clause-value c =
     (after_on _ _ _ (sym (tokened _ _ _ _ short c.token-mark.ensures) ∙ packed.keeps s _ _ c.stops.ensures c.if-stops.false)
     ∙ after_on _ _ _ (sym (stated _ _ _ short c.state_at-name.ensures) ∙ packed.keeps s _ _ c.stops-2.ensures c.if-stops-2.false))
     (step_in_on s _ c.lex.ensures.goes) (packed.next_is s _ _ _ c.end_of.ensures (lexed _ _ _ _ short c.end_of.ensures c.lex.ensures.value))
-    (c.set.ensures ∙ (λ i. set (m.table_after i) 9 (m.value i))) m.notes_after
+    (c.set.ensures ∙ (λ i. set (m.value i).table 9 (m.number i))) (ap (λ (p : Draft). p.notes) m.value)

@@ -70,7 +70,7 @@ conditional-returns-clause-value t c =
     (blocks.conditional_on z.self.now.text.now z.self.now.handler z.self.now.levels z.self.now.from (cursor_in z.self.now.text.now z.c) z.lent.now.table.now z.lent.now.notes.now c.if-self-eq0.false _ (tokened _ _ _ _ short c.token-opened.ensures) _
     (step_in_on z.self.now.text.now _ (sym c.stops.ensures ∙ c.if-stops.false)) _ _ (counted_at z.self.now.text.now _ z.c _ _ _ c.start_of-place.ensures c.count.ensures) (counted_at z.self.now.text.now _ z.c _ _ _ c.start_of-place.ensures c.count-2.ensures) _ _ _ _
     (agrees _ _ _ _ _ _ _ short (c.condition-inner.ensures.value, (c.condition-inner.ensures.table_after, c.condition-inner.ensures.notes_after))) (closed _ _ _ short c.close-closed.ensures) _ (step_in_on z.self.now.text.now _ (sym c.stops-2.ensures ∙ c.if-stops-2.false)) _ _ _ c.braces-after.ensures.value _ _ _ _ _
-    (step_in_on z.self.now.text.now _ (sym c.stops-3.ensures ∙ c.if-stops-3.false)) c.nodes-before.ensures c.nodes_since-block.ensures c.put.ensures.table_after c.put.ensures.notes_after)
+    (step_in_on z.self.now.text.now _ (sym c.stops-3.ensures ∙ c.if-stops-3.false)) c.nodes-before.ensures c.nodes_since-block.ensures c.put.ensures.value)
 
 pub statement-returns-then-kind_of-eq-OPEN_PAREN-clause-value : goal.statement-returns-then-kind_of-eq-OPEN_PAREN-clause-value
 statement-returns-then-kind_of-eq-OPEN_PAREN-clause-value t c =

@@ -1,6 +1,4 @@
 -- `bodies::blocks::Statement::asset_move` meets its contract. Assumes nothing.
-use mathlib.Core.Path.{ap}
-use Rattle.entries.specs.Draft.{Draft}
 use Rattle.bodies.proofs.Actions.{asset_unfit, asset_moves, asset_all, asset_none}
 use Rattle.cursors.proofs.Clipped.{lexed}
 use Rattle.bodies.proofs.blocks.Statement.asset_move.Goals as goal
@@ -22,7 +20,7 @@ returns-then-alone-clause-value c =
     let short = c.args.self.now.short in
     let z = c.args in
     asset_all z.self.now.text.now z.self.now.handler z.self.now.first z.self.now.from z.alone z.c _ _ c.kind_of.ensures c.if-kind_of-ne-NAME.false _ c.end_of.ensures _ (lexed _ _ _ _ short c.end_of.ensures c.lex-d.ensures.value) _ c.kind_of-2.ensures
-    _ _ c.lex-d.ensures.goes c.if-kind_of-eq-COMMA.false c.if-alone.true (ap (λ (p : Draft). p.table) c.moves_all.ensures.value) (ap (λ (p : Draft). p.notes) c.moves_all.ensures.value)
+    _ _ c.lex-d.ensures.goes c.if-kind_of-eq-COMMA.false c.if-alone.true c.moves_all.ensures.value
 
 pub returns-clause-value : goal.returns-clause-value
 returns-clause-value c =

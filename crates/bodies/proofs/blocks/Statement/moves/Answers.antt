@@ -14,6 +14,6 @@ returns-clause-value c =
     let z = c.args in
     moves_on z.self.now.text.now z.self.now.handler z.self.now.first z.source z.c z.self.now.from z.lent.now.table.now z.lent.now.notes.now _ _ _ _ _ _ _ _ _ _ _ _ _ _ _ _ _ _ _ c.kind_of.ensures c.if-kind_of-ne-NAME.false
     c.start_of.ensures c.count.ensures c.start_of-2.ensures c.end_of.ensures c.holder-holder.ensures
-    c.start_of-3.ensures c.put_name.ensures.table_after c.put_name.ensures.notes_after c.start_of-4.ensures c.end_of-2.ensures c.asset_target-target.ensures
-    c.start_of-5.ensures c.put_name-2.ensures.table_after c.put_name-2.ensures.notes_after c.put.ensures.table_after c.put.ensures.notes_after
+    c.start_of-3.ensures c.put_name.ensures.value c.start_of-4.ensures c.end_of-2.ensures c.asset_target-target.ensures
+    c.start_of-5.ensures c.put_name-2.ensures.value c.put.ensures.value
     c.end_of-3.ensures (lexed _ _ _ _ short c.end_of-3.ensures c.lex.ensures.value) c.lex.ensures.goes

@@ -5,9 +5,8 @@ use Rattle.bodies.proofs.blocks.Statement.moves_all.Goals as goal
 pub returns-clause-value : goal.returns-clause-value
 returns-clause-value c =
     let z = c.args in
-    let p = moved_all z.self.now.text.now z.self.now.handler z.self.now.first z.c z.self.now.from z.lent.now.table.now z.lent.now.notes.now _ _ _ _ _ _ _ _ _ _ _ _ _ _ _ _ _ _ _ c.nodes-before.ensures
+    moved_all z.self.now.text.now z.self.now.handler z.self.now.first z.c z.self.now.from z.lent.now.table.now z.lent.now.notes.now _ _ _ _ _ _ _ _ _ _ _ _ _ _ _ _ _ _ _ c.nodes-before.ensures
     c.start_of.ensures c.count.ensures c.start_of-2.ensures c.count-2.ensures
     c.start_of-3.ensures c.end_of.ensures c.holder-holder.ensures c.start_of-4.ensures c.end_of-2.ensures c.asset_target-target.ensures
     c.start_of-5.ensures c.want.ensures c.start_of-6.ensures c.want-2.ensures
-    c.put.ensures.table_after c.put.ensures.notes_after c.put-2.ensures.table_after c.put-2.ensures.notes_after in
-    λ i. record { table = p.0 i; notes = p.1 i }
+    c.put.ensures.value c.put-2.ensures.value

@@ -14,5 +14,5 @@ returns-clause-value c =
     let z = c.args in
     sends_on z.self.now.text.now z.self.now.first z.c z.self.now.from z.lent.now.table.now z.lent.now.notes.now _ _ _ _ _ _ _ _ _ _ _ _ _ c.kind_of.ensures c.if-kind_of-ne-NAME.false
     c.start_of.ensures c.count.ensures c.start_of-2.ensures c.end_of.ensures c.value_target-target.ensures
-    c.start_of-3.ensures c.put_name.ensures.table_after c.put_name.ensures.notes_after c.put.ensures.table_after c.put.ensures.notes_after
+    c.start_of-3.ensures c.put_name.ensures.value c.put.ensures.value
     c.end_of-2.ensures (lexed _ _ _ _ short c.end_of-2.ensures c.lex.ensures.value) c.lex.ensures.goes

@@ -27,7 +27,7 @@ returns-then-stops-3-clause-value c =
     parts.event_refused z.self.now.text.now z.place z.before (cursor_in z.self.now.text.now z.c) z.lent.now.table.now z.lent.now.notes.now _ (tokened _ _ _ _ short c.token-mark.ensures) _
     (packed.keeps z.self.now.text.now _ _ c.stops.ensures c.if-stops.false) _ (stated _ _ _ short c.state_at-name.ensures) _ (packed.keeps z.self.now.text.now _ _
     c.stops-2.ensures c.if-stops-2.false) _ _ c.note-i.ensures c.nodes-from.ensures _ c.count.ensures _ _ _
-    c.mention_state-state.ensures.value c.mention_state-state.ensures.table_after c.mention_state-state.ensures.notes_after _ c.set.ensures _
+    c.mention_state-state.ensures.number c.mention_state-state.ensures.value _ c.set.ensures _
     (packed.next_is z.self.now.text.now _ _ _ c.end_of.ensures (lexed _ _ _ _ short c.end_of.ensures c.lex.ensures.value)) _ _ _ c.braces-after.ensures.value _ _ _ _ (packed.halts
     z.self.now.text.now _ _ c.stops-3.ensures c.if-stops-3.true)
 
@@ -38,6 +38,6 @@ returns-clause-value c =
     parts.event_ends z.self.now.text.now z.place z.before (cursor_in z.self.now.text.now z.c) z.lent.now.table.now z.lent.now.notes.now _ (tokened _ _ _ _ short c.token-mark.ensures) _
     (packed.keeps z.self.now.text.now _ _ c.stops.ensures c.if-stops.false) _ (stated _ _ _ short c.state_at-name.ensures) _ (packed.keeps z.self.now.text.now _ _
     c.stops-2.ensures c.if-stops-2.false) _ _ c.note-i.ensures c.nodes-from.ensures _ c.count.ensures _ _ _
-    c.mention_state-state.ensures.value c.mention_state-state.ensures.table_after c.mention_state-state.ensures.notes_after _ c.set.ensures _
+    c.mention_state-state.ensures.number c.mention_state-state.ensures.value _ c.set.ensures _
     (packed.next_is z.self.now.text.now _ _ _ c.end_of.ensures (lexed _ _ _ _ short c.end_of.ensures c.lex.ensures.value)) _ _ _ c.braces-after.ensures.value _ _ _ _ (packed.keeps
     z.self.now.text.now _ _ c.stops-3.ensures c.if-stops-3.false) c.event_end.ensures.value

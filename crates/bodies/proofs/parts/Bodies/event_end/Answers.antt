@@ -27,6 +27,5 @@ returns-clause-value c =
     packed.as_on z.self.now.text.now _ _ _ _ c.lex.ensures.goes
     (parts.event_end_on z.self.now.text.now z.i z.state z.before z.from (cursor_in z.self.now.text.now z.c) z.lent.now.table.now z.lent.now.notes.now _
     (tokened _ _ _ _ short c.token-mark.ensures) _ (packed.keeps z.self.now.text.now _ _ c.stops.ensures c.if-stops.false) _ (stated _ _ _ short c.state_at-name.ensures) _ _ _ _ _ _ _ _ _ _
-    (packed.keeps z.self.now.text.now _ _ c.stops-2.ensures c.if-stops-2.false) c.nodes_since-handler.ensures c.mention_state-last.ensures.value
-    c.mention_state-last.ensures.table_after c.mention_state-last.ensures.notes_after c.nodes-node.ensures c.put.ensures.table_after c.put.ensures.notes_after
+    (packed.keeps z.self.now.text.now _ _ c.stops-2.ensures c.if-stops-2.false) c.nodes_since-handler.ensures c.mention_state-last.ensures.number c.mention_state-last.ensures.value c.nodes-node.ensures c.put.ensures.value
     c.event_row.ensures (packed.next_is z.self.now.text.now _ _ _ c.end_of.ensures (lexed _ _ _ _ short c.end_of.ensures c.lex.ensures.value)))

@@ -17,5 +17,5 @@ pub returns-clause-value : goal.returns-clause-value
 returns-clause-value c =
     let short = c.args.self.now.short in
     leaves_same _ _ _ _ _
-    (clause_begin c.args.self.now.text.now c.args.c _ _ _ _ _ _ _ _ _ c.kind_of.ensures c.if-kind_of-ne-NAME.false c.start_of.ensures c.end_of.ensures c.end_of-2.ensures (lexed _ _ _ _ short c.end_of-2.ensures c.lex.ensures.value) c.clause_party.ensures.table_after c.clause_party.ensures.notes_after)
+    (clause_begin c.args.self.now.text.now c.args.c _ _ _ _ _ _ _ _ _ c.kind_of.ensures c.if-kind_of-ne-NAME.false c.start_of.ensures c.end_of.ensures c.end_of-2.ensures (lexed _ _ _ _ short c.end_of-2.ensures c.lex.ensures.value) c.clause_party.ensures.value)
     c.clause_from.ensures.value

@@ -33,7 +33,7 @@ returns-clause-value c =
     let eight_not_seven : 8 ≡ 7 → ⊥ = λ e. omega (arith, e) in
     let rest = λ (x : rows.Verb). walk.clause_rest s (walk.next_of s here) (clause_verb (tag_of the_type x) lists) in
     leaves_same _ _ _ _ _
-    (verbed _ _ here _ _ _ _ (next_is s c.args.c _ _ c.end_of.ensures (lexed _ _ _ _ short c.end_of.ensures c.lex.ensures.value)) c.clause_verb.ensures
+    (verbed _ here _ _ _ (next_is s c.args.c _ _ c.end_of.ensures (lexed _ _ _ _ short c.end_of.ensures c.lex.ensures.value)) c.clause_verb.ensures.value
     ∙ (elim c.match-kind_of.branch [
       | in-7 w ↦ ap rest w.verb-is ∙ sym (pick_true _ _ _ (eq-eqb _ _ (kind_is s c.args.c _ _ c.kind_of.ensures w.in-7.is)))
       | in-8 w ↦ ap rest w.verb-is

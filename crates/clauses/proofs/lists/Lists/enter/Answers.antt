@@ -9,14 +9,10 @@ pub returns-in-Declared-clause-value : goal.returns-in-Declared-clause-value
 unfolding entered
 returns-in-Declared-clause-value c =
     let z = c.args in
-    let e = c.declare.ensures in
-    (λ i. record { table = e.table_after i; notes = e.notes_after i })
-    ∙ ap (λ (l : Listed). entered z.self.now.text.now l z.start z.end (draft_in z.lent.now)) (sym c.in-Declared.is)
+    c.declare.ensures.value ∙ ap (λ (l : Listed). entered z.self.now.text.now l z.start z.end (draft_in z.lent.now)) (sym c.in-Declared.is)
 
 pub returns-in-Fields-clause-value : goal.returns-in-Fields-clause-value
 unfolding entered
 returns-in-Fields-clause-value c =
     let z = c.args in
-    let e = c.clause_field.ensures in
-    (λ i. record { table = e.table_after i; notes = e.notes_after i })
-    ∙ ap (λ (l : Listed). entered z.self.now.text.now l z.start z.end (draft_in z.lent.now)) (sym c.in-Fields.is)
+    c.clause_field.ensures.value ∙ ap (λ (l : Listed). entered z.self.now.text.now l z.start z.end (draft_in z.lent.now)) (sym c.in-Fields.is)

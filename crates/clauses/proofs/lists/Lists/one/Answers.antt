@@ -1,6 +1,4 @@
 -- `clauses::lists::Lists::one` meets its contract. Assumes nothing.
-use mathlib.Core.Path.{ap}
-use Rattle.entries.specs.Draft.{Draft}
 use Rattle.reading_laws.proofs.AgreesWith.{is_on, is_stop_lem}
 use Rattle.cursors.proofs.Packs.{step_in_on}
 use Rattle.cursors.proofs.Tested.{kind_not}
@@ -16,5 +14,5 @@ pub returns-clause-value : goal.returns-clause-value
 returns-clause-value c =
     let short = c.args.self.now.short in
     is_on _ _ _ _ _
-    (one_read c.args.self.now.text.now c.args.listed c.args.c _ _ _ _ _ _ _ _ _ c.kind_of.ensures c.if-kind_of-ne-NAME.false c.start_of.ensures c.end_of.ensures c.end_of-2.ensures (lexed _ _ _ _ short c.end_of-2.ensures c.lex.ensures.value) (ap (λ (p : Draft). p.table) c.enter.ensures.value) (ap (λ (p : Draft). p.notes) c.enter.ensures.value))
+    (one_read c.args.self.now.text.now c.args.listed c.args.c _ _ _ _ _ _ _ _ _ c.kind_of.ensures c.if-kind_of-ne-NAME.false c.start_of.ensures c.end_of.ensures c.end_of-2.ensures (lexed _ _ _ _ short c.end_of-2.ensures c.lex.ensures.value) c.enter.ensures.value)
     (step_in_on c.args.self.now.text.now _ c.lex.ensures.goes)

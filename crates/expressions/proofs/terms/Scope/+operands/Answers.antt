@@ -1,7 +1,6 @@
 -- The parsers of expressions and conditions, which call each other, meet their contracts. Assumes nothing.
-use Rattle.entries.specs.Draft.{Draft}
+use Rattle.entries.specs.Lending.{draft_in}
 use lib.ListN.{length}
-use Rattle.reading_laws.specs.Walk.{draft}
 use Rattle.cursors.proofs.Turns.{fewer}
 use Prim.Native.Nat.{ℕ, ◌-◌}
 use native.Mathlib.Omega.{arith}
@@ -57,7 +56,7 @@ comparison-returns-clause-value t c =
     let short = c.args.self.now.short in
     let g = c.args in
     compare_ends g.self.now.text.now g.self.now.handler g.self.now.levels _ _ _ _ _ c.expression-first.ensures.value (sym c.stops.ensures ∙ c.if-stops.false) _ c.kind_of-kind.ensures (sym c.is_comparison.ensures ∙ c.if-not-is_comparison.false) _ _
-    c.start_of.ensures c.count.ensures _ _ c.end_of.ensures (lexed _ _ _ _ short c.end_of.ensures c.lex.ensures.value) _ _ _ c.expression-second.ensures.value _ _ _ _ (sym c.stops-2.ensures ∙ c.if-stops-2.false) c.operator_node.ensures c.nodes-before.ensures c.put.ensures.table_after c.put.ensures.notes_after
+    c.start_of.ensures c.count.ensures _ _ c.end_of.ensures (lexed _ _ _ _ short c.end_of.ensures c.lex.ensures.value) _ _ _ c.expression-second.ensures.value _ _ _ _ (sym c.stops-2.ensures ∙ c.if-stops-2.false) c.operator_node.ensures c.nodes-before.ensures c.put.ensures.value
 
 pub factor-returns-then-kind_of-ne-OPEN_PAREN-clause-value : goal.factor-returns-then-kind_of-ne-OPEN_PAREN-clause-value
 factor-returns-then-kind_of-ne-OPEN_PAREN-clause-value t c =
@@ -83,7 +82,7 @@ primary-returns-then-stops-clause-value t c =
 pub primary-returns-clause-value : goal.primary-returns-clause-value
 primary-returns-clause-value t c =
     let g = c.args in
-    primary_ends g.self.now.text.now g.self.now.handler g.self.now.levels (walk.inside_condition g.self.now.text.now g.self.now.handler g.self.now.levels) (cursor_in g.self.now.text.now g.c) g.lent.now.table.now g.lent.now.notes.now _ _ c.count_nots-nots.ensures _ _ _ c.simple-after.ensures.value _ _ _ (sym c.stops.ensures ∙ c.if-stops.false) c.nodes-before.ensures (ap (λ (p : Draft). p.table) c.negate.ensures.value) (ap (λ (p : Draft). p.notes) c.negate.ensures.value)
+    primary_ends g.self.now.text.now g.self.now.handler g.self.now.levels (walk.inside_condition g.self.now.text.now g.self.now.handler g.self.now.levels) (cursor_in g.self.now.text.now g.c) g.lent.now.table.now g.lent.now.notes.now _ _ c.count_nots-nots.ensures _ _ _ c.simple-after.ensures.value _ _ _ (sym c.stops.ensures ∙ c.if-stops.false) c.nodes-before.ensures c.negate.ensures.value
 
 pub rest-returns-then-not-is_operator-clause-value : goal.rest-returns-then-not-is_operator-clause-value
 rest-returns-then-not-is_operator-clause-value t c =
@@ -104,12 +103,12 @@ rest-loop-preserved t c =
     let short = c.args.self.now.short in
     let g = c.args in
     let l = c.loop in (
-      ap (λ (k : ℕ). walk.row_from g.self.now.text.now (rank_number g.rank) (walk.operand_at g.self.now.text.now g.self.now.handler g.self.now.levels (rank_number g.rank)) g.before k (cursor_in g.self.now.text.now c.operand-next.result) (draft c.put.new.table c.put.new.notes)) (fewer (length c.args.self.now.text.now) c.loop.counter)
+      ap (λ (k : ℕ). walk.row_from g.self.now.text.now (rank_number g.rank) (walk.operand_at g.self.now.text.now g.self.now.handler g.self.now.levels (rank_number g.rank)) g.before k (cursor_in g.self.now.text.now c.operand-next.result) (draft_in c.put.new.self)) (fewer (length c.args.self.now.text.now) c.loop.counter)
           ∙ row_turns g.self.now.text.now (rank_number g.rank) (walk.operand_at g.self.now.text.now g.self.now.handler g.self.now.levels (rank_number g.rank)) g.before (length g.self.now.text.now - l.counter) l.here _ c.kind_of-kind.ensures l.lent.table.now l.lent.notes.now _ _ _ _ _ _ _ (omega (arith, c.loop-test.true))
-          (sym c.is_operator.ensures ∙ c.if-not-is_operator.false) c.start_of.ensures c.count.ensures c.end_of.ensures (lexed _ _ _ _ short c.end_of.ensures c.lex.ensures.value) c.operand-next.ensures.value _ _ _ (sym c.stops.ensures ∙ c.if-stops.false) c.operator_node.ensures c.put.ensures.table_after c.put.ensures.notes_after ∙ l.invariant.0,
+          (sym c.is_operator.ensures ∙ c.if-not-is_operator.false) c.start_of.ensures c.count.ensures c.end_of.ensures (lexed _ _ _ _ short c.end_of.ensures c.lex.ensures.value) c.operand-next.ensures.value _ _ _ (sym c.stops.ensures ∙ c.if-stops.false) c.operator_node.ensures c.put.ensures.value ∙ l.invariant.0,
       (
-        (c.operand-next.ensures.same_lists.0.0 ∙ l.invariant.1.0.0, c.operand-next.ensures.same_lists.0.1 ∙ l.invariant.1.0.1),
-        (c.put.auto.table ∙ c.operand-next.ensures.same_lists.1.0 ∙ l.invariant.1.1.0, c.put.auto.notes ∙ c.operand-next.ensures.same_lists.1.1 ∙ c.count.auto.notes ∙ l.invariant.1.1.1),
+        (c.put.ensures.same_lists.0.0 ∙ c.operand-next.ensures.same_lists.0.0 ∙ l.invariant.1.0.0, c.put.ensures.same_lists.0.1 ∙ c.operand-next.ensures.same_lists.0.1 ∙ l.invariant.1.0.1),
+        (c.put.ensures.same_lists.1.0 ∙ c.operand-next.ensures.same_lists.1.0 ∙ l.invariant.1.1.0, c.put.ensures.same_lists.1.1 ∙ c.operand-next.ensures.same_lists.1.1 ∙ c.count.auto.notes ∙ l.invariant.1.1.1),
       ),
       sym c.stops.ensures ∙ c.if-stops.false,
     )
@@ -136,14 +135,14 @@ simple-returns-then-kind-eq-TRUE-clause-value t c =
     let short = c.args.self.now.short in
     let g = c.args in
     simple_true g.self.now.text.now g.self.now.handler g.self.now.levels g.c _ c.kind_of-kind.ensures (walk.inside_condition g.self.now.text.now g.self.now.handler g.self.now.levels) c.if-kind-eq-OPEN_PAREN.false g.lent.now.table.now g.lent.now.notes.now _ _ _ _ _ c.if-kind-eq-TRUE.true
-    c.start_of-then-kind-eq-TRUE.ensures c.put_leaf.ensures.table_after c.put_leaf.ensures.notes_after c.end_of-then-kind-eq-TRUE.ensures (lexed _ _ _ _ short c.end_of-then-kind-eq-TRUE.ensures c.lex-then-kind-eq-TRUE.ensures.value) c.lex-then-kind-eq-TRUE.ensures.goes
+    c.start_of-then-kind-eq-TRUE.ensures c.put_leaf.ensures.value c.end_of-then-kind-eq-TRUE.ensures (lexed _ _ _ _ short c.end_of-then-kind-eq-TRUE.ensures c.lex-then-kind-eq-TRUE.ensures.value) c.lex-then-kind-eq-TRUE.ensures.goes
 
 pub simple-returns-then-kind-eq-FALSE-clause-value : goal.simple-returns-then-kind-eq-FALSE-clause-value
 simple-returns-then-kind-eq-FALSE-clause-value t c =
     let short = c.args.self.now.short in
     let g = c.args in
     simple_false g.self.now.text.now g.self.now.handler g.self.now.levels g.c _ c.kind_of-kind.ensures (walk.inside_condition g.self.now.text.now g.self.now.handler g.self.now.levels) c.if-kind-eq-OPEN_PAREN.false g.lent.now.table.now g.lent.now.notes.now _ _ _ _ _ c.if-kind-eq-TRUE.false c.if-kind-eq-FALSE.true
-    c.start_of-then-kind-eq-FALSE.ensures c.put_leaf-then-kind-eq-FALSE.ensures.table_after c.put_leaf-then-kind-eq-FALSE.ensures.notes_after c.end_of-then-kind-eq-FALSE.ensures (lexed _ _ _ _ short c.end_of-then-kind-eq-FALSE.ensures c.lex-then-kind-eq-FALSE.ensures.value) c.lex-then-kind-eq-FALSE.ensures.goes
+    c.start_of-then-kind-eq-FALSE.ensures c.put_leaf-then-kind-eq-FALSE.ensures.value c.end_of-then-kind-eq-FALSE.ensures (lexed _ _ _ _ short c.end_of-then-kind-eq-FALSE.ensures c.lex-then-kind-eq-FALSE.ensures.value) c.lex-then-kind-eq-FALSE.ensures.goes
 
 pub simple-returns-clause-value : goal.simple-returns-clause-value
 simple-returns-clause-value t c =

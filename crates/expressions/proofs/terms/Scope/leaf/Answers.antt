@@ -3,8 +3,7 @@ use mathlib.Core.Path.{sym, ap, ◌∙◌}
 use mathlib.Core.Path.{◌≡◌}
 use Prim.Native.Nat.{ℕ}
 use native.Mathlib.Omega.{arith}
-use Rattle.entries.specs.declared.Lent.{Lent}
-use Rattle.entries.specs.Draft.{Draft}
+use Rattle.entries.specs.Lending.{draft_in}
 use Rattle.expressions.proofs.PackedTerms.{leaf_unfit, leaf_name, leaf_number, leaf_string, leaf_now}
 use Rattle.cursors.proofs.Clipped.{lexed}
 use Rattle.expressions.proofs.terms.Scope.leaf.Goals.{in-200, in-201, in-202, in-4}
@@ -31,11 +30,11 @@ returns-clause-value c =
     let l = c.match-kind_of.lent in
     elim c.match-kind_of.branch [
       | in-200 w ↦ leaf_name s h z.c _ t n c.kind_of.ensures _ c.end_of-2.ensures _ next c.lex.ensures.goes l.table.now l.notes.now
-          _ _ _ _ w.in-200.is w.start_of.ensures w.end_of.ensures w.start_of-in-200.ensures w.name-name.ensures (ap (λ (x : Lent). x.table.now) w.lent-is ∙ w.put_name.ensures.table_after) (ap (λ (x : Lent). x.notes.now) w.lent-is ∙ w.put_name.ensures.notes_after)
+          _ _ _ _ w.in-200.is w.start_of.ensures w.end_of.ensures w.start_of-in-200.ensures w.name-name.ensures (ap draft_in w.lent-is ∙ w.put_name.ensures.value)
       | in-201 w ↦ leaf_number s h z.c _ t n c.kind_of.ensures _ c.end_of-2.ensures _ next c.lex.ensures.goes l.table.now l.notes.now
-          _ _ _ (λ e. other _ 201 200 w.in-201.is (omega arith) e) w.in-201.is w.start_of-in-201.ensures w.value_of.ensures w.start_of-in-201-2.ensures (ap (λ (x : Lent). x.table.now) w.lent-is ∙ w.put_leaf.ensures.table_after) (ap (λ (x : Lent). x.notes.now) w.lent-is ∙ w.put_leaf.ensures.notes_after)
+          _ _ _ (λ e. other _ 201 200 w.in-201.is (omega arith) e) w.in-201.is w.start_of-in-201.ensures w.value_of.ensures w.start_of-in-201-2.ensures (ap draft_in w.lent-is ∙ w.put_leaf.ensures.value)
       | in-202 w ↦ leaf_string s h z.c _ t n c.kind_of.ensures _ c.end_of-2.ensures _ next c.lex.ensures.goes l.table.now l.notes.now
-          (λ e. other _ 202 200 w.in-202.is (omega arith) e) (λ e. other _ 202 201 w.in-202.is (omega arith) e) w.in-202.is (ap (λ (x : Lent). x.table.now) w.lent-is ∙ ap (λ (p : Draft). p.table) w.string_leaf.ensures.value) (ap (λ (x : Lent). x.notes.now) w.lent-is ∙ ap (λ (p : Draft). p.notes) w.string_leaf.ensures.value)
+          (λ e. other _ 202 200 w.in-202.is (omega arith) e) (λ e. other _ 202 201 w.in-202.is (omega arith) e) w.in-202.is (ap draft_in w.lent-is ∙ w.string_leaf.ensures.value)
       | in-4 w ↦ leaf_now s h z.c _ t n c.kind_of.ensures _ c.end_of-2.ensures _ next c.lex.ensures.goes l.table.now l.notes.now
-          _ (λ e. other _ 4 200 w.in-4.is (omega arith) e) (λ e. other _ 4 201 w.in-4.is (omega arith) e) (λ e. other _ 4 202 w.in-4.is (omega arith) e) w.in-4.is w.start_of-in-4.ensures (ap (λ (x : Lent). x.table.now) w.lent-is ∙ w.put_leaf-in-4.ensures.table_after) (ap (λ (x : Lent). x.notes.now) w.lent-is ∙ w.put_leaf-in-4.ensures.notes_after)
+          _ (λ e. other _ 4 200 w.in-4.is (omega arith) e) (λ e. other _ 4 201 w.in-4.is (omega arith) e) (λ e. other _ 4 202 w.in-4.is (omega arith) e) w.in-4.is w.start_of-in-4.ensures (ap draft_in w.lent-is ∙ w.put_leaf-in-4.ensures.value)
     ]

@@ -8,8 +8,7 @@ pub returns-clause-value : goal.returns-clause-value
 returns-clause-value c =
     let z = c.args in
     let j = c.if-start-end in
-    let p = string_written z.self.now.text.now z.c z.lent.now.table.now z.lent.now.notes.now _ _ _ j.start j.end c.start_of-start.ensures c.end_of-end.ensures c.start_of-place.ensures
+    string_written z.self.now.text.now z.c z.lent.now.table.now z.lent.now.notes.now _ _ _ j.start j.end c.start_of-start.ensures c.end_of-end.ensures c.start_of-place.ensures
     (elim j.branch [ then-start-end w ↦ inl (w.if-start-end.true, w.start-is, w.end-is) | else-start-end w ↦ inr (w.if-start-end.false, w.start-is, w.end-is) ])
-    _ c.count.ensures _ _ _ c.mention-number.ensures.value c.mention-number.ensures.table_after c.mention-number.ensures.notes_after _ c.nodes-before.ensures
-    _ _ c.put.ensures.table_after c.put.ensures.notes_after in
-    λ i. record { table = p.0 i; notes = p.1 i }
+    _ c.count.ensures _ _ _ c.mention-number.ensures.number c.mention-number.ensures.value _ c.nodes-before.ensures
+    _ _ c.put.ensures.value

@@ -36,7 +36,6 @@ returns-clause-value c =
     packed.as_on z.self.now.text.now _ _ _ _ c.lex.ensures.goes
     (parts.end_on z.self.now.text.now z.i z.first z.event (cursor_in z.self.now.text.now z.c) z.lent.now.table.now z.lent.now.notes.now _
     c.nodes_since-condition.ensures _ _ _ (agrees _ _ _ _ _ _ _ short (c.body-after.ensures.value, (c.body-after.ensures.table_after, c.body-after.ensures.notes_after))) _ (packed.keeps z.self.now.text.now _ _ c.stops.ensures c.if-stops.false) _
-    (tokened _ _ _ _ short c.token-mark.ensures) _ (packed.keeps z.self.now.text.now _ _ c.stops-2.ensures c.if-stops-2.false) _ (stated _ _ _ short c.state_at-name.ensures) _ _ _ _ _ _ _ _
-    (packed.keeps z.self.now.text.now _ _ c.stops-3.ensures c.if-stops-3.false) c.mention_state-last.ensures.value c.mention_state-last.ensures.table_after
-    c.mention_state-last.ensures.notes_after c.note-many.ensures c.note-events.ensures c.function_rest.ensures (packed.next_is z.self.now.text.now _ _ _
+    (tokened _ _ _ _ short c.token-mark.ensures) _ (packed.keeps z.self.now.text.now _ _ c.stops-2.ensures c.if-stops-2.false) _ (stated _ _ _ short c.state_at-name.ensures) _ _ _ _ _ _ _ _ _
+    (packed.keeps z.self.now.text.now _ _ c.stops-3.ensures c.if-stops-3.false) c.mention_state-last.ensures.number c.mention_state-last.ensures.value c.note-many.ensures c.note-events.ensures c.function_rest.ensures.value (packed.next_is z.self.now.text.now _ _ _
     c.end_of.ensures (lexed _ _ _ _ short c.end_of.ensures c.lex.ensures.value)))

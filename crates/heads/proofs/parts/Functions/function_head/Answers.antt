@@ -2,7 +2,7 @@
 use Rattle.cursors.specs.Packed.{cursor_in}
 use Rattle.reading_laws.proofs.Exits as parts
 use Rattle.cursors.proofs.Tested as packed
-use Rattle.heads.proofs.FunctionHeads.{party_number, party_used_lem, head_table, head_notes}
+use Rattle.heads.proofs.FunctionHeads.{party_number, party_used_lem, head_at}
 use Rattle.cursors.proofs.Clipped.{lexed, stated, tokened}
 use Rattle.heads.proofs.parts.Functions.function_head.Goals as goal
 
@@ -51,9 +51,8 @@ returns-clause-value c =
     _ c.name_here-party.ensures _ (packed.keeps z.self.now.text.now _ _ c.stops-2.ensures c.if-stops-2.false) _ (packed.next_is z.self.now.text.now _ _ _
     c.end_of-2.ensures (lexed _ _ _ _ short c.end_of-2.ensures c.lex-2.ensures.value)) _ (tokened _ _ _ _ short c.token-past.ensures) _ (packed.keeps z.self.now.text.now _ _ c.stops-3.ensures
     c.if-stops-3.false) _ c.name_here-name.ensures _ _ _ _ _ _ _ _ _ (packed.keeps z.self.now.text.now _ _ c.stops-4.ensures c.if-stops-4.false)
-    c.mention_state-state.ensures.value c.mention_state-state.ensures.table_after c.mention_state-state.ensures.notes_after (party_number z.self.now.text.now _ _
+    c.mention_state-state.ensures.number c.mention_state-state.ensures.value (party_number z.self.now.text.now _ _
     _ _ _ c.start_of.ensures c.end_of-3.ensures c.use_party-number.ensures.value) (party_used_lem z.self.now.text.now _ _ _ _ _
-    c.start_of.ensures c.end_of-3.ensures c.use_party-number.ensures.notes_after) (head_table z.self.now.text.now z.c _ _ _ _ _ _ _ _
-    c.start_of-2.ensures c.start_of-3.ensures c.end_of-4.ensures _ c.head.ensures.table_after) (head_notes z.self.now.text.now z.c _ _ _
-    _ _ _ _ _ c.start_of-2.ensures c.start_of-3.ensures c.end_of-4.ensures _ c.head.ensures.notes_after) (packed.next_is z.self.now.text.now _ _ _
+    c.start_of.ensures c.end_of-3.ensures c.use_party-number.ensures.notes_after) (head_at z.self.now.text.now z.c _ _ _ _ _ _ _ _
+    c.start_of-2.ensures c.start_of-3.ensures c.end_of-4.ensures _ c.head.ensures.value) (packed.next_is z.self.now.text.now _ _ _
     c.end_of-5.ensures (lexed _ _ _ _ short c.end_of-5.ensures c.lex-3.ensures.value)))
