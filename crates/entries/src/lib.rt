@@ -297,7 +297,7 @@ fn find_mark(notes: &[u64], mark: u64, slot: usize, many: usize) -> usize
 // The first of so many slots that has this mark and these bytes.
 // Inlined, as what looks a name up by it and `put_name`: else an answer goes through memory. In proved builds a reading of the two texts of
 // `same_bytes` takes 13.0 and 12.2 per cent more instructions without the mark of `find_from`, 24.9 and 17.3 without that of `number`, 30.2 and 18.6
-// of `seek`, 5.6 and 1.9 of `stored`, 0.4 and 2.3 of `holder`, 1.2 and 2.7 of `put_name`.
+// of `seek`, 5.6 and 1.9 of `stored`, 0.4 and 2.3 of `holder`, 4.2 and 2.3 of `put_name`.
 // Kept: (b) a `for` that returns: with `find` of the range these readings take 28.3 and 20.3 per cent more (unproved builds), which misses the bar.
 #[inline(always)]
 fn find_from(text: &[u8], notes: &[u64], mark: u64, word: &[u8], slot: usize, many: usize) -> usize
@@ -506,11 +506,10 @@ impl Lent<'_> {
         ensures value { draft_in self.new ≡ draft.entered name.now.text.now kind i name.now.start name.now.end (draft_in self.old) }
         ensures same_lists { SameLists self.old self.new }
     {
-        let notes = &mut *self.notes;
-        let functions = contract::word(notes, FUNCTIONS) as usize;
+        let functions = self.note(FUNCTIONS) as usize;
         enter_row(self.table, functions, kind, i, name.word);
-        write_slot(notes, slot_of(kind) + i, name.mark, name);
-        items::set(notes, kind, i as u64 + 1);
+        write_slot(self.notes, slot_of(kind) + i, name.mark, name);
+        items::set(self.notes, kind, i as u64 + 1);
     }
 
     // One more name of a kind, within its limit; else question 11.
@@ -518,12 +517,11 @@ impl Lent<'_> {
         ensures value { draft_in self.new ≡ draft.entered_new name.now.text.now kind name.now.start name.now.end place (draft_in self.old) }
         ensures same_lists { SameLists self.old self.new }
     {
-        let notes = &mut *self.notes;
-        let n = contract::word(notes, kind) as usize;
+        let n = self.note(kind) as usize;
         if n < limit(kind) {
             self.enter(name, kind, n);
         } else {
-            find(notes, Question::Limits.number(), place);
+            find(self.notes, Question::Limits.number(), place);
         }
     }
 }
@@ -540,7 +538,7 @@ fn declare_notes(name: &NameAt, notes: &mut [u64], kind: usize)
 
 impl Lent<'_> {
     // A declared name.
-    // Kept: (a) a text and the places of a name in it are a public function's own parameters, any text and places; inside, `NameAt` has them.
+    // Kept: (a) these are a public function's own parameters, any text and places in it, and below any notes; inside, `NameAt` has them.
     pub fn declare(&mut self, text: &[u8], kind: usize, start: usize, end: usize)
         ensures value { draft_in self.new ≡ draft.declare text.now kind start end (draft_in self.old) }
         ensures same_lists { SameLists self.old self.new }
@@ -568,6 +566,8 @@ impl Lent<'_> {
         ensures same_lists { SameLists self.old self.new }
     {
         let name = NameAt::of(text, start, end);
+        // Lent by a name of its own, here and in the parsers: what a list holds after it was lent to be read through the struct has no name that a
+        // proof can cite.
         let notes = &mut *self.notes;
         let i = name.number(notes, kind);
         if many_of(notes, kind) <= i {
