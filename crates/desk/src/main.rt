@@ -237,7 +237,6 @@ impl Session {
 
 // Takes each line of standard input and fires the events that are due, as many at once as there is room for; the result lines go where they
 // are asked for.
-// Kept: (d) the table and the desk's parts go by themselves: `play` makes the parts, and has its own use for each when the session is over.
 fn take_session<W: Write>(
     rt: &(impl Input + Print + Errors),
     table: &[u64],

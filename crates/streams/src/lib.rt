@@ -96,7 +96,6 @@ pub fn load<R: Files>(rt: &R, path: &[u8], bytes: &mut [u8]) -> io::Result<usize
 
 /// Puts argument `i` at the buffer's start and answers its length: all of the buffer where it has no room for it, `None` past the last.
 /// Which arguments there are, and which bytes they have, std's contract of `Env::arg` does not say.
-// Kept: (d) a length, as std's own answer is: whoever lends room for a byte more than may be asks of the length alone whether it is too long.
 pub fn argument<R: Env>(rt: &R, i: usize, bytes: &mut [u8]) -> Option<usize>
     ensures { IfSome result (λ n. n ≤ length bytes.new) }
 {

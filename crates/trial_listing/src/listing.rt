@@ -80,7 +80,6 @@ impl Listing<'_> {
     // ---- functions
 
     // The n parameters of function f that stand from `from` on, with commas between them.
-    // Kept: (d) `from` is a place among a function's rows, as in `put_parameter`, and no kind.
     fn put_parameters(&mut self, f: usize, from: usize, n: usize) -> Put
         requires { from ≤ 8 }
     {

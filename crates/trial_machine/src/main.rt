@@ -206,7 +206,6 @@ impl Trial {
     }
 
     // The caller, the function and the values, and the assets behind a slash.
-    // Kept: (d) a word and the rest are two calls of the library, here and in the other trials: a function's contract would say them again.
     fn call(&self, alloc: Global, room: usize, words: &str) -> Result<Stepped, AllocError> {
         let (names, assets) = words.split_once('/').unwrap_or((words, ""));
         let (caller, names) = names.split_once(' ').unwrap_or((names, ""));
