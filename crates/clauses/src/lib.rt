@@ -14,7 +14,7 @@ use questions::Question;
 mod lists;
 
 // Declared names of a kind.
-// Kept: (a) a public parser takes any text and lists; what they have in common, `Lists` and `Lent`, holds facts of them.
+// Kept: (a) a public parser takes any text and lists, and has an equation for each list: `Lists` knows that its text is short, `Lent` is both lists.
 pub fn names(text: &[u8], table: &mut [u64], notes: &mut [u64], c: u64, kind: usize) -> u64
     ensures value { step_in text.now result ≡ step_after (entered text.now (walk.names text.now kind (cursor_in text.now c) (draft table.old notes.old))) }
     ensures table_after { table.new ≡ table_after table.old (entered text.now (walk.names text.now kind (cursor_in text.now c) (draft table.old notes.old))) }

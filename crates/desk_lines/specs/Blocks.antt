@@ -25,7 +25,7 @@ closed_size room size = pick (eqb size 0) 0 (pick (ltb size room) (suc size) 0)
 unfoldable pub closed : List ℕ → ℕ → List ℕ
 closed bytes size = pick (eqb size 0) bytes (set bytes size 10)
 
--- a question's number: none has 0
+-- a number that a result line has for its question; 0 stands for no question
 abbrev pub numbered : ℕ → Option ℕ
 numbered n = pick (eqb n 0) None (Some n)
 
