@@ -1,7 +1,7 @@
 // Values, and the checked arithmetic and comparisons on them. Each result is that of a definition over all integers.
 #![tactic(auto)]
 
-ghost use Rattle.std.specs.Prelude.{◌≡◌, pos, nat_abs, option_map, ok_or, Ok};
+ghost use Rattle.std.specs.Prelude.{◌≡◌, pos, option_map, ok_or, Ok};
 ghost use Rattle.questions.specs.declared.Question.TheVariants as ask;
 ghost use Rattle.numbers.specs.declared.Value.TheVariants.{Integer};
 ghost use Rattle.numbers.specs.Numbers.{in_range, divided, applied, integers, strings, compared};
@@ -39,14 +39,6 @@ pub enum Comparison {
     AtMost,
     Greater,
     AtLeast,
-}
-
-// The distance from zero.
-// Kept: (a) public, though its body is the library's function: callers and their edits name it.
-pub fn magnitude(a: i64) -> u64
-    ensures { result ≡ nat_abs a }
-{
-    a.unsigned_abs()
 }
 
 // An integer that was worked out, where 64 bits hold it.

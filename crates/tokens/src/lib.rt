@@ -25,7 +25,7 @@ pub struct Token {
 }
 
 // Kept: (a) the kinds are numbers and no enum: a token's kind is a byte, the number of a fixed word or one of these three, which the cursor of the
-// parsers holds in its bits, and `part` answers for any. The other constants are limits.
+// parsers holds in its bits, and `part` answers for any. The others are limits and a byte.
 impl Token {
     pub const NAME: u8 = 200;
 
@@ -81,8 +81,8 @@ fn is_printable(b: u8) -> bool
     matches!(b, b' '..=b'~')
 }
 
-// Kept: (b) by `matches!` a reading of accepted_limit_nodes_4096_shape_0 takes 2.1 per cent more instructions than by this, counted in unproved
-// builds; the bar, 1.5 times a plain program's count, leaves less than this, `name_end` and `read_digits` would take together (docs/TIMES.md).
+// Kept: (b) by `matches!` a reading of nodes_4096_shape_0 and nodes_4096_shape_4 of trial_reading takes 2.2 and 2.5 per cent more instructions than
+// by this (unproved builds): with two places of words, which `goes_on` there tells, past the bar (docs/TIMES.md); and four tests read as plainly.
 #[tactic(auto, unfolding(crate::specs::Classes::is_blank, laws::specs::Choice::pick))]
 fn is_blank(b: u8) -> bool
     ensures { result ≡ is_blank b }
@@ -113,7 +113,7 @@ pub fn is_string_byte(b: u8) -> bool
 }
 
 // The byte at i, and 0 past the end.
-// Kept: (d) `items::get_or` by a text's own word, which says at each of its uses that past the end a byte is 0.
+// Kept: (d) `items::get_or(text, i, 0)` by a name, which its seven uses would write out; each stands where a text may end.
 pub fn byte_at(text: &[u8], i: usize) -> u8
     ensures { result ≡ get_or text.now i 0 }
 {
@@ -150,27 +150,10 @@ fn comment_end(text: &[u8], at: usize) -> usize
 }
 
 // The end of the name bytes that start at `at`.
-// Kept: (b) by `run_end` a reading of accepted_limit_nodes_4096_shape_0 takes 1.6 per cent more instructions than by this loop, and one of
-// accepted_name_32_everywhere 4.5 per cent more, counted in unproved builds; by `for i in at..text.len()` both take more too.
 pub fn name_end(text: &[u8], at: usize) -> usize
     ensures { result ≡ at + run is_name_byte (drop at text.now) }
 {
-    let mut i = at;
-    while i < text.len() {
-        if is_name_byte(text[i]) {
-            i += 1;
-        } else {
-            return i;
-        }
-    }
-    i
-}
-
-// The end of the string bytes that start at `at`.
-fn string_end(text: &[u8], at: usize) -> usize
-    ensures { result ≡ at + run is_string_byte (drop at text.now) }
-{
-    run_end(text, at, is_string_byte)
+    run_end(text, at, is_name_byte)
 }
 
 // The end of digits, and their value; where that is greater than 2 ^ 63, the number after it.
@@ -184,7 +167,8 @@ impl Digits {
     // The most digits of a number of 64 bits.
     pub const MOST: usize = 20;
     // The number after 2 ^ 63.
-    // Kept: (a) a number for "too great", since `Digits` and its value are public; each reader's own limit judges it, as any other number.
+    // Kept: (d) no Option<u64>: a reader would ask first whether there is a number, then whether it is within its own limit; this one is beyond each
+    // limit, so that the second question answers both.
     const ABOVE: u64 = Value::LIMIT + 1;
 }
 
@@ -197,23 +181,17 @@ fn push(v: u64, digit: u8) -> u64
 }
 
 // The digits that start at `at`, gone over once.
-// Kept: (b) by `run_end`, and `fold` over the digits after it, a reading of accepted_limit_nodes_4096_shape_0 takes 0.8 per cent more instructions
-// than by this loop, counted in unproved builds.
 pub fn read_digits(text: &[u8], at: usize) -> Digits
     ensures { result ≡ digits_at text.now at }
 {
-    let mut value = 0;
-    for end in at..text.len() {
-        let b = text[end];
-        if !is_digit(b) {
-            return Digits { end, value };
-        }
-        value = push(value, b);
-    }
-    Digits {
-        end: at.max(text.len()),
-        value,
-    }
+    let none = Digits { end: at, value: 0 };
+    rest(text, at).iter().take_while(|b| is_digit(**b)).fold(
+        none,
+        |d, b| Digits {
+            end: d.end.saturating_add(1),
+            value: push(d.value, *b),
+        },
+    )
 }
 
 // The value of the digits at a place; where that is greater than 2 ^ 63, the number after it.
@@ -223,228 +201,236 @@ pub fn value_of(text: &[u8], at: usize) -> u64
     read_digits(text, at).value
 }
 
-// A token without a value.
-fn found(kind: u8, start: usize, end: usize) -> Lexed
-    ensures { result ≡ token kind start end 0 }
-{
-    Lexed::Found(Token {
-        kind,
-        start,
-        end,
-        value: 0,
-    })
-}
+static RESERVED: [u8; 7] = [
+    words::LEGAL_CONTRACT,
+    words::ASSETS,
+    words::FIELDS,
+    words::AGREEMENT,
+    words::NOW,
+    words::TRUE,
+    words::FALSE,
+];
 
-// A refusal by a question, with its place.
-fn refused(question: Question, at: usize) -> Lexed
-    ensures { result ≡ Lexed.Refused (number_of question) at }
-{
-    Lexed::Refused(question.number(), at)
-}
-
-// The word, if a name is this word, else NAME.
-#[tactic(auto, unfolding(laws::specs::Choice::pick))]
-fn word_or_name(name: &[u8], word: u8) -> u8
-    ensures { result ≡ pick (same_bytes name.now (spelled word)) word 200 }
-{
-    if words::is_word(name, word) {
-        word
-    } else {
-        Token::NAME
-    }
-}
-
-// The kind of a name: the reserved word that it is, told by its length first, or NAME.
-// Kept: (a) no byte strings as arms: how the fixed words are spelled stands in `words` alone; (b) by `find` over the reserved words a reading of
-// accepted_limit_nodes_4096_shape_0 takes 0.3 per cent more instructions, counted in unproved builds, which the bar does not leave beside the others
-// (`is_blank`).
+// The kind of a name: the reserved word that it is, or NAME.
 fn name_kind(name: &[u8]) -> u8
     ensures { result ≡ kind_among reserved name.now }
 {
-    match name.len() {
-        3 => word_or_name(name, words::NOW),
-        4 => word_or_name(name, words::TRUE),
-        5 => word_or_name(name, words::FALSE),
-        6 => {
-            if words::is_word(name, words::ASSETS) {
-                words::ASSETS
-            } else {
-                word_or_name(name, words::FIELDS)
-            }
-        }
-        9 => word_or_name(name, words::AGREEMENT),
-        14 => word_or_name(name, words::LEGAL_CONTRACT),
-        _ => Token::NAME,
-    }
+    RESERVED
+        .iter()
+        .copied()
+        .find(|word| words::is_word(name, *word))
+        .unwrap_or(Token::NAME)
 }
 
-// The name or reserved word that starts at i.
-fn name_at(text: &[u8], i: usize) -> Lexed
-    requires { (i < length text.now) × (is_letter (get_or text.now i 0) ≡ true) }
-    ensures { result ≡ name_at text.now i }
-{
-    let end = name_end(text, i + 1);
-    let fits = end - i <= Token::NAME_BYTES;
-    if fits {
-        found(name_kind(&text[i..end]), i, end)
-    } else {
-        refused(Question::WordLength, i)
-    }
+// A place inside a text.
+#[derive(Clone, Copy)]
+struct Here<'a> {
+    text: &'a [u8],
+    at: usize,
+    ghost inside: { at < length text.now },
 }
 
-#[tactic(auto, unfolding(crate::specs::Tokens::number_at, laws::specs::Choice::pick))]
-fn number_at(text: &[u8], i: usize) -> Lexed
-    ensures { result ≡ number_at text.now i }
-{
-    let d = read_digits(text, i);
-    if d.value <= Token::TOP {
+impl Here<'_> {
+    // A token without a value.
+    fn found(&self, kind: u8, end: usize) -> Lexed
+        ensures { result ≡ token kind self.now.at end 0 }
+    {
         Lexed::Found(Token {
-            kind: Token::NUMBER,
-            start: i,
-            end: d.end,
-            value: d.value,
+            kind,
+            start: self.at,
+            end,
+            value: 0,
         })
-    } else {
-        refused(Question::NumberSize, i)
     }
-}
 
-// The string that opens with the quote at i.
-// Kept: (d) a text and a place inside it stay two parameters, here and below: each of these functions hands the text and another place on to
-// functions over any place (`string_end`, `byte_at`, `words::continues`), so a struct of the two would be taken apart wherever it goes.
-#[tactic(auto, unfolding(crate::specs::Tokens::string_at, laws::specs::Choice::pick))]
-fn string_at(text: &[u8], i: usize) -> Lexed
-    requires { i < length text.now }
-    ensures { result ≡ string_at text.now i (run is_string_byte (drop (i + 1) text.now)) }
-{
-    let start = i + 1;
-    let end = string_end(text, start);
-    match text.get(end) {
-        Some(b'"') if end - start <= Token::STRING_BYTES => found(Token::STRING, i, end + 1),
-        Some(b'"') => refused(Question::WordLength, i),
-        _ => refused(Question::Token, i),
+    // A fixed word, of so many bytes.
+    fn word(&self, kind: u8, bytes: usize) -> Lexed
+        requires { bytes ≤ 6 }
+        ensures { result ≡ token kind self.now.at (self.now.at + bytes) 0 }
+    {
+        self.found(kind, self.at + bytes)
     }
-}
 
-// The long mark where its second byte follows the byte at i, else the other.
-#[tactic(auto, unfolding(laws::specs::Choice::pick))]
-fn pair_at(text: &[u8], i: usize, second: u8, long: u8, other: Lexed) -> Lexed
-    requires { i < length text.now }
-    ensures { result ≡ pick (eqb (get_or text.now (i + 1) 0) second) (token long i (i + 2) 0) other }
-{
-    if byte_at(text, i + 1) == second {
-        found(long, i, i + 2)
-    } else {
-        other
+    fn refused(&self, question: Question) -> Lexed
+        ensures { result ≡ Lexed.Refused (number_of question) self.now.at }
+    {
+        Lexed::Refused(question.number(), self.at)
     }
-}
 
-// The mark that starts with the `-` at i; `-o` only before no name byte.
-#[tactic(auto, using(crate::proofs::Marks::minus), unfolding(laws::specs::Choice::pick))]
-fn minus_at(text: &[u8], i: usize) -> Lexed
-    requires { (i < length text.now) × (get_or text.now i 0 ≡ 45) }
-    ensures { result ≡ mark_at marks text.now i }
-{
-    match byte_at(text, i + 1) {
-        b'>' => found(words::VALUE_ARROW, i, i + 2),
-        b'o' if !is_name_byte(byte_at(text, i + 2)) => found(words::ASSET_ARROW, i, i + 2),
-        _ => found(words::MINUS, i, i + 1),
+    // The name or reserved word.
+    fn name(&self) -> Lexed
+        requires { is_letter (get_or self.now.text.now self.now.at 0) ≡ true }
+        ensures { result ≡ name_at self.now.text.now self.now.at }
+    {
+        let end = name_end(self.text, self.at + 1);
+        let fits = end - self.at <= Token::NAME_BYTES;
+        if fits {
+            self.found(name_kind(&self.text[self.at..end]), end)
+        } else {
+            self.refused(Question::WordLength)
+        }
     }
-}
 
-// The mark that starts with the `=` at i.
-#[tactic(auto, using(crate::proofs::Marks::equals), unfolding(laws::specs::Choice::pick))]
-fn equals_at(text: &[u8], i: usize) -> Lexed
-    requires { (i < length text.now) × (get_or text.now i 0 ≡ 61) }
-    ensures { result ≡ mark_at marks text.now i }
-{
-    match byte_at(text, i + 1) {
-        b'>' => found(words::STATE_ARROW, i, i + 2),
-        b'=' => found(words::EQUAL, i, i + 2),
-        _ if words::continues(text, i, words::SET_ARROW) => found(words::SET_ARROW, i, i + 6),
-        _ if words::continues(text, i, words::OK_ARROW) => found(words::OK_ARROW, i, i + 5),
-        _ => refused(Question::Token, i),
+    #[tactic(auto, unfolding(crate::specs::Tokens::number_at, laws::specs::Choice::pick))]
+    fn number(&self) -> Lexed
+        ensures { result ≡ number_at self.now.text.now self.now.at }
+    {
+        let d = read_digits(self.text, self.at);
+        if d.value <= Token::TOP {
+            Lexed::Found(Token {
+                kind: Token::NUMBER,
+                start: self.at,
+                end: d.end,
+                value: d.value,
+            })
+        } else {
+            self.refused(Question::NumberSize)
+        }
     }
-}
 
-// The mark that starts with the `|` at i.
-#[tactic(auto, using(crate::proofs::Marks::bar), unfolding(laws::specs::Choice::pick))]
-fn bar_at(text: &[u8], i: usize) -> Lexed
-    requires { (i < length text.now) × (get_or text.now i 0 ≡ 124) }
-    ensures { result ≡ mark_at marks text.now i }
-{
-    if words::continues(text, i, words::MAPS_TO) {
-        return found(words::MAPS_TO, i, i + 3);
+    // The string that opens here with a quote.
+    #[tactic(auto, unfolding(crate::specs::Tokens::string_at, laws::specs::Choice::pick))]
+    fn string(&self) -> Lexed
+        ensures { result ≡ string_at self.now.text.now self.now.at (run is_string_byte (drop (self.now.at + 1) self.now.text.now)) }
+    {
+        let start = self.at + 1;
+        let end = run_end(self.text, start, is_string_byte);
+        match self.text.get(end) {
+            Some(b'"') if end - start <= Token::STRING_BYTES => self.found(Token::STRING, end + 1),
+            Some(b'"') => self.refused(Question::WordLength),
+            _ => self.refused(Question::Token),
+        }
     }
-    pair_at(text, i, b'|', words::OR, refused(Question::Token, i))
-}
 
-// The mark that starts at i, by its first byte.
-// Kept: (d) a match on the byte is no older form: each of the three functions that it calls requires the byte that its arm has tested, which
-// a table of functions or a closure does not know.
-fn mark_at(text: &[u8], i: usize) -> Lexed
-    requires { i < length text.now }
-    ensures { result ≡ mark_at marks text.now i }
-{
-    let e = i + 1;
-    let none = refused(Question::Token, i);
-    let b = text[i];
-    match b {
-        b'(' => found(words::OPEN_PAREN, i, e),
-        b')' => found(words::CLOSE_PAREN, i, e),
-        b'{' => found(words::OPEN_BRACE, i, e),
-        b'}' => found(words::CLOSE_BRACE, i, e),
-        b'[' => found(words::OPEN_BRACKET, i, e),
-        b']' => found(words::CLOSE_BRACKET, i, e),
-        b',' => found(words::COMMA, i, e),
-        b':' => found(words::COLON, i, e),
-        b'@' => found(words::AT_SIGN, i, e),
-        b'_' => found(words::UNDERSCORE, i, e),
-        b'+' => found(words::PLUS, i, e),
-        b'*' => found(words::TIMES, i, e),
-        b'/' => found(words::OVER, i, e),
-        b'~' => found(words::NOT, i, e),
-        b'-' => minus_at(text, i),
-        b'=' => equals_at(text, i),
-        b'|' => bar_at(text, i),
-        b'<' => pair_at(text, i, b'=', words::AT_MOST, found(words::LESS, i, e)),
-        b'>' => pair_at(
-            text,
-            i,
-            b'>',
-            words::EVENT_MARK,
-            pair_at(text, i, b'=', words::AT_LEAST, found(words::GREATER, i, e)),
-        ),
-        b'!' => pair_at(text, i, b'=', words::UNEQUAL, none),
-        b'&' => pair_at(text, i, b'&', words::AND, none),
-        _ => none,
+    // The byte after the first, and 0 past the end.
+    fn second(&self) -> u8
+        ensures { result ≡ get_or self.now.text.now (self.now.at + 1) 0 }
+    {
+        byte_at(self.text, self.at + 1)
     }
-}
 
-// What starts at i.
-// Kept: (d) a match on the byte's class is no older form: `name_at` requires the letter that its arm has tested, and a table of functions would
-// need an entry for each of the 256 bytes.
-#[tactic(auto, using(crate::proofs::Laws::letter_text, crate::proofs::Laws::digit_text, crate::proofs::Laws::quote_text), unfolding(crate::specs::Tokens::start_at, laws::specs::Choice::pick))]
-fn start_at(text: &[u8], i: usize) -> Lexed
-    requires { i < length text.now }
-    ensures { result ≡ start_at text.now i (get_or text.now i 0) }
-{
-    match text[i] {
-        b if is_letter(b) => name_at(text, i),
-        b if is_digit(b) => number_at(text, i),
-        b'"' => string_at(text, i),
-        b if is_text(b) => mark_at(text, i),
-        _ => refused(Question::Byte, i),
+    // The long mark where its second byte follows, else the other.
+    #[tactic(auto, unfolding(laws::specs::Choice::pick))]
+    fn pair(&self, second: u8, long: u8, other: Lexed) -> Lexed
+        ensures { result ≡ pick (eqb (get_or self.now.text.now (self.now.at + 1) 0) second) (token long self.now.at (self.now.at + 2) 0) other }
+    {
+        if self.second() == second {
+            self.word(long, 2)
+        } else {
+            other
+        }
     }
-}
 
-// Whether a comment opens at i.
-#[tactic(auto, unfolding(laws::specs::Choice::pick))]
-fn opens(text: &[u8], i: usize) -> bool
-    requires { i < length text.now }
-    ensures { result ≡ pick (eqb (get_or text.now i 0) 47) (eqb (get_or text.now (i + 1) 0) 47) false }
-{
-    text[i] == b'/' && byte_at(text, i + 1) == b'/'
+    // The mark that starts with `-`; `-o` only before no name byte.
+    #[tactic(auto, using(crate::proofs::Marks::minus), unfolding(laws::specs::Choice::pick))]
+    fn minus(&self) -> Lexed
+        requires { get_or self.now.text.now self.now.at 0 ≡ 45 }
+        ensures { result ≡ mark_at marks self.now.text.now self.now.at }
+    {
+        match self.second() {
+            b'>' => self.word(words::VALUE_ARROW, 2),
+            b'o' if !is_name_byte(byte_at(self.text, self.at + 2)) => self.word(
+                words::ASSET_ARROW,
+                2,
+            ),
+            _ => self.word(words::MINUS, 1),
+        }
+    }
+
+    // The mark that starts with `=`.
+    #[tactic(auto, using(crate::proofs::Marks::equals), unfolding(laws::specs::Choice::pick))]
+    fn equals(&self) -> Lexed
+        requires { get_or self.now.text.now self.now.at 0 ≡ 61 }
+        ensures { result ≡ mark_at marks self.now.text.now self.now.at }
+    {
+        match self.second() {
+            b'>' => self.word(words::STATE_ARROW, 2),
+            b'=' => self.word(words::EQUAL, 2),
+            _ if words::continues(self.text, self.at, words::SET_ARROW) => self.word(
+                words::SET_ARROW,
+                6,
+            ),
+            _ if words::continues(self.text, self.at, words::OK_ARROW) => self.word(
+                words::OK_ARROW,
+                5,
+            ),
+            _ => self.refused(Question::Token),
+        }
+    }
+
+    // The mark that starts with `|`.
+    #[tactic(auto, using(crate::proofs::Marks::bar), unfolding(laws::specs::Choice::pick))]
+    fn bar(&self) -> Lexed
+        requires { get_or self.now.text.now self.now.at 0 ≡ 124 }
+        ensures { result ≡ mark_at marks self.now.text.now self.now.at }
+    {
+        if words::continues(self.text, self.at, words::MAPS_TO) {
+            return self.word(words::MAPS_TO, 3);
+        }
+        self.pair(b'|', words::OR, self.refused(Question::Token))
+    }
+
+    // The mark that starts here, by its first byte.
+    // Kept: (d) a match on the byte is no older form: `minus`, `equals` and `bar` each require the byte that their arm has tested, which a table of
+    // functions or a closure does not know.
+    fn mark(&self) -> Lexed
+        ensures { result ≡ mark_at marks self.now.text.now self.now.at }
+    {
+        let none = self.refused(Question::Token);
+        let b = self.text[self.at];
+        match b {
+            b'(' => self.word(words::OPEN_PAREN, 1),
+            b')' => self.word(words::CLOSE_PAREN, 1),
+            b'{' => self.word(words::OPEN_BRACE, 1),
+            b'}' => self.word(words::CLOSE_BRACE, 1),
+            b'[' => self.word(words::OPEN_BRACKET, 1),
+            b']' => self.word(words::CLOSE_BRACKET, 1),
+            b',' => self.word(words::COMMA, 1),
+            b':' => self.word(words::COLON, 1),
+            b'@' => self.word(words::AT_SIGN, 1),
+            b'_' => self.word(words::UNDERSCORE, 1),
+            b'+' => self.word(words::PLUS, 1),
+            b'*' => self.word(words::TIMES, 1),
+            b'/' => self.word(words::OVER, 1),
+            b'~' => self.word(words::NOT, 1),
+            b'-' => self.minus(),
+            b'=' => self.equals(),
+            b'|' => self.bar(),
+            b'<' => self.pair(b'=', words::AT_MOST, self.word(words::LESS, 1)),
+            b'>' => self.pair(
+                b'>',
+                words::EVENT_MARK,
+                self.pair(b'=', words::AT_LEAST, self.word(words::GREATER, 1)),
+            ),
+            b'!' => self.pair(b'=', words::UNEQUAL, none),
+            b'&' => self.pair(b'&', words::AND, none),
+            _ => none,
+        }
+    }
+
+    // What starts here.
+    // Kept: (d) a match on the byte's class is no older form: `name` requires the letter that its arm has tested, and a table of functions would
+    // need an entry for each of the 256 bytes.
+    #[tactic(auto, using(crate::proofs::Laws::letter_text, crate::proofs::Laws::digit_text, crate::proofs::Laws::quote_text), unfolding(crate::specs::Tokens::start_at, laws::specs::Choice::pick))]
+    fn start(&self) -> Lexed
+        ensures { result ≡ start_at self.now.text.now self.now.at (get_or self.now.text.now self.now.at 0) }
+    {
+        match self.text[self.at] {
+            b if is_letter(b) => self.name(),
+            b if is_digit(b) => self.number(),
+            b'"' => self.string(),
+            b if is_text(b) => self.mark(),
+            _ => self.refused(Question::Byte),
+        }
+    }
+
+    // Whether a comment opens here.
+    #[tactic(auto, unfolding(laws::specs::Choice::pick))]
+    fn opens(&self) -> bool
+        ensures { result ≡ pick (eqb (get_or self.now.text.now self.now.at 0) 47) (eqb (get_or self.now.text.now (self.now.at + 1) 0) 47) false }
+    {
+        self.text[self.at] == b'/' && self.second() == b'/'
+    }
 }
 
 // The first token at or after `at`.
@@ -458,11 +444,12 @@ pub fn next(text: &[u8], at: usize) -> Lexed
             i += 1;
             continue;
         }
-        if opens(text, i) {
+        let here = Here { text, at: i };
+        if here.opens() {
             i = comment_end(text, i + 1);
             continue;
         }
-        return start_at(text, i);
+        return here.start();
     }
     Lexed::End
 }

@@ -1,36 +1,32 @@
--- A text compared with a word, one byte a turn. Assumes nothing.
-use mathlib.Core.Path.{◌≡◌, refl, ap}
-use mathlib.Core.List.{List, [], ◌∷◌}
-use mathlib.Core.Bool.{Bool, true, false}
-use Prim.Native.Nat.{ℕ, ◌+◌, ◌<◌, ◌≤◌}
-use native.Mathlib.Omega.{arith}
-use lib.ListN.{length, get_or, drop, drop_of_length-le}
-use lib.Dec.{eqb}
-use borrow.Author.Tests.{eq-eqb, ne_eqb}
+-- A text compared with a word, byte by byte. Assumes nothing.
+use Rattle.std.proofs.Common.{◌≡◌, refl, ap, arith, ℕ, ◌+◌, Bool, true, false, List, [], ◌∷◌, length, get_or, drop, eqb, ltb, ◌&&◌}
+use Rattle.std.specs.List.{list_all, enumerate_from}
+use lib.ListN.{drop_of_length-le}
+use borrow.Author.Tests.{ltb-true, ltb-false}
 use Rattle.laws.specs.Choice.{pick}
 use Rattle.laws.specs.Bytes.{same_bytes, starts_with}
 use Rattle.laws.proofs.Lists.{cons_at}
 
--- the text s from p on against the word w from i on
-module _ (s w : List ℕ) (p i : ℕ) where
-  -- the word is at its end
-  pub word_ends : length w ≤ i → starts_with (drop p s) (drop i w) ≡ true
-  unfolding starts_with
-  word_ends h = rw (drop_of_length-le w h)
+-- whether byte b of a word is the text's, k bytes from p on
+abbrev pub stands : List ℕ → ℕ → ℕ × ℕ → Bool
+stands s p x = pick (ltb (p + x.0) (length s)) (eqb (get_or s (p + x.0) 0) x.1) false
 
-  -- the text ends before the word
-  pub text_ends : i < length w → length s ≤ p → starts_with (drop p s) (drop i w) ≡ false
-  unfolding starts_with
-  text_ends h k = rw (drop_of_length-le s k, cons_at w i h)
+near : (a b : Bool) → a && b ≡ pick a b false
+unfolding pick
+near true b = refl
+near false b = refl
 
-  pub differs : i < length w → p < length s → (get_or s p 0 ≡ get_or w i 0 → ⊥) → starts_with (drop p s) (drop i w) ≡ false
-  unfolding starts_with pick
-  differs h k d = rw (cons_at s p k, cons_at w i h, ne_eqb (get_or s p 0) (get_or w i 0) d)
-
-  pub goes_on : i < length w → p < length s → get_or s p 0 ≡ get_or w i 0
-      → starts_with (drop p s) (drop i w) ≡ starts_with (drop (p + 1) s) (drop (i + 1) w)
-  unfolding starts_with pick
-  goes_on h k e = rw (cons_at s p k, cons_at w i h, eq-eqb (get_or s p 0) (get_or w i 0) e)
+pub stands_all : (w s : List ℕ) (p j : ℕ) → list_all (stands s p) (enumerate_from j w) ≡ starts_with (drop (p + j) s) w
+unfolding starts_with pick
+stands_all [] s p j = refl
+stands_all (y ∷ w) s p j = go (ltb (p + j) (length s)) refl (stands_all w s p (j + 1))
+  where
+    go : (b : Bool) → ltb (p + j) (length s) ≡ b → list_all (stands s p) (enumerate_from (j + 1) w) ≡ starts_with (drop (p + (j + 1)) s) w
+        → pick b (eqb (get_or s (p + j) 0) y) false && list_all (stands s p) (enumerate_from (j + 1) w) ≡ starts_with (drop (p + j) s) (y ∷ w)
+    go true e r =
+        let n : p + (j + 1) ≡ p + j + 1 = omega arith in
+        rw (cons_at s (p + j) (ltb-true _ _ e), ← n, ← r) (near (eqb (get_or s (p + j) 0) y) _)
+    go false e r = rw (drop_of_length-le s (ltb-false _ _ e)) refl
 
 -- of lists of one length, the same is to begin with
 pub same_starts : (a b : List ℕ) → length a ≡ length b → same_bytes a b ≡ starts_with a b

@@ -105,11 +105,7 @@ pub const REFUSED: u8 = 43;
 
 // What else a printed line holds.
 
-pub const EQUALS: u8 = 44;
-
 pub const QUOTE: u8 = 45;
-
-pub const SPACE: u8 = 46;
 
 pub const LINE_END: u8 = 47;
 
@@ -182,20 +178,14 @@ pub fn word_length(which: u8) -> usize
 }
 
 // Whether a text goes on with a word at a place, byte by byte.
-// Kept: (b) by `text.get(from..).unwrap_or(&[]).starts_with(word)` a reading of accepted_limit_nodes_4096_shape_0 takes 3.2 per cent more
-// instructions than by this loop, counted in unproved builds; the bar, 1.5 times a plain program's count, leaves less (docs/TIMES.md).
-#[tactic(auto, using(crate::proofs::Comparing::word_ends, crate::proofs::Comparing::text_ends, crate::proofs::Comparing::differs, crate::proofs::Comparing::goes_on))]
+// Kept: (b) by `text.get(from..).unwrap_or(&[]).starts_with(word)` a reading of nodes_4096_shape_0 of trial_reading takes 3.3 per cent more than by this,
+// by `==` in `is_word` 2.9, by `matches!` in `is_blank` of tokens 2.2 (unproved builds): together past the bar, which leaves 5.1 (docs/TIMES.md).
 fn goes_on(text: &[u8], from: usize, word: &[u8]) -> bool
     ensures { result ≡ starts_with (drop from text.now) word.now }
 {
-    let mut place = from;
-    for b in word {
-        if text.len() <= place || text[place] != *b {
-            return false;
-        }
-        place += 1;
-    }
-    true
+    word.iter()
+        .enumerate()
+        .all(|(k, b)| text.get(from.saturating_add(k)) == Some(b))
 }
 
 // Whether a text goes on with the fixed word at a place.
@@ -206,7 +196,7 @@ pub fn continues(text: &[u8], at: usize, which: u8) -> bool
 }
 
 // Whether a part of a text is the fixed word.
-// Kept: (b) by `part == spelling(which)` the same reading takes 2.7 per cent more instructions than by this length and `goes_on`.
+// Kept: (b) by `part == spelling(which)` the same reading takes 2.9 per cent more than by this length and `goes_on`, which tells the bar.
 #[tactic(auto, using(crate::proofs::Comparing::same_starts, laws::proofs::Bytes::same_length))]
 pub fn is_word(part: &[u8], which: u8) -> bool
     ensures { result ≡ same_bytes part.now (spelled which) }

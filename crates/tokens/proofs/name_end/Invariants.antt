@@ -1,14 +1,5 @@
--- `tokens::name_end` meets its contract. The invariant: the place and the run from there on make the same sum all along. Assumes nothing.
-use Prim.Native.Nat.{◌+◌, ◌-◌}
-use mathlib.Core.Path.{◌≡◌}
-use lib.ListN.{length, drop}
-use Rattle.tokens.specs.Classes.{is_name_byte, run}
+use Rattle.tokens.specs.Classes.{is_name_byte}
 use Rattle.tokens.proofs.name_end.Given as goal
 
-abbrev pub invariant-loop-i : goal.invariant-loop-i
-invariant-loop-i l =
-    l.i + run is_name_byte (drop l.i l.text) ≡ l.at + run is_name_byte (drop l.at l.text)
-
-abbrev pub decreases-loop-i : goal.decreases-loop-i
-decreases-loop-i l =
-    length l.text - l.i
+abbrev pub ghost-run_end : goal.ghost-run_end
+ghost-run_end a = is_name_byte

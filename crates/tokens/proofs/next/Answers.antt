@@ -30,7 +30,7 @@ returns-in-loop-i c =
     let a = c.args in
     let l = c.loop-i in
     let e : l.i ≡ a.at + gap false (drop a.at a.text.now) = omega (arith, l.invariant, no_comment a.text.now l.i c.loop-i-test.true (sym c.is_blank.ensures ∙ c.if-is_blank.false) (sym c.opens.ensures ∙ c.if-opens.false)) in
-    rw (← e, lt-ltb _ _ c.loop-i-test.true) c.start_at.ensures
+    rw (← e, lt-ltb _ _ c.loop-i-test.true) c.start.ensures
 
 pub returns : goal.returns
 unfolding token_at here pick gap
