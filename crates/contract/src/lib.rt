@@ -3,8 +3,8 @@
 
 ghost use Rattle.std.specs.Prelude.{◌≡◌, ◌+◌, ◌*◌, ◌≤◌, ◌<◌};
 ghost use Rattle.contract.specs.Table.{word_at, clause_word, parameters_start};
-ghost use Rattle.contract.specs.Decode.{packed_byte, word_of};
-ghost use Rattle.contract.specs.Rows.{head_of, function_row_of, event_row_of, clause_row_of, node_of};
+ghost use Rattle.contract.specs.Decode.{packed_byte, verb_of, word_of};
+ghost use Rattle.contract.specs.Rows.{head_of, function_row_of, event_row_of, clause_row_of, node_of, said};
 ghost use Rattle.contract.specs.Private.{RowAt};
 
 use tokens::Token;
@@ -167,9 +167,6 @@ pub enum Verb {
 
 // The verb that a word stands for; any that is no SET's stands for OK.
 impl From<usize> for Verb {
-    ghost use Rattle.contract.specs.Decode.{verb_of};
-    ghost use Rattle.contract.specs.Rows.{said};
-
     ghost from_gives = { λ word verb. said verb ≡ verb_of word };
 
     #[tactic(auto, unfolding(laws::specs::Choice::pick))]
@@ -198,6 +195,13 @@ impl Clause {
     pub const FIELDS: usize = 3;
 
     pub const WORDS: usize = Clause::FIELDS + Contract::FIELDS;
+
+    // What it does with its fields.
+    pub fn verb(&self) -> Verb
+        ensures { said result ≡ verb_of self.now.verb }
+    {
+        Verb::from(self.verb)
+    }
 }
 
 // A node: its parts stand before it. Of an expression, a condition or an event its size counts the nodes of its whole, of a
@@ -209,7 +213,8 @@ pub struct Node {
     pub size: usize,
 }
 
-// Kept: (a) kinds are numbers, since they stand in a lent table of words, of which question 3 judges whether each is one of these.
+// Kept: (a) kinds are numbers, since question 3 judges the kinds of a lent table: a node whose kind is none of these has to stay what it is until then,
+// where of the two verbs any word stands for one, and question 3 judges the word.
 impl Node {
     // Expressions.
     pub const CONSTANT: u64 = 1;
@@ -267,6 +272,12 @@ impl Node {
     pub const CONDITIONAL: u64 = 27;
 
     pub const EVENT: u64 = 28;
+    // At which of the words of a row its kind, its argument and its size stand, and the words of a row.
+    pub const KIND: usize = 0;
+
+    pub const ARGUMENT: usize = 1;
+
+    pub const SIZE: usize = 2;
 
     pub const WORDS: usize = 3;
 }
@@ -304,7 +315,7 @@ pub const NODES: usize = EVENTS + Contract::EVENTS * Event::WORDS;
 pub const PARAMETERS: usize = NODES + Contract::NODES * Node::WORDS;
 
 // Word i of a table, and 0 past its end.
-// Kept: (d) `items::get_or` by a table's own word, which says at each of its uses that past the end a word is 0.
+// Kept: (d) `items::get_or(.., 0)` by a name: the 0 would be written out at each of its nearly forty uses, where the definitions say `word_at`.
 pub fn word(table: &[u64], i: usize) -> u64
     ensures { result ≡ word_at table.now i }
 {
@@ -419,23 +430,20 @@ pub fn packed_length(table: &[u64], i: usize) -> u64
 }
 
 // Byte j of row i of the parameters.
-// Kept: (d) by division and remainder, as the definition; `u64::from(eight.to_le_bytes()[j % 8])` is no shorter, and has the byte widened again.
-#[tactic(auto, using(crate::proofs::Rows::byte_is))]
-pub fn packed_byte(table: &[u64], i: usize, j: usize) -> u64
+pub fn packed_byte(table: &[u64], i: usize, j: usize) -> u8
     ensures { result ≡ packed_byte table.now (parameters_start + i * 5) j }
 {
     let eight = word(table, row(table, PARAMETERS, PACKED_WORDS, i) + (1 + j / 8));
-    (eight >> (8 * (j % 8))) % 256
+    eight.to_le_bytes()[j % 8]
 }
 
-#[tactic(auto, using(crate::proofs::Rows::row_first))]
 pub fn node_at(table: &[u64], k: usize) -> Node
     ensures { result ≡ node_of table.now k }
 {
     let at = row(table, NODES, Node::WORDS, k);
     Node {
-        kind: word(table, at),
-        argument: word(table, at + 1),
-        size: number(table, at + 2),
+        kind: word(table, at + Node::KIND),
+        argument: word(table, at + Node::ARGUMENT),
+        size: number(table, at + Node::SIZE),
     }
 }

@@ -1,16 +1,14 @@
 -- Nodes, clauses, the head and the names, as the code finds them. Assumes nothing.
 use mathlib.Core.Path.{◌≡◌, refl, sym, subst, ◌∙◌}
 use mathlib.Core.Bool.{Bool, true, false, ◌&&◌}
-use mathlib.Core.List.{List, [], ◌∷◌}
+use mathlib.Core.List.{List}
 use Prim.Native.Nat.{ℕ, suc, ◌+◌, ◌*◌, ◌≤◌}
 use native.Mathlib.Omega.{arith}
 use native.Mathlib.Numerals.{add-one}
-use lib.Dec.{ltb, leb}
-use borrow.Author.Tests.{leb-true}
 use Rattle.laws.specs.Choice.{pick}
 use Rattle.contract.specs.Table.{word_at, kind_at}
 use Rattle.contract.specs.Rows.{head_of}
-use Rattle.laws.proofs.Truths.{link}
+use Rattle.contract.proofs.Passed.{head_passed}
 use Rattle.laws.specs.Lists.{all_below}
 use Rattle.contract.specs.declared.TableHead.{TableHead}
 use Rattle.contract.specs.Check.{is_sort, statement, statements_in, head_ok, name_ok, string_ok, names_ok}
@@ -37,38 +35,24 @@ pub record Limits (h : TableHead) : Type 0 where
   pub nodes : h.nodes ≤ 4096
 
 pub limits : (w : List ℕ) (h : TableHead) → h ≡ head_of w → head_ok w ≡ true → Limits h
-unfolding head_ok
 limits w h e f =
-    let t =
-    link
-    (leb (word_at w 0) 8
-    ∷ leb (word_at w 1) 16
-    ∷ leb (word_at w 2) 32
-    ∷ leb (word_at w 3) 32
-    ∷ leb (word_at w 4) 32
-    ∷ leb (word_at w 5) 16
-    ∷ leb (word_at w 6) 64
-    ∷ leb (word_at w 7) 64
-    ∷ leb (word_at w 8) 4096
-    ∷ ltb (word_at w 9) (word_at w 3)
-    ∷ [])
-    f in
+    let p = head_passed w f in
     subst Limits (sym e)
     (record {
-      parties = leb-true _ _ (t 0);
-      assets = leb-true _ _ (t 1);
-      fields = leb-true _ _ (t 2);
-      states = leb-true _ _ (t 3);
-      strings = leb-true _ _ (t 4);
-      functions = leb-true _ _ (t 6);
-      nodes = leb-true _ _ (t 8);
+      parties = p.parties;
+      assets = p.assets;
+      fields = p.fields;
+      states = p.states;
+      strings = p.strings;
+      functions = p.functions;
+      nodes = p.nodes;
     })
 
 pub functions_most : (w : List ℕ) → head_ok w ≡ true → word_at w 6 ≤ 64
-functions_most w e = (limits w (head_of w) refl e).functions
+functions_most w e = (head_passed w e).functions
 
 pub nodes_most : (w : List ℕ) → head_ok w ≡ true → word_at w 8 ≤ 4096
-nodes_most w e = (limits w (head_of w) refl e).nodes
+nodes_most w e = (head_passed w e).nodes
 
 pub and_assoc : (a b c : Bool) → (a && (b && c)) ≡ ((a && b) && c)
 and_assoc true b c = refl

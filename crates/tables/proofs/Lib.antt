@@ -1,4 +1,5 @@
 -- What the code's proofs use.
+pub mod Bytes
 pub mod Parts
 pub mod Checked
 pub mod Packed

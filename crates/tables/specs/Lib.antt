@@ -1,1 +1,2 @@
 pub mod Private
+pub mod Passing

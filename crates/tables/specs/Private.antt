@@ -26,9 +26,13 @@ abbrev pub StartsBy : check.Start → ℕ → Type 0
 StartsBy (check.at p) k = p ≤ k
 StartsBy check.nowhere k = Unit
 
+-- the node before `end` is of this sort and counts n nodes
+abbrev pub ends_whole : List ℕ → check.Sort → ℕ → ℕ → Bool
+ends_whole w s end n = check.is_sort s (kind_at w (end - 1)) && eqb (size_at w (end - 1)) n
+
 -- the statements of a block that end before node p count n nodes
 abbrev pub statements_before : List ℕ → ℕ → ℕ → ℕ → Bool
-statements_before w from p n = ltb from p && (check.is_sort check.statement (kind_at w (p - 1)) && eqb n (size_at w (p - 1)))
+statements_before w from p n = ltb from p && ends_whole w check.statement p n
 
 -- a statement whose parts are of these sorts, the last part first
 abbrev pub statement_by : List ℕ → ℕ → ℕ → List check.Sort → Bool

@@ -8,7 +8,7 @@ ghost use Rattle.laws.specs.Lists.{all_below};
 
 use crate::Table;
 use crate::names::{name_ok, packed_ok};
-use crate::nodes::{Scope, Sort, block_ok, is_sort};
+use crate::nodes::{Scope, Sort, block_ok, ends_whole};
 use contract::{Contract, Function, Node, event_at, function_at, head, node_at};
 
 impl Scope<'_> {
@@ -18,12 +18,7 @@ impl Scope<'_> {
         requires { first + n ≤ 4096 }
         ensures { result ≡ precondition_ok self.now.table.now (scope_at self.now.table.now self.now.values self.now.parameters) first n }
     {
-        if n == 0 {
-            return true;
-        }
-        let table = self.table;
-        let last = node_at(table, first + n - 1);
-        is_sort(Sort::Condition, last.kind) && last.size == n && self.nodes_ok(first, n)
+        n == 0 || ends_whole(self.table, Sort::Condition, first + n, n) && self.nodes_ok(first, n)
     }
 
     // The statements in the n nodes from `first` on.
@@ -42,14 +37,12 @@ impl Scope<'_> {
         ensures { result ≡ guarded_ok self.now.table.now (scope_at self.now.table.now self.now.values self.now.parameters) first start handler }
     {
         let table = self.table;
-        let guard = node_at(table, start - 1);
         let none = Scope {
             table,
             values: 0,
             parameters: 0,
         };
-        is_sort(Sort::Expression, guard.kind)
-            && guard.size == start - first
+        ends_whole(table, Sort::Expression, start, start - first)
             && self.nodes_ok(first, start - first)
             && none.body_ok(start, handler)
     }

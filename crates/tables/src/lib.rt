@@ -112,3 +112,26 @@ pub fn table_passes(table: &[u64]) -> bool
 {
     table.as_array().is_some_and(whole_passes)
 }
+
+// A table that passes.
+#[derive(Clone, Copy)]
+pub struct Passed<'a> {
+    pub table: &'a [u64],
+    pub ghost whole: { passes table.now ≡ true },
+}
+
+impl<'a> Passed<'a> {
+    ghost use Rattle.tables.specs.Passing.{passing, held};
+
+    // The table, if it passes question 3.
+    #[tactic(auto, unfolding(laws::specs::Choice::pick))]
+    pub fn of(table: &'a [u64]) -> Option<Passed<'a>>
+        ensures { held result ≡ passing table.now }
+    {
+        if table_passes(table) {
+            Some(Passed { table })
+        } else {
+            None
+        }
+    }
+}

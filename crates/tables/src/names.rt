@@ -7,10 +7,12 @@ ghost use Rattle.contract.specs.Check.{name_ok, string_ok, packed_ok};
 ghost use Rattle.laws.specs.Lists.{all_below};
 
 use crate::Table;
-use contract::{Contract, packed_byte, packed_length, word};
+use contract::{Contract, bytes_at, packed_byte, packed_length, word};
 
-// The longest name.
+// The longest name, and the longest string.
 const NAME: u64 = Contract::NAME as u64;
+
+const STRING: u64 = Contract::STRING as u64;
 
 // Kept: (d) here and below one line over a byte's test: one function for the three would take the test as a closure, and with it clauses on where that
 // may be called, on what it answers, and that a word above 255 fails it.
@@ -41,23 +43,23 @@ pub(crate) fn name_ok(table: &Table, o: usize) -> bool
     requires { o + 33 ≤ 24659 }
     ensures { result ≡ name_ok table.now o }
 {
-    let n = word(table, o);
-    matches!(n, 1..=NAME)
-        && is_letter(word(table, o + 1))
-        && (0..n as usize - 1).all(|j| is_name_byte(table[o + 2 + j]))
+    let [first, others @ ..] = bytes_at(table, o) else {
+        return false;
+    };
+    word(table, o) <= NAME && is_letter(*first) && others.iter().all(|w| is_name_byte(*w))
 }
 
 // A name of 1 to 32 bytes in row i of the parameters.
-// Kept: (d) the same three tests as of `name_ok`: one function for both would take the reader of byte j as a closure, and with it clauses on where
-// that may be called and on what it answers.
+// Kept: (d) the tests of `name_ok`, of bytes that stand eight in a word: a packed name is no slice, and one function for both would take its bytes as
+// an iterator, and with it clauses on what that gives.
 #[tactic(auto, using(crate::proofs::Packed::packed_is), unfolding(contract::specs::Check::ranges))]
 pub(crate) fn packed_ok(table: &Table, i: usize) -> bool
     ensures { result ≡ packed_ok table.now (parameters_start + i * 5) }
 {
     let n = packed_length(table, i);
     matches!(n, 1..=NAME)
-        && is_letter(packed_byte(table, i, 0))
-        && (0..n as usize - 1).all(|j| is_name_byte(packed_byte(table, i, 1 + j)))
+        && tokens::is_letter(packed_byte(table, i, 0))
+        && (1..n as usize).all(|j| tokens::is_name_byte(packed_byte(table, i, j)))
 }
 
 // A string of up to 64 bytes, its length at o.
@@ -66,8 +68,7 @@ fn string_ok(table: &Table, o: usize) -> bool
     requires { o + 65 ≤ 24659 }
     ensures { result ≡ string_ok table.now o }
 {
-    let n = word(table, o);
-    n <= Contract::STRING as u64 && (0..n as usize).all(|j| is_string_byte(table[o + 1 + j]))
+    word(table, o) <= STRING && bytes_at(table, o).iter().all(|w| is_string_byte(*w))
 }
 
 // The names of a section of count rows.

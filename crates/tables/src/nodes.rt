@@ -1,10 +1,10 @@
 // Nodes of a table: each names what is there, and stands after its parts and counts them.
-ghost use Rattle.std.specs.Prelude.{◌≡◌, ◌||◌, [], ◌∷◌, suc, ◌+◌, ◌≤◌, ◌<◌};
+ghost use Rattle.std.specs.Prelude.{◌≡◌, [], ◌∷◌, suc, ◌+◌, ◌≤◌, ◌<◌};
 ghost use Rattle.laws.specs.Choice.{pick};
-ghost use Rattle.contract.specs.Check.{ranges, is_sort, statement, expression, holder, asset_target, part_start, parts_start, whole_from, statement_from, block_ok, conditional_start, leaf_ok, whole_ok, is_leaf, node_ok, nodes_ok, scope_at};
+ghost use Rattle.contract.specs.Check.{is_sort, statement, expression, holder, asset_target, part_start, parts_start, whole_from, statement_from, block_ok, conditional_start, leaf_ok, whole_ok, is_leaf, node_ok, nodes_ok, scope_at};
 ghost use Rattle.contract.specs.Rows.{node_of};
 ghost use Rattle.contract.specs.Table.{word_at};
-ghost use Rattle.tables.specs.Private.{sort_of, start_of, StartsBy, statements_before, statement_start};
+ghost use Rattle.tables.specs.Private.{sort_of, start_of, StartsBy, ends_whole, statements_before, statement_start};
 
 use crate::Table;
 use contract::{Contract, Function, Node, TableHead, node_at, word};
@@ -48,20 +48,13 @@ fn is_leaf(kind: u64) -> bool
     )
 }
 
-// Whether the parts of nodes of a kind are two expressions.
-#[tactic(auto, unfolding(contract::specs::Check::ranges))]
-fn takes_expressions(kind: u64) -> bool
-    ensures { result ≡ (ranges 8 kind 11 || ranges 14 kind 19) }
+// Whether the node before `end` is of this sort and counts n nodes.
+pub(crate) fn ends_whole(table: &Table, sort: Sort, end: usize, n: usize) -> bool
+    requires { 0 < end }
+    ensures { result ≡ ends_whole table.now (sort_of sort) end n }
 {
-    matches!(kind, Node::PLUS..=Node::OVER | Node::EQUAL..=Node::AT_LEAST)
-}
-
-// Whether the parts of nodes of a kind are two conditions.
-#[tactic(auto, unfolding(contract::specs::Check::ranges))]
-fn takes_conditions(kind: u64) -> bool
-    ensures { result ≡ ranges 21 kind 22 }
-{
-    matches!(kind, Node::AND | Node::OR)
+    let last = node_at(table, end - 1);
+    is_sort(sort, last.kind) && last.size == n
 }
 
 // Whether there is a block in the n nodes before `end`: none, or its last statement counts them all.
@@ -70,11 +63,7 @@ pub(crate) fn block_ok(table: &Table, end: usize, n: usize) -> bool
     requires { n ≤ end }
     ensures { result ≡ block_ok table.now end n }
 {
-    if n == 0 {
-        return true;
-    }
-    let last = node_at(table, end - 1);
-    is_sort(Sort::Statement, last.kind) && last.size == n
+    n == 0 || ends_whole(table, Sort::Statement, end, n)
 }
 
 // So many value parameters and asset parameters, which nodes of a table may name.
@@ -217,12 +206,7 @@ impl NodeAt<'_> {
     fn statements_before(&self, p: usize, n: usize) -> bool
         ensures { result ≡ statements_before self.now.scope.table.now self.now.from p n }
     {
-        if p <= self.from {
-            return false;
-        }
-        let table = self.scope.table;
-        let before = node_at(table, p - 1);
-        is_sort(Sort::Statement, before.kind) && n == before.size
+        self.from < p && ends_whole(self.scope.table, Sort::Statement, p, n)
     }
 
     // Whether a statement counts its own parts, which start there, itself, and the statements before it in its block.
@@ -242,22 +226,20 @@ impl NodeAt<'_> {
     }
 
     // Whether a node with parts counts them.
+    #[tactic(auto, using(crate::proofs::Parts::parts_by, crate::proofs::Parts::parts_one, crate::proofs::Parts::statement_by, crate::proofs::Parts::statement_is), unfolding(contract::specs::Check::whole_ok, contract::specs::Check::ranges, laws::specs::Choice::pick))]
     fn whole_ok(&self) -> bool
         ensures { result ≡ whole_ok self.now.scope.table.now self.now.from self.now.k self.now.node.kind }
     {
-        let kind = self.node.kind;
-        if takes_expressions(kind) {
-            let start = self.pair_start(Sort::Expression, Sort::Expression, self.k);
-            return self.counts(start);
+        match self.node.kind {
+            Node::PLUS..=Node::OVER | Node::EQUAL..=Node::AT_LEAST => {
+                self.counts(self.pair_start(Sort::Expression, Sort::Expression, self.k))
+            }
+            Node::NOT => self.counts(self.part_start(Sort::Condition, self.k)),
+            Node::AND | Node::OR => {
+                self.counts(self.pair_start(Sort::Condition, Sort::Condition, self.k))
+            }
+            _ => self.counts_block(self.statement_start()),
         }
-        if kind == Node::NOT {
-            return self.counts(self.part_start(Sort::Condition, self.k));
-        }
-        if takes_conditions(kind) {
-            let start = self.pair_start(Sort::Condition, Sort::Condition, self.k);
-            return self.counts(start);
-        }
-        self.counts_block(self.statement_start())
     }
 
     // One more than count where this is a statement.
@@ -288,6 +270,8 @@ impl NodeAt<'_> {
 
 impl Scope<'_> {
     // The n nodes from `from` on, each with its parts among them, and not too many statements.
+    // Kept: (d) two numbers here, in `precondition_ok` and `body_ok`, three in `guarded_ok`, with a line that bounds them: a struct with the bound as a
+    // ghost field was tried, and took 33 lines more: the struct, where its nodes end, and four lines at each of the calls that make one.
     // Kept: (d) a count goes on beside the index, and a node that fails ends both: by `try_fold` the count stands in an Option, to be opened again.
     pub(crate) fn nodes_ok(&self, from: usize, n: usize) -> bool
         requires { from + n ≤ 4096 }

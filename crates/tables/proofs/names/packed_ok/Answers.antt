@@ -1,6 +1,6 @@
-use Rattle.std.proofs.Common.{rules, ℕ, Bool, ◌≡◌, ◌+◌, ◌-◌, ◌*◌}
-use Rattle.laws.specs.Lists.{all_below}
-use Rattle.laws.proofs.Ranges.{all_numbers}
+use Rattle.std.proofs.Common.{rules, refl, ◌+◌, ◌*◌}
+use Rattle.std.proofs.lemmas.Iterator.{YieldsList-from_range}
+use Rattle.std.proofs.lemmas.Iterator.Search.{all_from_yields_List}
 use Rattle.tokens.specs.Classes.{is_name_byte}
 use Rattle.contract.specs.Table.{parameters_start}
 use Rattle.contract.specs.Decode.{packed_byte}
@@ -11,7 +11,7 @@ use Rattle.tables.proofs.names.packed_ok.Goals as goal
 pub returns-then-is_letter : goal.returns-then-is_letter
 unfolding ranges
 returns-then-is_letter c =
+    let w = c.args.table.now in
     let o = parameters_start + c.args.i * 5 in
-    let test : ℕ → Bool = λ j. is_name_byte (packed_byte c.args.table.now o (1 + j)) in
-    let a : c.all.result ≡ all_below (c.packed_length-n.result - 1) test = all_numbers (c.packed_length-n.result - 1) test _ _ c.all.result c.all.ensures.ran (λ x b q k. search rules) in
-    search (rules, a, packed_is c.args.table.now o)
+    let a = all_from_yields_List (λ j. is_name_byte (packed_byte w o j)) _ _ c.all.result c.all.ensures.ran (YieldsList-from_range 1 _ _ refl refl) (λ x b q k. search rules) in
+    search (rules, a, packed_is w o)
