@@ -12,7 +12,7 @@ use questions::Question;
 use tokens::Token;
 
 // A statement: its first token, its block's first node, and whether it is in a handler.
-// Kept: (d) a text that is short, here and in `Block`, as in `Lists` of clauses.
+// Kept: (a) a text that is short, here and in `Block`, as in `Lists` of clauses.
 #[derive(Clone, Copy)]
 pub(crate) struct Statement<'a> {
     pub(crate) text: &'a [u8],
@@ -25,8 +25,7 @@ pub(crate) struct Statement<'a> {
 
 impl Statement<'_> {
     // E -> t, at t.
-    // Kept: (d) that c is no stop, here and below: with a type that says so crate clauses had 49 lines more, since a parser's answer is a cursor or a
-    // stop in one number, and is wrapped again before the next parser takes it.
+    // Kept: (d) that c is no stop, here and below, as in `Lists::one` of clauses.
     fn sends(&self, lent: &mut Lent, c: u64) -> u64
         requires { is_stop c ≡ false }
         ensures value { Follows self.now.text.now (walk.sends self.now.text.now (cursor_in self.now.text.now self.now.first) self.now.from (cursor_in self.now.text.now c)) result lent.old lent.new }
@@ -35,17 +34,15 @@ impl Statement<'_> {
         if cursors::kind_of(c) != Token::NAME {
             return cursors::unfit(self.text, c);
         }
-        let notes = &mut *lent.notes;
-        entries::count(notes, entries::STATEMENT, cursors::start_of(self.first));
-        let target = entries::value_target(
-            self.text,
-            notes,
-            cursors::start_of(c),
-            cursors::end_of(c),
+        entries::count(
+            lent.notes,
+            entries::STATEMENT,
+            cursors::start_of(self.first),
         );
+        let target = cursors::name_at(self.text, c).value_target(lent);
         lent.put_name(target, cursors::start_of(c));
         lent.put(Node::VALUE_MOVE, 0, self.from);
-        cursors::lex(self.text, cursors::end_of(c))
+        cursors::past(self.text, c)
     }
 
     // E -o h, t, at t.
@@ -57,27 +54,17 @@ impl Statement<'_> {
         if cursors::kind_of(c) != Token::NAME {
             return cursors::unfit(self.text, c);
         }
-        let notes = &mut *lent.notes;
-        entries::count(notes, entries::STATEMENT, cursors::start_of(self.first));
-        let holder = entries::holder(
-            self.text,
-            notes,
-            self.handler,
-            cursors::start_of(source),
-            cursors::end_of(source),
+        entries::count(
+            lent.notes,
+            entries::STATEMENT,
+            cursors::start_of(self.first),
         );
+        let holder = cursors::name_at(self.text, source).holder(lent, self.handler);
         lent.put_name(holder, cursors::start_of(source));
-        let notes = &mut *lent.notes;
-        let target = entries::asset_target(
-            self.text,
-            notes,
-            self.handler,
-            cursors::start_of(c),
-            cursors::end_of(c),
-        );
+        let target = cursors::name_at(self.text, c).asset_target(lent, self.handler);
         lent.put_name(target, cursors::start_of(c));
         lent.put(Node::ASSET_MOVE, 0, self.from);
-        cursors::lex(self.text, cursors::end_of(c))
+        cursors::past(self.text, c)
     }
 
     // h -o t, at t.
@@ -87,25 +74,16 @@ impl Statement<'_> {
         ensures same_lists { SameLists lent.old lent.new }
     {
         let before = lent.nodes();
-        let notes = &mut *lent.notes;
-        entries::count(notes, entries::STATEMENT, cursors::start_of(self.first));
-        entries::count(notes, entries::NODE, cursors::start_of(c));
-        let holder = entries::holder(
-            self.text,
-            notes,
-            self.handler,
+        entries::count(
+            lent.notes,
+            entries::STATEMENT,
             cursors::start_of(self.first),
-            cursors::end_of(self.first),
         );
-        let target = entries::asset_target(
-            self.text,
-            notes,
-            self.handler,
-            cursors::start_of(c),
-            cursors::end_of(c),
-        );
-        entries::want(notes, holder, cursors::start_of(self.first));
-        entries::want(notes, target, cursors::start_of(c));
+        entries::count(lent.notes, entries::NODE, cursors::start_of(c));
+        let holder = cursors::name_at(self.text, self.first).holder(lent, self.handler);
+        let target = cursors::name_at(self.text, c).asset_target(lent, self.handler);
+        entries::want(lent.notes, holder, cursors::start_of(self.first));
+        entries::want(lent.notes, target, cursors::start_of(c));
         lent.put(target.kind, target.number, before);
         lent.put(Node::WHOLE_MOVE, 0, self.from);
     }
@@ -119,9 +97,9 @@ impl Statement<'_> {
         if cursors::kind_of(c) != Token::NAME {
             return cursors::unfit(self.text, c);
         }
-        let d = cursors::lex(self.text, cursors::end_of(c));
+        let d = cursors::past(self.text, c);
         if cursors::kind_of(d) == words::COMMA {
-            return self.moves(lent, c, cursors::lex(self.text, cursors::end_of(d)));
+            return self.moves(lent, c, cursors::past(self.text, d));
         }
         if alone {
             self.moves_all(lent, c);
@@ -137,10 +115,10 @@ impl Statement<'_> {
         ensures same_lists { SameLists lent.old lent.new }
     {
         match cursors::kind_of(c) {
-            words::VALUE_ARROW => self.sends(lent, cursors::lex(self.text, cursors::end_of(c))),
+            words::VALUE_ARROW => self.sends(lent, cursors::past(self.text, c)),
             words::ASSET_ARROW => {
                 let alone = is_alone(self.first, c);
-                self.asset_move(lent, alone, cursors::lex(self.text, cursors::end_of(c)))
+                self.asset_move(lent, alone, cursors::past(self.text, c))
             }
             _ => cursors::unfit(self.text, c),
         }
@@ -165,7 +143,7 @@ pub(crate) fn is_start(kind: u8) -> bool
 }
 
 // Where statements stand: how many levels are left, whether in a handler, and the first node of their block.
-// Kept: (d) a text that is short, as in `Statement`.
+// Kept: (a) a text that is short, as in `Statement`.
 #[derive(Clone, Copy)]
 pub(crate) struct Block<'a> {
     pub(crate) text: &'a [u8],
@@ -186,14 +164,7 @@ impl Block<'_> {
             return self.conditional(lent, c);
         }
         entries::count(lent.notes, entries::NODE, cursors::start_of(c));
-        let after = expressions::expression(
-            self.text,
-            lent.table,
-            lent.notes,
-            c,
-            self.levels,
-            self.handler,
-        );
+        let after = expressions::expression(self.text, lent, c, self.levels, self.handler);
         if cursors::stops(after) {
             return after;
         }
@@ -207,9 +178,9 @@ impl Block<'_> {
     }
 
     // The statements of a block.
-    // Kept: (d) a loop of a few lines over a parser of its own: over two closures, what begins one and what reads it, it would be no shorter;
-    // as many turns as the definition counts (its fuel is the text's length); with a `while` over the token's kind a proof would first have to
-    // show that each turn goes on in the text, which nothing else asks.
+    // Kept: (c) as many turns as the text has bytes, which the definition counts too: with a `while` over the kind, as in `Lists::list` of clauses, a
+    // proof would first have to show that each statement ends further in the text, thus each expression: no law says so. (d) Over two closures, what
+    // begins one and what reads it, the loop would be no shorter.
     #[cycle(blocks)]
     fn statements(&self, lent: &mut Lent, c: u64) -> u64
         requires { is_stop c ≡ false }
@@ -265,7 +236,7 @@ impl Block<'_> {
     {
         let place = cursors::start_of(c);
         if self.levels == 0 {
-            return cursors::stop(Question::Levels as u8, place);
+            return cursors::stop(Question::Levels.number(), place);
         }
         let opened = cursors::token(self.text, c, words::OPEN_PAREN);
         if cursors::stops(opened) {
@@ -273,14 +244,7 @@ impl Block<'_> {
         }
         entries::count(lent.notes, entries::NODE, place);
         entries::count(lent.notes, entries::STATEMENT, place);
-        let inner = expressions::condition(
-            self.text,
-            lent.table,
-            lent.notes,
-            opened,
-            self.levels - 1,
-            self.handler,
-        );
+        let inner = expressions::condition(self.text, lent, opened, self.levels - 1, self.handler);
         let closed = cursors::close(self.text, inner);
         if cursors::stops(closed) {
             return closed;

@@ -1,6 +1,5 @@
 // Bodies: statements, and events with their handlers.
-ghost use Rattle.std.specs.Prelude.{◌≡◌, Bool, true, false, [], ◌-◌, ◌≤◌, length, set};
-ghost use Rattle.entries.specs.Draft.{note};
+ghost use Rattle.std.specs.Prelude.{◌≡◌, Bool, true, false, [], ◌≤◌, length};
 ghost use Rattle.entries.specs.Lending.{SameLists};
 ghost use Rattle.cursors.specs.Packed.{is_stop, cursor_in};
 ghost use Rattle.cursors.specs.Following.{Follows};
@@ -22,7 +21,7 @@ fn one_more(notes: &mut [u64])
 }
 
 // A text with bodies, short enough for cursors.
-// Kept: (d) a text that is short, here and in `Body`, as in `Lists` of clauses.
+// Kept: (a) a text that is short, here and in `Body`, as in `Lists` of clauses.
 #[derive(Clone, Copy)]
 pub(crate) struct Bodies<'a> {
     pub(crate) text: &'a [u8],
@@ -57,7 +56,7 @@ impl Bodies<'_> {
         let node = lent.nodes();
         lent.put(Node::EVENT, handler as u64, before);
         entries::event_row(lent.table, i, state, last, node);
-        cursors::lex(self.text, cursors::end_of(name))
+        cursors::past(self.text, name)
     }
 
     // >> @Q { S } => @Q' after a guard at `place` whose first node is `before`.
@@ -85,7 +84,7 @@ impl Bodies<'_> {
             handler: true,
             from,
         };
-        let after = block.braces(lent, cursors::lex(self.text, cursors::end_of(name)));
+        let after = block.braces(lent, cursors::past(self.text, name));
         if cursors::stops(after) {
             return after;
         }
@@ -127,15 +126,6 @@ struct Body<'a> {
 }
 
 impl Body<'_> {
-    // The nodes of the body from `from` on.
-    // Kept: (d) the notes alone, though `Lent::nodes_since` counts so: with both lists a clause would have to say that the table stays.
-    fn grow(&self, notes: &mut [u64])
-        ensures { notes.new ≡ set notes.old 604 (note notes.old 14 - self.now.from) }
-    {
-        let written = contract::word(notes, entries::WRITTEN) as usize;
-        items::set(notes, Notes::BODY, written.saturating_sub(self.from) as u64);
-    }
-
     // A statement or an event, after its expression.
     fn body_rest(&self, lent: &mut Lent, c: u64, first: u64, before: usize) -> u64
         requires { (is_stop c ≡ false) × (is_stop first ≡ false) }
@@ -164,7 +154,8 @@ impl Body<'_> {
         if cursors::stops(after) {
             return after;
         }
-        self.grow(lent.notes);
+        let written = lent.nodes_since(self.from) as u64;
+        items::set(lent.notes, Notes::BODY, written);
         after
     }
 
@@ -187,7 +178,8 @@ impl Body<'_> {
         if cursors::stops(after) {
             return after;
         }
-        self.grow(lent.notes);
+        let written = lent.nodes_since(self.from) as u64;
+        items::set(lent.notes, Notes::BODY, written);
         after
     }
 
@@ -202,14 +194,7 @@ impl Body<'_> {
         }
         let before = lent.nodes();
         entries::count(lent.notes, entries::NODE, cursors::start_of(c));
-        let after = expressions::expression(
-            self.text,
-            lent.table,
-            lent.notes,
-            c,
-            Contract::LEVELS,
-            false,
-        );
+        let after = expressions::expression(self.text, lent, c, Contract::LEVELS, false);
         if cursors::stops(after) {
             return after;
         }
@@ -217,8 +202,7 @@ impl Body<'_> {
     }
 
     // The statements and events of a body.
-    // Kept: (d) a loop of a few lines over a parser of its own: over two closures, what begins one and what reads it, it would be no shorter; as
-    // many turns as the definition counts, as in `statements`.
+    // Kept: (c) and (d) a loop of its own, with as many turns as the text has bytes, as `statements`.
     fn body_items(&self, lent: &mut Lent, c: u64) -> u64
         requires { is_stop c ≡ false }
         ensures value { Follows self.now.text.now (walk.body_items self.now.text.now self.now.from (length self.now.text.now) (cursor_in self.now.text.now c)) result lent.old lent.new }

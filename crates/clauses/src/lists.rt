@@ -7,7 +7,7 @@ ghost use Rattle.clauses.specs.Private.{entered, one_listed, list_of};
 ghost use Rattle.reading_laws.specs.Walk as walk;
 
 use contract::Verb;
-use entries::Lent;
+use entries::{Lent, NameAt};
 use tokens::Token;
 
 // What the names of a list are: declared, of a kind, or the fields of the clause at hand.
@@ -18,10 +18,23 @@ pub(crate) enum Listed {
     Fields,
 }
 
+impl Listed {
+    // Enters such a name.
+    fn enter(self, lent: &mut Lent, name: &NameAt)
+        ensures value { draft_in lent.new ≡ entered name.now.text.now self name.now.start name.now.end (draft_in lent.old) }
+        ensures same_lists { SameLists lent.old lent.new }
+    {
+        match self {
+            Listed::Declared(kind) => lent.declare(name, kind),
+            Listed::Fields => lent.clause_field(name),
+        }
+    }
+}
+
 // A text with lists of names, short enough for cursors.
-// Kept: (d) one such struct in each of the parsers' crates, since a type of another crate takes methods by a trait alone, which would declare each
-// parser twice: a `cursors::Text` would be a field of each, and each of the uses of `self.text` a `self.text.bytes`, with the test of its length no
-// line shorter.
+// Kept: (a) such structs in the parsers' crates, eight in all: the public functions of crate cursors (`lex`, `past`, `token`, `unfit` and others) take any
+// text, so that a `cursors::Text` which knows that it is short would ask more of their callers or stand beside them; and crate cursors alone could
+// declare methods of it.
 #[derive(Clone, Copy)]
 pub(crate) struct Lists<'a> {
     pub(crate) text: &'a [u8],
@@ -29,17 +42,6 @@ pub(crate) struct Lists<'a> {
 }
 
 impl Lists<'_> {
-    // Kept: (d) no conversion: each case calls the method of the lent lists that enters such a name.
-    fn enter(&self, lent: &mut Lent, listed: Listed, start: usize, end: usize)
-        ensures value { draft_in lent.new ≡ entered self.now.text.now listed start end (draft_in lent.old) }
-        ensures same_lists { SameLists lent.old lent.new }
-    {
-        match listed {
-            Listed::Declared(kind) => lent.declare(self.text, kind, start, end),
-            Listed::Fields => lent.clause_field(self.text, start, end),
-        }
-    }
-
     // One name of a list.
     // Kept: (d) that c is no stop, here and below: with a type that says so crate clauses had 49 lines more, since a parser's answer is a cursor or a
     // stop in one number, and is wrapped again before the next parser takes it.
@@ -51,13 +53,11 @@ impl Lists<'_> {
         if cursors::kind_of(c) != Token::NAME {
             return cursors::unfit(self.text, c);
         }
-        self.enter(lent, listed, cursors::start_of(c), cursors::end_of(c));
-        cursors::lex(self.text, cursors::end_of(c))
+        listed.enter(lent, &cursors::name_at(self.text, c));
+        cursors::past(self.text, c)
     }
 
     // Names with commas between them.
-    // Kept: (d) as many turns as the definition counts (its fuel is the text's length); with a `while` over the token's kind a proof would first have to
-    // show that each turn goes on in the text, which nothing else asks.
     fn list(&self, lent: &mut Lent, c: u64, listed: Listed) -> u64
         requires { is_stop c ≡ false }
         ensures value { Follows self.now.text.now (list_of self.now.text.now listed (cursor_in self.now.text.now c)) result lent.old lent.new }
@@ -68,11 +68,8 @@ impl Lists<'_> {
             return first;
         }
         let mut here = first;
-        for _ in 0..self.text.len() {
-            if cursors::kind_of(here) != words::COMMA {
-                return here;
-            }
-            let next = self.one(lent, cursors::lex(self.text, cursors::end_of(here)), listed);
+        while cursors::kind_of(here) == words::COMMA {
+            let next = self.one(lent, cursors::past(self.text, here), listed);
             if cursors::stops(next) {
                 return next;
             }
@@ -97,7 +94,7 @@ impl Lists<'_> {
         ensures same_lists { SameLists lent.old lent.new }
     {
         if cursors::kind_of(c) == word {
-            return self.names(lent, cursors::lex(self.text, cursors::end_of(c)), kind);
+            return self.names(lent, cursors::past(self.text, c), kind);
         }
         c
     }
@@ -119,7 +116,7 @@ impl Lists<'_> {
     {
         if cursors::kind_of(c) == words::UNDERSCORE {
             entries::clause_end(lent.notes);
-            return cursors::lex(self.text, cursors::end_of(c));
+            return cursors::past(self.text, c);
         }
         let after = self.fields(lent, c);
         if cursors::stops(after) {
@@ -141,7 +138,7 @@ impl Lists<'_> {
             _ => return cursors::unfit(self.text, c),
         };
         lent.clause_verb(verb as u64);
-        self.clause_rest(lent, cursors::lex(self.text, cursors::end_of(c)))
+        self.clause_rest(lent, cursors::past(self.text, c))
     }
 
     fn clause(&self, lent: &mut Lent, c: u64) -> u64
@@ -152,13 +149,14 @@ impl Lists<'_> {
         if cursors::kind_of(c) != Token::NAME {
             return cursors::unfit(self.text, c);
         }
-        lent.clause_party(self.text, cursors::start_of(c), cursors::end_of(c));
-        self.clause_from(lent, cursors::lex(self.text, cursors::end_of(c)))
+        lent.clause_party(&cursors::name_at(self.text, c));
+        self.clause_from(lent, cursors::past(self.text, c))
     }
 
     // The clauses of the agreement.
-    // Kept: (d) a loop of a few lines over a parser of its own: over two closures, what begins one and what reads it, it would be no shorter; as
-    // many turns as the definition counts, as in `list`.
+    // Kept: (a) as many turns as the text has bytes, which the definition counts too: a public parser takes any number for its cursor, and from one
+    // at a name, in an empty text, a `while` over the kind would ask for a clause where the definition reads none. (d) A loop of a few lines over a
+    // parser of its own: over two closures, what begins one and what reads it, it would be no shorter.
     pub(crate) fn clauses(&self, lent: &mut Lent, c: u64) -> u64
         requires { is_stop c ≡ false }
         ensures value { Follows self.now.text.now (walk.clauses self.now.text.now (length self.now.text.now) (cursor_in self.now.text.now c)) result lent.old lent.new }

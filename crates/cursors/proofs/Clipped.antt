@@ -16,9 +16,10 @@ use Rattle.tokens.specs.declared.Lexed.{Lexed}
 use Rattle.tokens.specs.declared.Lexed.TheVariants.{Found, Refused, End}
 use Rattle.tokens.proofs.Facts.{progress, refused_place}
 use Rattle.contract.specs.Encode.{zeros}
-use Rattle.reading_laws.specs.Walk.{Cursor, Step, On, Stop, Walk, on, stop, AgreesWith, cursor_of, cursor_at, token, name_here, state_at, closed_by}
+use Rattle.entries.specs.Draft.{Draft}
+use Rattle.reading_laws.specs.Walk.{Cursor, Step, On, Stop, Walk, on, stop, AgreesWith, cursor_of, cursor_at, next_of, token, name_here, state_at, closed_by}
 use Rattle.cursors.specs.Packed.{kind_in, start_in, end_in, at_in, question_in, is_stop, digits_at, cursor_in, step_in}
-use Rattle.cursors.specs.Packed.{clipped, clipped_step, left_after, entered, step_after, table_after, notes_after}
+use Rattle.cursors.specs.Packed.{clipped, clipped_step, cleared, left_after, entered, step_after, draft_after}
 use Rattle.cursors.proofs.Values.{value_is}
 use Rattle.cursors.proofs.Packs.{step_in_on, step_in_stop, step_in_any, cursor_in_of}
 
@@ -29,9 +30,6 @@ low x h = omega arith
 
 abbrev bare : ℕ → ℕ
 bare c = c % 2305843009213693952
-
-pub going_goes : (r c : ℕ) → r ≡ bare c → is_stop r ≡ false
-going_goes r c h = lt-leb 2305843009213693952 r (omega arith)
 
 pub going_same : (s : List ℕ) (r c : ℕ) → r ≡ bare c → cursor_in s r ≡ cursor_in s c
 unfolding cursor_in
@@ -71,6 +69,11 @@ clipped_same s at n h = go (token_at s at) refl
 -- the next token's cursor, from where one ends
 pub lexed : (s : List ℕ) (r e c : ℕ) → length s ≤ 16384 → e ≡ end_in c → cursor_in s r ≡ clipped s (cursor_at s e) → cursor_in s r ≡ cursor_at s e
 lexed s r e c n h k = k ∙ clipped_same s e n (omega (arith, h))
+
+-- the same, past the token at c
+pub passed : (s : List ℕ) (r c : ℕ) → length s ≤ 16384 → cursor_in s r ≡ clipped s (next_of s (cursor_in s c)) → cursor_in s r ≡ next_of s (cursor_in s c)
+unfolding cursor_in
+passed s r c n k = k ∙ clipped_same s (end_in c) n (omega arith)
 
 -- the first token's cursor
 pub lexed_first : (s : List ℕ) (r : ℕ) → length s ≤ 16384 → cursor_in s r ≡ clipped s (cursor_at s 0) → cursor_in s r ≡ cursor_at s 0
@@ -143,54 +146,48 @@ module _ (s : List ℕ) (n : length s ≤ 16384) (w : Walk) where
   unfolding entered
   entered_same = pick_true _ _ _ (le-leb (length s) 16384 n)
 
--- the three equations of a parser whose text is short
-abbrev pub Left : List ℕ → Walk → ℕ → List ℕ → List ℕ → List ℕ → List ℕ → Type 0
-Left s w r t m t' m' = (step_in s r ≡ step_after (entered s w)) × ((t' ≡ table_after t (entered s w)) × (m' ≡ notes_after m (entered s w)))
+-- what a parser promises of its walk over the lists of d, but for the lists themselves
+abbrev pub Left : List ℕ → Walk → ℕ → Draft → Draft → Type 0
+Left s w r d e = (step_in s r ≡ step_after w) × (e ≡ draft_after d w)
 
 parts :
-    (s : List ℕ) (w : Walk) (r a : ℕ) (t m t₁ m₁ t₂ m₂ : List ℕ) (b : Bool) → is_stop r ≡ b → AgreesWith w (step_in s r) t₁ m₁
-    → length t₁ ≡ length t → length m₁ ≡ length m → a ≡ r → t₂ ≡ left_after r t₁ → m₂ ≡ left_after r m₁
-    → (step_in s a ≡ step_after w) × ((t₂ ≡ table_after t w) × (m₂ ≡ notes_after m w))
-unfolding AgreesWith step_after table_after notes_after left_after
-parts s (on c p) r a t m t₁ m₁ t₂ m₂ true f h lt lm e et em = not_both s r c h.0 f
-parts s (on c p) r a t m t₁ m₁ t₂ m₂ false f h lt lm e et em =
-    (ap (step_in s) e ∙ h.0, (et ∙ pick_false _ _ _ f ∙ h.1.0, em ∙ pick_false _ _ _ f ∙ h.1.1))
-parts s (stop q o) r a t m t₁ m₁ t₂ m₂ false f h lt lm e et em = not_on s r q o h f
-parts s (stop q o) r a t m t₁ m₁ t₂ m₂ true f h lt lm e et em =
-    (ap (step_in s) e ∙ h, (et ∙ pick_true _ _ _ f ∙ ap zeros lt, em ∙ pick_true _ _ _ f ∙ ap zeros lm))
+    (s : List ℕ) (w : Walk) (r a : ℕ) (d d₁ d₂ : Draft) (b : Bool) → is_stop r ≡ b → AgreesWith w (step_in s r) d₁.table d₁.notes
+    → length d₁.table ≡ length d.table → length d₁.notes ≡ length d.notes → a ≡ r → d₂ ≡ left_after r d₁ → Left s w a d d₂
+unfolding AgreesWith step_after draft_after left_after
+parts s (on c p) r a d d₁ d₂ true f h lt lm e l = not_both s r c h.0 f
+parts s (on c p) r a d d₁ d₂ false f h lt lm e l =
+    (ap (step_in s) e ∙ h.0, l ∙ pick_false _ _ _ f ∙ (λ i. record { table = h.1.0 i; notes = h.1.1 i }))
+parts s (stop q o) r a d d₁ d₂ false f h lt lm e l = not_on s r q o h f
+parts s (stop q o) r a d d₁ d₂ true f h lt lm e l =
+    (ap (step_in s) e ∙ h, l ∙ pick_true _ _ _ f ∙ (λ i. record { table = zeros (lt i); notes = zeros (lm i) }))
 
 -- a parser that begins at the cursor in a number
 pub leaves :
-    (s : List ℕ) (f : Cursor → Walk) (c g r a : ℕ) (t m t₁ m₁ t₂ m₂ : List ℕ) → length s ≤ 16384 → g ≡ bare c
-    → AgreesWith (f (cursor_in s g)) (step_in s r) t₁ m₁ → length t₁ ≡ length t → length m₁ ≡ length m
-    → a ≡ r → t₂ ≡ left_after r t₁ → m₂ ≡ left_after r m₁ → Left s (f (cursor_in s c)) a t m t₂ m₂
-leaves s f c g r a t m t₁ m₁ t₂ m₂ n k h lt lm e et em =
+    (s : List ℕ) (f : Cursor → Walk) (c g r a : ℕ) (d d₁ d₂ : Draft) → length s ≤ 16384 → g ≡ bare c
+    → AgreesWith (f (cursor_in s g)) (step_in s r) d₁.table d₁.notes → length d₁.table ≡ length d.table → length d₁.notes ≡ length d.notes
+    → a ≡ r → d₂ ≡ left_after r d₁ → Left s (entered s (f (cursor_in s c))) a d d₂
+leaves s f c g r a d d₁ d₂ n k h lt lm e l =
     let w : Walk = f (cursor_in s c) in
-    let h' : AgreesWith w (step_in s r) t₁ m₁ = subst (λ (x : Cursor). AgreesWith (f x) (step_in s r) t₁ m₁) (going_same s g c k) h in
-    subst (λ (v : Walk). (step_in s a ≡ step_after v) × ((t₂ ≡ table_after t v) × (m₂ ≡ notes_after m v))) (sym (entered_same s n w))
-    (parts s w r a t m t₁ m₁ t₂ m₂ (is_stop r) refl h' lt lm e et em)
+    let h' : AgreesWith w (step_in s r) d₁.table d₁.notes =
+    subst (λ (x : Cursor). AgreesWith (f x) (step_in s r) d₁.table d₁.notes) (going_same s g c k) h in
+    subst (λ (v : Walk). Left s v a d d₂) (sym (entered_same s n w)) (parts s w r a d d₁ d₂ (is_stop r) refl h' lt lm e l)
 
 -- and where it is too long
 pub refuses :
-    (s : List ℕ) (w : Walk) (r a : ℕ) (t m t₂ m₂ : List ℕ) → 16384 < length s → step_in [] r ≡ Stop 1 0 → is_stop r ≡ true
-    → a ≡ r → t₂ ≡ left_after r t → m₂ ≡ left_after r m → Left s w a t m t₂ m₂
-unfolding entered step_after table_after notes_after left_after
-refuses s w r a t m t₂ m₂ n h f e et em =
-    let v : entered s w ≡ stop 1 0 = pick_false _ _ _ (lt-leb (length s) 16384 n) in (
-      ap (step_in s) e ∙ step_in_any s [] r f ∙ h ∙ sym (ap step_after v),
-      (et ∙ pick_true _ _ _ f ∙ sym (ap (table_after t) v), em ∙ pick_true _ _ _ f ∙ sym (ap (notes_after m) v)),
-    )
+    (s : List ℕ) (w : Walk) (a : ℕ) (d d₂ : Draft) → 16384 < length s → step_in [] a ≡ Stop 1 0 → is_stop a ≡ true
+    → d₂ ≡ cleared d → Left s (entered s w) a d d₂
+unfolding entered step_after draft_after
+refuses s w a d d₂ n h f l =
+    let v : entered s w ≡ stop 1 0 = pick_false _ _ _ (lt-leb (length s) 16384 n) in
+    (step_in_any s [] a f ∙ h ∙ sym (ap step_after v), l ∙ sym (ap (draft_after d) v))
 
-by_walk :
-    (s : List ℕ) (w : Walk) (r : ℕ) (t m t' m' : List ℕ)
-    → (step_in s r ≡ step_after w) × ((t' ≡ table_after t w) × (m' ≡ notes_after m w)) → AgreesWith w (step_in s r) t' m'
-unfolding AgreesWith step_after table_after notes_after
-by_walk s (on c p) r t m t' m' h = h
-by_walk s (stop q o) r t m t' m' h = h.0
+by_walk : (s : List ℕ) (w : Walk) (r : ℕ) (d e : Draft) → Left s w r d e → AgreesWith w (step_in s r) e.table e.notes
+unfolding AgreesWith step_after draft_after
+by_walk s (on c p) r d e h = (h.0, (ap (λ (x : Draft). x.table) h.1, ap (λ (x : Draft). x.notes) h.1))
+by_walk s (stop q o) r d e h = h.0
 
 -- what a caller knows of a parser: its walk
 pub agrees :
-    (s : List ℕ) (w : Walk) (r : ℕ) (t m t' m' : List ℕ) → length s ≤ 16384
-    → (step_in s r ≡ step_after (entered s w)) × ((t' ≡ table_after t (entered s w)) × (m' ≡ notes_after m (entered s w))) → AgreesWith w (step_in s r) t' m'
-agrees s w r t m t' m' n h =
-    by_walk s w r t m t' m' (subst (λ (v : Walk). (step_in s r ≡ step_after v) × ((t' ≡ table_after t v) × (m' ≡ notes_after m v))) (entered_same s n w) h)
+    (s : List ℕ) (w : Walk) (r : ℕ) (d e : Draft) → length s ≤ 16384 → step_in s r ≡ step_after (entered s w) → e ≡ draft_after d (entered s w)
+    → AgreesWith w (step_in s r) e.table e.notes
+agrees s w r d e n h l = by_walk s w r d e (subst (λ (v : Walk). Left s v r d e) (entered_same s n w) (h, l))

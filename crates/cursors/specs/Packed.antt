@@ -6,6 +6,7 @@ use Rattle.laws.specs.Choice.{pick}
 use Rattle.tokens.specs.Classes.{decimal}
 use Rattle.tokens.specs.Tokens.{number}
 use Rattle.contract.specs.Encode.{zeros}
+use Rattle.entries.specs.Draft.{Draft}
 use Rattle.reading_laws.specs.Walk.{Cursor, Step, On, Stop, Walk, on, stop}
 
 abbrev pub kind_in : ℕ → ℕ
@@ -66,9 +67,13 @@ clipped_step s (Stop q o) = Stop q (o % 32768)
 
 -- ---- what a parser leaves
 
--- words after an answer: zeros where it is a refusal
-unfoldable pub left_after : ℕ → List ℕ → List ℕ
-left_after r l = pick (is_stop r) (zeros (length l)) l
+-- zeros in both lists, as many as there were
+abbrev pub cleared : Draft → Draft
+cleared d = record { table = zeros (length d.table); notes = zeros (length d.notes) }
+
+-- the lists after an answer: zeros where it is a refusal
+unfoldable pub left_after : ℕ → Draft → Draft
+left_after r d = pick (is_stop r) (cleared d) d
 
 -- question 1 is asked before all others
 unfoldable pub entered : List ℕ → Walk → Walk
@@ -79,11 +84,7 @@ unfoldable pub step_after : Walk → Step
 step_after (on c p) = On c
 step_after (stop q o) = Stop q o
 
--- the table and the notes after a walk, of which there were t and n before: a refusal leaves zeros
-unfoldable pub table_after : List ℕ → Walk → List ℕ
-table_after t (on c p) = p.table
-table_after t (stop q o) = zeros (length t)
-
-unfoldable pub notes_after : List ℕ → Walk → List ℕ
-notes_after n (on c p) = p.notes
-notes_after n (stop q o) = zeros (length n)
+-- the lists after a walk over those of d: a refusal leaves zeros
+unfoldable pub draft_after : Draft → Walk → Draft
+draft_after d (on c p) = p
+draft_after d (stop q o) = cleared d

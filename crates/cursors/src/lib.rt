@@ -1,18 +1,22 @@
 // A cursor, and a parser's answer, as one number, which goes through registers: specs/Packed.antt tells its parts. And what
 // all parsers share.
-// Kept: (b) of small programs that read a row of ten tokens, one with a number for both takes 30 instructions a token, one with a `Result` of two
-// such numbers 35, one with structs of parts 50 to 65 (callgrind). A struct of the one number was not measured: (a) the public parsers take any
-// number for a cursor, so that it would be wrapped at each.
+// Kept: (b) where the private parsers of crate expressions alone answer a `Result<u64, u64>`, a cursor or a refusal, which `?` hands on, a reading of
+// nodes_4096_shape_0 and nodes_4096_shape_4 of trial_reading takes 7.0 and 6.8 per cent more instructions (unproved builds), which misses the bar, 1.5
+// times a plain program's count (docs/TIMES.md). In small programs that read a row of ten tokens one with a number for both takes 30 instructions a
+// token, one with a `Result` of two such numbers 35, one with structs of parts 50 to 65 (callgrind).
+// Kept: (d) no struct of the one number: a cursor and a refusal are one number, so that a type for it would change how its parts are asked for
+// (`c.kind()`) and nothing that a contract says. With a type that says that it is no refusal crate clauses had 49 lines more.
 #![tactic(auto)]
 
 ghost use Rattle.std.specs.Prelude.{◌≡◌, true, false, ◌%◌, []};
+ghost use Rattle.tokens.specs.Tokens.{between};
 ghost use Rattle.entries.specs.Lending.{draft_in, SameLists};
 ghost use Rattle.cursors.specs.Packed.{kind_in, start_in, end_in, at_in, question_in, is_stop, cursor_in, step_in};
-ghost use Rattle.cursors.specs.Packed.{clipped, clipped_step, left_after};
+ghost use Rattle.cursors.specs.Packed.{clipped, clipped_step, cleared, left_after};
 ghost use Rattle.reading_laws.specs.Walk as walk;
 ghost use Rattle.reading_laws.specs.Walk.{Stop};
 
-use entries::Lent;
+use entries::{Lent, NameAt};
 use questions::Question;
 use tokens::{Lexed, Token};
 
@@ -109,11 +113,11 @@ pub fn lex(text: &[u8], at: usize) -> u64
 {
     let found = tokens::next(text, at);
     match found {
-        Lexed::Found(t) => pack(t.kind, Question::Grammar as u8, t.start, t.end, at),
+        Lexed::Found(t) => pack(t.kind, Question::Grammar.number(), t.start, t.end, at),
         Lexed::Refused(q, p) => pack(NO_TOKEN, q, p, p, at),
         Lexed::End => pack(
             TEXT_END,
-            Question::Grammar as u8,
+            Question::Grammar.number(),
             text.len(),
             text.len(),
             at,
@@ -121,7 +125,17 @@ pub fn lex(text: &[u8], at: usize) -> u64
     }
 }
 
+// The cursor after the token at one.
+#[tactic(auto, unfolding(crate::specs::Packed::cursor_in))]
+pub fn past(text: &[u8], c: u64) -> u64
+    ensures value { cursor_in text.now result ≡ clipped text.now (walk.next_of text.now (cursor_in text.now c)) }
+    ensures goes { is_stop result ≡ false }
+{
+    lex(text, end_of(c))
+}
+
 // The token at the cursor does not fit.
+#[tactic(auto, unfolding(crate::specs::Packed::step_in, crate::specs::Packed::cursor_in, laws::specs::Choice::pick))]
 pub fn unfit(text: &[u8], c: u64) -> u64
     ensures value { step_in text.now result ≡ walk.unfit_at text.now (cursor_in text.now c) }
     ensures stops { is_stop result ≡ true }
@@ -130,11 +144,12 @@ pub fn unfit(text: &[u8], c: u64) -> u64
 }
 
 // Past a token of a kind.
+#[tactic(auto, unfolding(reading_laws::specs::Walk::token, crate::specs::Packed::cursor_in, crate::specs::Packed::step_in, crate::specs::Packed::clipped_step, crate::specs::Packed::clipped, laws::specs::Choice::pick))]
 pub fn token(text: &[u8], c: u64, kind: u8) -> u64
     ensures { step_in text.now result ≡ clipped_step text.now (walk.token text.now kind (cursor_in text.now c)) }
 {
     if kind_of(c) == kind {
-        return lex(text, end_of(c));
+        return past(text, c);
     }
     unfit(text, c)
 }
@@ -147,6 +162,7 @@ pub fn going(c: u64) -> u64
 }
 
 // At a name.
+#[tactic(auto, unfolding(reading_laws::specs::Walk::name_here, crate::specs::Packed::cursor_in, crate::specs::Packed::step_in, laws::specs::Choice::pick))]
 pub fn name_here(text: &[u8], c: u64) -> u64
     ensures { step_in text.now result ≡ walk.name_here text.now (cursor_in text.now c) }
 {
@@ -156,28 +172,39 @@ pub fn name_here(text: &[u8], c: u64) -> u64
     unfit(text, c)
 }
 
+// The name at the cursor.
+pub fn name_at(text: &[u8], c: u64) -> NameAt<'_>
+    ensures text { result.text.now ≡ text.now }
+    ensures start { result.start ≡ start_in c }
+    ensures end { result.end ≡ end_in c }
+    ensures word { result.word.now ≡ between text.now (start_in c) (end_in c) }
+{
+    NameAt::of(text, start_of(c), end_of(c))
+}
+
 // At the name of a state, after its `@`.
+#[tactic(auto, unfolding(reading_laws::specs::Walk::state_at, reading_laws::specs::Walk::name_here, crate::specs::Packed::cursor_in, crate::specs::Packed::clipped_step, crate::specs::Packed::clipped, laws::specs::Choice::pick))]
 pub fn state_at(text: &[u8], c: u64) -> u64
     ensures { step_in text.now result ≡ clipped_step text.now (walk.state_at text.now (cursor_in text.now c)) }
 {
     if kind_of(c) == words::AT_SIGN {
-        return name_here(text, lex(text, end_of(c)));
+        return name_here(text, past(text, c));
     }
     unfit(text, c)
 }
 
 // A state's mention, and its number.
+#[tactic(auto, unfolding(crate::specs::Packed::cursor_in))]
 pub fn mention_state(text: &[u8], lent: &mut Lent, c: u64) -> usize
     ensures number { result ≡ walk.state_number text.now (cursor_in text.now c) (draft_in lent.old) }
     ensures value { draft_in lent.new ≡ walk.stated text.now (cursor_in text.now c) (draft_in lent.old) }
     ensures same_lists { SameLists lent.old lent.new }
 {
-    let start = start_of(c);
-    let end = end_of(c);
-    lent.mention(text, entries::STATE, start, end, start)
+    lent.mention(&name_at(text, c), entries::STATE, start_of(c))
 }
 
 // Past the closing parenthesis.
+#[tactic(auto, unfolding(reading_laws::specs::Walk::closed_by, crate::specs::Packed::step_in, crate::specs::Packed::clipped_step, laws::specs::Choice::pick))]
 pub fn close(text: &[u8], r: u64) -> u64
     ensures { step_in text.now result ≡ clipped_step text.now (walk.closed_by text.now (step_in text.now r)) }
 {
@@ -189,16 +216,27 @@ pub fn close(text: &[u8], r: u64) -> u64
 
 // What a parser leaves behind: after a refusal, zeros.
 // Kept: (a) each public parser of four crates asks the text's length and ends here; a function over them all would be public too, and
-// require that its closure may be called. The refusal of a long text, one line in each, is no function: it would be public, too.
-pub fn leave(table: &mut [u64], notes: &mut [u64], r: u64) -> u64
+// require that its closure may be called.
+#[tactic(auto, unfolding(crate::specs::Packed::left_after, laws::specs::Choice::pick))]
+pub fn leave(lent: &mut Lent, r: u64) -> u64
     ensures value { result ≡ r }
-    ensures table_after { table.new ≡ left_after r table.old }
-    ensures notes_after { notes.new ≡ left_after r notes.old }
+    ensures lists { draft_in lent.new ≡ left_after r (draft_in lent.old) }
+    ensures same_lists { SameLists lent.old lent.new }
 {
     if stops(r) {
-        entries::clear(table);
-        entries::clear(notes);
-        return r;
+        entries::clear(lent.table);
+        entries::clear(lent.notes);
     }
     r
+}
+
+// What a parser leaves behind of a text that is too long: zeros, and question 1 at the text's start.
+#[tactic(auto, unfolding(crate::specs::Packed::left_after, laws::specs::Choice::pick))]
+pub fn too_long(lent: &mut Lent) -> u64
+    ensures value { step_in [] result ≡ Stop 1 0 }
+    ensures stops { is_stop result ≡ true }
+    ensures lists { draft_in lent.new ≡ cleared (draft_in lent.old) }
+    ensures same_lists { SameLists lent.old lent.new }
+{
+    leave(lent, stop(Question::TextLength.number(), 0))
 }

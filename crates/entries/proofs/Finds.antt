@@ -1,5 +1,5 @@
 -- The first slot that has a word. Assumes nothing.
-use mathlib.Core.Path.{◌≡◌, refl, sym, ap, subst, ◌∙◌}
+use mathlib.Core.Path.{◌≡◌, refl, sym, ap, ◌∙◌}
 use mathlib.Core.Bool.{Bool, true, false, ◌||◌}
 use Rattle.std.specs.List.{list_any, range_with_len}
 use mathlib.Core.List.{List}
@@ -7,13 +7,12 @@ use Prim.Native.Nat.{ℕ, zero, suc, ◌+◌, ◌-◌, ◌*◌, ◌<◌, ◌≤�
 use native.Mathlib.Omega.{arith}
 use lib.ListN.{length, get_or, drop, drop_of_length-le}
 use borrow.Author.Tests.{eq-eqb, ne_eqb}
-use lib.Dec.{eqb, ltb}
+use lib.Dec.{eqb}
 use Rattle.laws.specs.Choice.{pick}
 use Rattle.laws.specs.Bytes.{same_bytes}
 use Rattle.laws.proofs.Choice.{pick_true, pick_false}
 use Rattle.laws.proofs.Lists.{cons_at}
-use Rattle.tokens.specs.Tokens.{between}
-use Rattle.entries.specs.Draft.{slot_is, find_from, Skips, number_in, among_in, is_declared, mark_of, slot_of, known_count}
+use Rattle.entries.specs.Draft.{slot_is, find_from, Skips, among_in, is_declared}
 
 -- ---- one turn of the comparison, and its end
 module _ (a b : List ℕ) (i : ℕ) where
@@ -56,18 +55,6 @@ module _ (s n w : List ℕ) where
   pub find_none : (m j many : ℕ) → find_from s n m w j 0 many ≡ find_from s n m w j 0 (many - 0)
   find_none m j many = ap (find_from s n m w j 0) (omega arith)
 
-  pub number_is : (k m j l r : ℕ) → m ≡ mark_of w → j ≡ slot_of k → l ≡ known_count n k → r ≡ find_from s n m w j 0 l → r ≡ number_in s n k w
-  unfolding number_in
-  number_is k m j l r e f g h = h ∙ (λ i. find_from s n (e i) w (f i) 0 (g i))
-
-  pub number_none : (k l : ℕ) → l ≡ known_count n k → l ≡ 0 → 0 ≡ number_in s n k w
-  unfolding number_in find_from
-  number_none k l g e = ap (find_from s n (mark_of w) w (slot_of k) 0) (sym e ∙ g)
-
-  pub among_is : (k x y : ℕ) → x ≡ number_in s n k w → y ≡ known_count n k → ltb x y ≡ among_in s n k w
-  unfolding among_in
-  among_is k x y e f = λ i. ltb (e i) (f i)
-
   -- a declared name, by the kinds asked one after the other
   pub declared_any : list_any (λ k. among_in s n k w) (range_with_len 0 5) ≡ is_declared s n w
   unfolding is_declared pick
@@ -87,14 +74,6 @@ module _ (s n : List ℕ) (j m x : ℕ) (w : List ℕ) (f : x ≡ get_or n (16 +
   unfolding slot_is
   slot_other h = sym (pick_false _ _ _ (sym (ap (λ (v : ℕ). eqb v m) f) ∙ ne_eqb x m h))
 
-  pub slot_same :
-      (a e : ℕ) (b : List ℕ) → x ≡ m → a ≡ get_or n (16 + 3 * j + 1) 0 → e ≡ get_or n (16 + 3 * j + 2) 0 → b ≡ between s a e →
-      same_bytes b w ≡ slot_is s n j m w
-  unfolding slot_is
-  slot_same a e b h g k l =
-      ap (λ (v : List ℕ). same_bytes v w) (l ∙ (λ i. between s (g i) (k i)))
-      ∙ sym (pick_true _ _ _ (sym (ap (λ (v : ℕ). eqb v m) f) ∙ eq-eqb x m h))
-
 -- ---- slots without a mark are skipped
 module _ (n : List ℕ) (m j many : ℕ) where
   pub skip_none : Skips n m j 0 many 0
@@ -113,9 +92,3 @@ module _ (n : List ℕ) (m j many : ℕ) where
   unfolding Skips
   skip_one i h l d =
       (omega (arith, l), λ s w. h.1 s w ∙ find_more s n m w j i many l (sym (slot_other s n (j + i) m (get_or n (16 + 3 * (j + i)) 0) w refl d)))
-
-  pub skip_end : (i : ℕ) → Skips n m j 0 many i → many ≤ i → Skips n m j 0 many many
-  skip_end i h l =
-      let k : i ≤ many = skip_most i h in
-      let e : i ≡ many = omega (arith, l, k) in
-      subst (Skips n m j 0 many) e h

@@ -1,19 +1,13 @@
 -- Bytes packed into words, and the rows of parameters. Assumes nothing.
 use mathlib.Core.Path.{◌≡◌, refl, sym, ap, ◌∙◌}
 use mathlib.Core.List.{List, [], ◌∷◌}
-use Prim.Native.Nat.{ℕ, zero, suc, ◌+◌, ◌-◌, ◌*◌, ◌<◌, ◌≤◌}
+use Prim.Native.Nat.{ℕ, zero, suc, ◌+◌, ◌*◌}
 use native.Mathlib.Omega.{arith}
 use native.Mathlib.Nat.{add-zero}
 use lib.ListN.{length, get_or, take, drop}
 use lib.Seq.{sets, get_or-drop, drop-drop}
-use lib.Dec.{eqb}
-use borrow.Author.Tests.{lt-ltb, le-ltb, eq-eqb, ne_eqb}
 use Rattle.std.specs.Int.{from_le_bytes, w64}
-use Rattle.laws.specs.Choice.{pick}
-use Rattle.laws.proofs.Choice.{pick_true, pick_false}
-use Rattle.contract.specs.Limits.{max_values}
 use Rattle.contract.specs.Encode.{packed, packs, packed_row}
-use Rattle.entries.specs.Draft.{parameter_put}
 
 -- ---- bytes
 
@@ -64,21 +58,3 @@ pub packed_written : (t t₁ w : List ℕ) (o a b d e : ℕ) → a ≡ run w 8 0
     → t₁ ≡ sets t o (length w ∷ a ∷ b ∷ d ∷ e ∷ []) → t₁ ≡ sets t o (packed_row w)
 packed_written t t₁ w o a b d e f g h i u =
     u ∙ (λ j. sets t o (length w ∷ f j ∷ g j ∷ h j ∷ i j ∷ [])) ∙ ap (sets t o) (sym (row_words w))
-
--- ---- the rows of parameters
-
-pub later_row : (k : ℕ) → k ≡ 4 → max_values ≡ pick (eqb k 4) max_values 0
-later_row k h = sym (pick_true _ _ _ (eq-eqb k 4 h))
-
-pub first_row : (k : ℕ) → (k ≡ 4 → ⊥) → ◌≡◌ {A = ℕ} 0 (pick (eqb k 4) max_values 0)
-first_row k h = sym (pick_false _ _ _ (ne_eqb k 4 h))
-
-pub parameter_in : (t t₁ w : List ℕ) (n k i f x : ℕ) → f ≡ n - 1 → x ≡ pick (eqb k 4) 8 0 → f < 64
-    → t₁ ≡ sets t (20819 + 5 * (12 * f + x + i)) (packed_row w) → t₁ ≡ parameter_put n k i w t
-unfolding parameter_put
-parameter_in t t₁ w n k i f x e g h d =
-    d ∙ (λ j. sets t (20819 + 5 * (12 * e j + g j + i)) (packed_row w)) ∙ sym (pick_true _ _ _ (lt-ltb (n - 1) 64 (omega (arith, e, h))))
-
-pub parameter_out : (t w : List ℕ) (n k i f : ℕ) → f ≡ n - 1 → 64 ≤ f → t ≡ parameter_put n k i w t
-unfolding parameter_put
-parameter_out t w n k i f e h = sym (pick_false _ _ _ (le-ltb (n - 1) 64 (omega (arith, e, h))))

@@ -1,8 +1,12 @@
 -- For private functions only.
-use Rattle.std.specs.Prelude.{ℕ, ◌≡◌, ◌<◌, ◌≤◌, List, Option, Some, None}
+use Rattle.std.specs.Prelude.{ℕ, ◌≡◌, ◌<◌, ◌≤◌, List, Option, Some, None, MatchOption}
 use Rattle.laws.specs.Choice.{pick}
 use Rattle.entries.specs.declared.Known.{Known}
 use Rattle.entries.specs.Draft.{among_in, number_in}
+
+-- the number x below many, or none where x is many
+abbrev pub IsFound : Option ℕ → ℕ → ℕ → Type 0
+IsFound o x many = MatchOption o (x ≡ many) (λ i. (i ≡ x) × (i < many))
 
 -- what a word stands for among those of kind k
 abbrev pub sought : List ℕ → List ℕ → ℕ → ℕ → List ℕ → Option Known

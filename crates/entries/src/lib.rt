@@ -10,7 +10,7 @@ ghost use Rattle.tokens.specs.Tokens.{between};
 ghost use Rattle.contract.specs.Encode.{zeros, packed, packed_row};
 ghost use Rattle.questions.specs.Numbers.{number_of};
 ghost use Rattle.entries.specs.Draft as draft;
-ghost use Rattle.entries.specs.Private.{sought, IsSection};
+ghost use Rattle.entries.specs.Private.{sought, IsFound, IsSection};
 ghost use Rattle.entries.specs.Lending.{draft_in, SameLists};
 
 use contract::{Clause, Contract, Event, Function, Node};
@@ -115,6 +115,13 @@ impl Lent<'_> {
         contract::word(self.notes, i)
     }
 
+    // Word i of the table.
+    fn cell(&self, i: usize) -> u64
+        ensures { result ≡ get_or self.now.table.now i 0 }
+    {
+        contract::word(self.table, i)
+    }
+
     // How many nodes are written.
     pub fn nodes(&self) -> usize
         ensures { result ≡ draft.note self.now.notes.now 14 }
@@ -135,6 +142,7 @@ impl Lent<'_> {
 // The least finding after one more: earliest place, then lowest number.
 // Kept: (a) the question is a number, as the lent notes hold it, 0 where nothing is found: a public function takes any, and notes of a caller
 // may hold any; (d) one test of `|` and `&`: with `||` it is three, each a case of its own.
+#[tactic(auto, unfolding(crate::specs::Draft::found, laws::specs::Choice::pick))]
 pub fn find(notes: &mut [u64], question: u8, place: usize)
     ensures { notes.new ≡ draft.found question place notes.old }
 {
@@ -150,6 +158,7 @@ pub fn find(notes: &mut [u64], question: u8, place: usize)
 }
 
 // A question at a place, where its answer is no.
+#[tactic(auto, unfolding(laws::specs::Choice::pick))]
 fn ask(notes: &mut [u64], yes: bool, question: Question, place: usize)
     ensures { notes.new ≡ pick yes notes.old (draft.found (number_of question) place notes.old) }
 {
@@ -182,6 +191,7 @@ fn limit(kind: usize) -> usize
 
 // One more of a kind, within its limit; else question 11.
 // Kept: (a) the kind is the place of its count in the lent notes, a number, since a public function takes any.
+#[tactic(auto, unfolding(crate::specs::Draft::counted, laws::specs::Choice::pick))]
 pub fn count(notes: &mut [u64], kind: usize, place: usize)
     ensures { notes.new ≡ draft.counted kind place notes.old }
 {
@@ -215,20 +225,20 @@ fn mark(word: &[u8]) -> u64
     }
 }
 
-// A name of a text, from start up to end: its bytes and their mark.
+// A name of a text, from start up to end: its bytes and their mark. Any text has it at any two places.
 #[derive(Clone, Copy)]
-struct NameAt<'a> {
-    text: &'a [u8],
-    start: usize,
-    end: usize,
-    word: &'a [u8],
+pub struct NameAt<'a> {
+    pub text: &'a [u8],
+    pub start: usize,
+    pub end: usize,
+    pub word: &'a [u8],
     mark: u64,
     ghost cut: { word.now ≡ between text.now start end },
     ghost marked: { (mark ≡ draft.mark_of word.now) × (mark < 16777216) },
 }
 
 impl<'a> NameAt<'a> {
-    fn of(text: &'a [u8], start: usize, end: usize) -> NameAt<'a>
+    pub fn of(text: &'a [u8], start: usize, end: usize) -> NameAt<'a>
         ensures text { result.text.now ≡ text.now }
         ensures word { result.word.now ≡ between text.now start end }
         ensures start { result.start ≡ start }
@@ -248,6 +258,7 @@ impl<'a> NameAt<'a> {
 // Kept: (b) with `==` of slices a reading of the two texts of 4,096 nodes (nodes_4096_shape_0 and nodes_4096_shape_4 of trial_reading) takes 7.4 and
 // 5.3 per cent more instructions (unproved builds that differ in this alone), since most names are short. The bar is 1.5 times a plain program's
 // count, 942,780 and 1,009,398; docs/TIMES.md has what the proved program takes.
+#[tactic(auto, using(crate::proofs::Finds::same_more, crate::proofs::Finds::same_other, crate::proofs::Finds::same_all, laws::proofs::Bytes::same_length))]
 fn same_bytes(a: &[u8], b: &[u8]) -> bool
     ensures { result ≡ same_bytes a.now b.now }
 {
@@ -262,23 +273,10 @@ fn same_bytes(a: &[u8], b: &[u8]) -> bool
     true
 }
 
-// Whether a slot has this mark and these bytes.
-fn slot_is(text: &[u8], notes: &[u64], slot: usize, mark: u64, word: &[u8]) -> bool
-    requires { slot ≤ 5000 }
-    ensures { result ≡ draft.slot_is text.now notes.now slot mark word.now }
-{
-    let at = Notes::SLOTS + Notes::SLOT * slot;
-    if contract::word(notes, at) != mark {
-        return false;
-    }
-    let start = contract::word(notes, at + 1) as usize;
-    let end = contract::word(notes, at + 2) as usize;
-    same_bytes(tokens::between(text, start, end), word)
-}
-
 // A slot before which none has this mark: the first that has it, or `many`; the first of all in short notes.
-// Kept: (d) a `for` that returns, the same loop as that of `find_from`, which calls it and is one for its speed. With `find` of the range a reading of
-// the two texts of `same_bytes` takes 0.9 and 2.0 per cent more instructions (unproved builds).
+// Kept: (d) the same loop as that of `find_from`, which has to be one; `many` where none has the mark, so that the range which `find_from` goes over
+// from there is empty. With `find` here the two texts of `same_bytes` take 0.9 and 2.0 per cent more (unproved builds).
+#[tactic(auto, using(crate::proofs::Finds::skip_none, crate::proofs::Finds::skip_one))]
 fn find_mark(notes: &[u64], mark: u64, slot: usize, many: usize) -> usize
     requires { (slot ≤ 132) × (many ≤ 4096) }
     ensures { draft.Skips notes.now mark slot 0 many result }
@@ -288,25 +286,6 @@ fn find_mark(notes: &[u64], mark: u64, slot: usize, many: usize) -> usize
     }
     for i in 0..many {
         if notes[Notes::SLOTS + Notes::SLOT * (slot + i)] == mark {
-            return i;
-        }
-    }
-    many
-}
-
-// The first of so many slots that has this mark and these bytes.
-// Inlined, as what looks a name up by it and `put_name`: else an answer goes through memory. In proved builds a reading of the two texts of
-// `same_bytes` takes 13.0 and 12.2 per cent more instructions without the mark of `find_from`, 24.9 and 17.3 without that of `number`, 30.2 and 18.6
-// of `seek`, 5.6 and 1.9 of `stored`, 0.4 and 2.3 of `holder`, 4.2 and 2.3 of `put_name`.
-// Kept: (b) a `for` that returns: with `find` of the range these readings take 28.3 and 20.3 per cent more (unproved builds), which misses the bar.
-#[inline(always)]
-fn find_from(text: &[u8], notes: &[u64], mark: u64, word: &[u8], slot: usize, many: usize) -> usize
-    requires { (slot ≤ 132) × (many ≤ 4096) }
-    ensures value { result ≡ draft.find_from text.now notes.now mark word.now slot 0 many }
-    ensures upper_bound { result ≤ many }
-{
-    for i in find_mark(notes, mark, slot, many)..many {
-        if slot_is(text, notes, slot + i, mark, word) {
             return i;
         }
     }
@@ -340,22 +319,58 @@ fn slot_of(kind: usize) -> usize
 }
 
 impl NameAt<'_> {
-    // Its number among those of a kind; how many they are where it is not among them.
+    // Whether a slot has this mark and its bytes.
+    #[tactic(auto, unfolding(crate::specs::Draft::slot_is, laws::specs::Choice::pick))]
+    fn is_in_slot(&self, notes: &[u64], slot: usize, mark: u64) -> bool
+        requires { slot ≤ 5000 }
+        ensures { result ≡ draft.slot_is self.now.text.now notes.now slot mark self.now.word.now }
+    {
+        let at = Notes::SLOTS + Notes::SLOT * slot;
+        if contract::word(notes, at) != mark {
+            return false;
+        }
+        let start = contract::word(notes, at + 1) as usize;
+        let end = contract::word(notes, at + 2) as usize;
+        same_bytes(tokens::between(self.text, start, end), self.word)
+    }
+
+    // The first of so many slots that has this mark and its bytes.
+    // Inlined, as what looks a name up by it and `put_name`: else an answer goes through memory. A reading of the two texts of `same_bytes` takes
+    // 15.6 and 13.1 per cent more instructions without the mark of `find_from`, 28.1 and 17.2 without that of `number`, 31.3 and 18.6 of `seek`,
+    // 7.6 and 2.6 of `stored`, 0.7 and 3.1 of `holder`, 4.3 and 3.1 of `put_name`, 0.4 and 1.5 of `asset_target` (unproved builds).
+    // Kept: (b) a `for` that returns: with `find` of the range these readings take 23.5 and 19.3 per cent more (unproved builds), which misses the bar.
     #[inline(always)]
-    fn number(&self, notes: &[u64], kind: usize) -> usize
-        ensures { result ≡ draft.number_in self.now.text.now notes.now kind self.now.word.now }
+    #[tactic(auto, using(crate::proofs::Finds::find_more, crate::proofs::Finds::find_hit, crate::proofs::Finds::find_end, crate::proofs::Finds::skip_to, crate::proofs::Finds::skip_most))]
+    fn find_from(&self, notes: &[u64], mark: u64, slot: usize, many: usize) -> Option<usize>
+        requires { (slot ≤ 132) × (many ≤ 4096) }
+        ensures { IsFound result (draft.find_from self.now.text.now notes.now mark self.now.word.now slot 0 many) many }
+    {
+        for i in find_mark(notes, mark, slot, many)..many {
+            if self.is_in_slot(notes, slot + i, mark) {
+                return Some(i);
+            }
+        }
+        None
+    }
+
+    // Its number among those of a kind, if it is among them.
+    #[inline(always)]
+    #[tactic(auto, unfolding(crate::specs::Draft::number_in, crate::specs::Draft::find_from))]
+    fn number(&self, notes: &[u64], kind: usize) -> Option<usize>
+        ensures { IsFound result (draft.number_in self.now.text.now notes.now kind self.now.word.now) (draft.known_count notes.now kind) }
     {
         let many = many_of(notes, kind);
         if many == 0 {
-            return 0;
+            return None;
         }
-        find_from(self.text, notes, self.mark, self.word, slot_of(kind), many)
+        self.find_from(notes, self.mark, slot_of(kind), many)
     }
 
+    #[tactic(auto, unfolding(crate::specs::Draft::among_in))]
     fn is_among(&self, notes: &[u64], kind: usize) -> bool
         ensures { result ≡ draft.among_in self.now.text.now notes.now kind self.now.word.now }
     {
-        self.number(notes, kind) < many_of(notes, kind)
+        self.number(notes, kind).is_some()
     }
 
     // Whether it is a party's, an asset's, a field's or a parameter's.
@@ -367,22 +382,18 @@ impl NameAt<'_> {
 
     // What it stands for among those of a kind.
     #[inline(always)]
+    #[tactic(auto, unfolding(crate::specs::Draft::among_in, laws::specs::Choice::pick))]
     fn seek(&self, notes: &[u64], kind: usize, node: u64) -> Option<Known>
         ensures { result ≡ sought self.now.text.now notes.now kind node self.now.word.now }
     {
-        let number = self.number(notes, kind);
-        if number < many_of(notes, kind) {
-            return Some(Known {
-                kind: node,
-                number: number as u64,
-            });
-        }
-        None
+        let number = self.number(notes, kind)? as u64;
+        Some(Known { kind: node, number })
     }
 }
 
 // A word's length and bytes at a row.
 // Kept: (d) where a row goes: of a short table what is there of it is written, and there may be no slice from there on.
+#[tactic(auto, using(crate::proofs::Rows::row_all, crate::proofs::Rows::stores_end))]
 fn write_row(table: &mut [u64], at: usize, word: &[u8])
     requires { at ≤ 300000 }
     ensures { table.new ≡ draft.rowed table.old at word.now }
@@ -395,6 +406,7 @@ fn write_row(table: &mut [u64], at: usize, word: &[u8])
 
 // A mark and a name's place at a slot.
 // Kept: (d) no list with its length: the notes are any lent words, and `slot` is the number of one slot of them.
+#[tactic(auto, unfolding(crate::specs::Draft::slotted))]
 fn write_slot(notes: &mut [u64], slot: usize, mark: u64, name: &NameAt)
     requires { slot ≤ 5000 }
     ensures { notes.new ≡ draft.slotted notes.old slot mark name.now.start name.now.end }
@@ -419,6 +431,7 @@ fn section_of(kind: usize) -> Option<usize>
 
 // How many words a row of a kind of names has.
 // Kept: (d) one of two constants by a kind: a function of the two and a truth would be `if` under another name.
+#[tactic(auto, unfolding(laws::specs::Choice::pick))]
 fn width_of(kind: usize) -> usize
     ensures value { result ≡ draft.width_of kind }
     ensures upper_bound { result ≤ 65 }
@@ -431,6 +444,7 @@ fn width_of(kind: usize) -> usize
 }
 
 // Eight bytes of a word from byte i on, the first lowest. A byte past its end is 0.
+#[tactic(auto, using(crate::proofs::Packing::eight_packed))]
 fn eight_bytes(word: &[u8], i: usize) -> u64
     requires { i ≤ 24 }
     ensures { result ≡ packed (take 8 (drop i word.now)) }
@@ -444,6 +458,7 @@ fn eight_bytes(word: &[u8], i: usize) -> u64
 
 // A word's length and its first 32 bytes, eight in a word of the table.
 // Kept: (d) where a row goes, as in `write_row`.
+#[tactic(auto, using(crate::proofs::Packing::packed_written))]
 fn write_packed(table: &mut [u64], at: usize, word: &[u8])
     requires { at ≤ 100000 }
     ensures { table.new ≡ sets table.old at (packed_row word.now) }
@@ -456,6 +471,7 @@ fn write_packed(table: &mut [u64], at: usize, word: &[u8])
 }
 
 // The first row of a kind of parameters among those of a function.
+#[tactic(auto, unfolding(laws::specs::Choice::pick))]
 fn first_row(kind: usize) -> usize
     ensures value { result ≡ pick (eqb kind 4) 8 0 }
     ensures upper_bound { result ≤ 8 }
@@ -470,6 +486,7 @@ fn first_row(kind: usize) -> usize
 // Parameter i of a kind, of the last of so many functions.
 // Kept: (d) no list with its length: `functions` is how many are counted, in a table of any length; the bound of i is that of a count, which the
 // three that enter a name hand on.
+#[tactic(auto, unfolding(crate::specs::Draft::parameter_put, laws::specs::Choice::pick))]
 fn enter_parameter(table: &mut [u64], functions: usize, kind: usize, i: usize, word: &[u8])
     requires { i < 4096 }
     ensures { table.new ≡ draft.parameter_put functions kind i word.now table.old }
@@ -488,6 +505,7 @@ fn enter_parameter(table: &mut [u64], functions: usize, kind: usize, i: usize, w
 
 // Row i of a kind, of a parameter for the last of so many functions.
 // Kept: (d) no list with its length, as in `enter_parameter`.
+#[tactic(auto, unfolding(laws::specs::Choice::pick))]
 fn enter_row(table: &mut [u64], functions: usize, kind: usize, i: usize, word: &[u8])
     requires { i < 4096 }
     ensures { table.new ≡ pick (eqb (draft.section_of kind) 0) (draft.parameter_put functions kind i word.now table.old) (draft.rowed table.old (draft.section_of kind + draft.width_of kind * i) word.now) }
@@ -501,6 +519,7 @@ fn enter_row(table: &mut [u64], functions: usize, kind: usize, i: usize, word: &
 impl Lent<'_> {
     // Name i of a kind.
     #[inline(always)]
+    #[tactic(auto, unfolding(crate::specs::Draft::entered))]
     fn enter(&mut self, name: &NameAt, kind: usize, i: usize)
         requires { i < 4096 }
         ensures value { draft_in self.new ≡ draft.entered name.now.text.now kind i name.now.start name.now.end (draft_in self.old) }
@@ -513,6 +532,7 @@ impl Lent<'_> {
     }
 
     // One more name of a kind, within its limit; else question 11.
+    #[tactic(auto, unfolding(laws::specs::Choice::pick))]
     fn enter_new(&mut self, name: &NameAt, kind: usize, place: usize)
         ensures value { draft_in self.new ≡ draft.entered_new name.now.text.now kind name.now.start name.now.end place (draft_in self.old) }
         ensures same_lists { SameLists self.old self.new }
@@ -528,6 +548,7 @@ impl Lent<'_> {
 
 // Questions 11 and 12 of a declared name.
 // Kept: (a) as `count`.
+#[tactic(auto, unfolding(crate::specs::Draft::declared_in, laws::specs::Choice::pick))]
 fn declare_notes(name: &NameAt, notes: &mut [u64], kind: usize)
     ensures { notes.new ≡ draft.declared_in name.now.text.now kind name.now.start name.now.end notes.old }
 {
@@ -538,42 +559,34 @@ fn declare_notes(name: &NameAt, notes: &mut [u64], kind: usize)
 
 impl Lent<'_> {
     // A declared name.
-    // Kept: (a) these are a public function's own parameters, any text and places in it, and below any notes; inside, `NameAt` has them.
-    pub fn declare(&mut self, text: &[u8], kind: usize, start: usize, end: usize)
-        ensures value { draft_in self.new ≡ draft.declare text.now kind start end (draft_in self.old) }
+    #[tactic(auto, unfolding(crate::specs::Draft::declare, laws::specs::Choice::pick))]
+    pub fn declare(&mut self, name: &NameAt, kind: usize)
+        ensures value { draft_in self.new ≡ draft.declare name.now.text.now kind name.now.start name.now.end (draft_in self.old) }
         ensures same_lists { SameLists self.old self.new }
     {
-        let name = NameAt::of(text, start, end);
         let n = self.note(kind) as usize;
-        declare_notes(&name, self.notes, kind);
+        declare_notes(name, self.notes, kind);
         if n < limit(kind) {
-            self.enter(&name, kind, n);
+            self.enter(name, kind, n);
         }
     }
 
-    // A state or a string, and its number.
-    // Kept: (a) as `count` and `declare`.
-    pub fn mention(
-        &mut self,
-        text: &[u8],
-        kind: usize,
-        start: usize,
-        end: usize,
-        place: usize,
-    ) -> usize
-        ensures number { result ≡ draft.number_in text.now self.old.notes.now kind (between text.now start end) }
-        ensures value { draft_in self.new ≡ draft.mention text.now kind start end place (draft_in self.old) }
+    // A state or a string, and its number: that of a new one is how many there were.
+    #[tactic(auto, unfolding(crate::specs::Draft::mention, crate::specs::Draft::among_in, laws::specs::Choice::pick))]
+    pub fn mention(&mut self, name: &NameAt, kind: usize, place: usize) -> usize
+        ensures number { result ≡ draft.number_in name.now.text.now self.old.notes.now kind name.now.word.now }
+        ensures value { draft_in self.new ≡ draft.mention name.now.text.now kind name.now.start name.now.end place (draft_in self.old) }
         ensures same_lists { SameLists self.old self.new }
     {
-        let name = NameAt::of(text, start, end);
-        // Lent by a name of its own, here and in the parsers: what a list holds after it was lent to be read through the struct has no name that a
-        // proof can cite.
+        // Kept: (c) lent by `&mut` only to be read: lent by `&`, what a list of the struct holds after it has no name that a proof can cite; (d) by two
+        // methods over `&self`, as `note`, it is ten lines more.
         let notes = &mut *self.notes;
-        let i = name.number(notes, kind);
-        if many_of(notes, kind) <= i {
-            self.enter_new(&name, kind, place);
+        if let Some(i) = name.number(notes, kind) {
+            return i;
         }
-        i
+        let many = many_of(notes, kind);
+        self.enter_new(name, kind, place);
+        many
     }
 }
 
@@ -587,82 +600,80 @@ fn unknown() -> Known
 
 impl NameAt<'_> {
     // An asset, or outside handlers an asset parameter.
+    // Kept: (b) an `if let` that returns, here and below: with `or_else`, over a closure that seeks, a reading of the two texts of `same_bytes` takes 17.2
+    // and 12.7 per cent more instructions (unproved builds).
     #[inline(always)]
-    fn holder(&self, notes: &[u64], handler: bool) -> Known
-        ensures { result ≡ draft.holder_in self.now.text.now notes.now handler self.now.word.now }
+    #[tactic(auto, unfolding(crate::specs::Draft::holder_in, crate::specs::Draft::seek, laws::specs::Choice::pick))]
+    pub fn holder(&self, lent: &Lent, handler: bool) -> Known
+        ensures { result ≡ draft.holder_in self.now.text.now lent.now.notes.now handler self.now.word.now }
     {
-        if let Some(asset) = self.seek(notes, ASSET, Node::ASSET) {
+        if let Some(asset) = self.seek(lent.notes, ASSET, Node::ASSET) {
             return asset;
         }
         if handler {
             return unknown();
         }
-        self.seek(notes, PARAMETER, Node::PARAMETER)
+        self.seek(lent.notes, PARAMETER, Node::PARAMETER)
             .unwrap_or(unknown())
     }
 
     // An asset or a field.
     #[inline(always)]
-    fn stored(&self, notes: &[u64]) -> Known
-        ensures { result ≡ draft.stored_in self.now.text.now notes.now self.now.word.now }
+    #[tactic(auto, unfolding(crate::specs::Draft::stored_in, crate::specs::Draft::seek, laws::specs::Choice::pick))]
+    fn stored(&self, lent: &Lent) -> Known
+        ensures { result ≡ draft.stored_in self.now.text.now lent.now.notes.now self.now.word.now }
     {
-        if let Some(asset) = self.seek(notes, ASSET, Node::ASSET) {
+        if let Some(asset) = self.seek(lent.notes, ASSET, Node::ASSET) {
             return asset;
         }
-        self.seek(notes, FIELD, Node::FIELD).unwrap_or(unknown())
+        self.seek(lent.notes, FIELD, Node::FIELD)
+            .unwrap_or(unknown())
     }
-}
 
-// Kept: (a) as `declare`.
-pub fn holder(text: &[u8], notes: &[u64], handler: bool, start: usize, end: usize) -> Known
-    ensures { result ≡ draft.holder_in text.now notes.now handler (between text.now start end) }
-{
-    NameAt::of(text, start, end).holder(notes, handler)
-}
+    // What an expression names.
+    #[tactic(auto, unfolding(crate::specs::Draft::name_in, crate::specs::Draft::seek, laws::specs::Choice::pick))]
+    pub fn named(&self, lent: &Lent, handler: bool) -> Known
+        ensures { result ≡ draft.name_in self.now.text.now lent.now.notes.now handler self.now.word.now }
+    {
+        if handler {
+            return self.stored(lent);
+        }
+        if let Some(value) = self.seek(lent.notes, VALUE, Node::VALUE) {
+            return value;
+        }
+        if let Some(parameter) = self.seek(lent.notes, PARAMETER, Node::PARAMETER) {
+            return parameter;
+        }
+        self.stored(lent)
+    }
 
-// What an expression names.
-// Kept: (a) as `declare`.
-pub fn name(text: &[u8], notes: &[u64], handler: bool, start: usize, end: usize) -> Known
-    ensures { result ≡ draft.name_in text.now notes.now handler (between text.now start end) }
-{
-    let name = NameAt::of(text, start, end);
-    if handler {
-        return name.stored(notes);
+    // What `->` goes to.
+    #[tactic(auto, unfolding(crate::specs::Draft::value_target, crate::specs::Draft::seek, laws::specs::Choice::pick))]
+    pub fn value_target(&self, lent: &Lent) -> Known
+        ensures { result ≡ draft.value_target self.now.text.now lent.now.notes.now self.now.word.now }
+    {
+        if let Some(party) = self.seek(lent.notes, PARTY, Node::PARTY) {
+            return party;
+        }
+        self.seek(lent.notes, FIELD, Node::FIELD)
+            .unwrap_or(unknown())
     }
-    if let Some(value) = name.seek(notes, VALUE, Node::VALUE) {
-        return value;
-    }
-    if let Some(parameter) = name.seek(notes, PARAMETER, Node::PARAMETER) {
-        return parameter;
-    }
-    name.stored(notes)
-}
 
-// What `->` goes to.
-// Kept: (a) as `declare`.
-pub fn value_target(text: &[u8], notes: &[u64], start: usize, end: usize) -> Known
-    ensures { result ≡ draft.value_target text.now notes.now (between text.now start end) }
-{
-    let name = NameAt::of(text, start, end);
-    if let Some(party) = name.seek(notes, PARTY, Node::PARTY) {
-        return party;
+    // What `-o` goes to.
+    #[inline(always)]
+    #[tactic(auto, unfolding(crate::specs::Draft::asset_target, crate::specs::Draft::seek, laws::specs::Choice::pick))]
+    pub fn asset_target(&self, lent: &Lent, handler: bool) -> Known
+        ensures { result ≡ draft.asset_target self.now.text.now lent.now.notes.now handler self.now.word.now }
+    {
+        if let Some(party) = self.seek(lent.notes, PARTY, Node::PARTY) {
+            return party;
+        }
+        self.holder(lent, handler)
     }
-    name.seek(notes, FIELD, Node::FIELD).unwrap_or(unknown())
-}
-
-// What `-o` goes to.
-// Kept: (a) as `declare`.
-pub fn asset_target(text: &[u8], notes: &[u64], handler: bool, start: usize, end: usize) -> Known
-    ensures { result ≡ draft.asset_target text.now notes.now handler (between text.now start end) }
-{
-    let name = NameAt::of(text, start, end);
-    if let Some(party) = name.seek(notes, PARTY, Node::PARTY) {
-        return party;
-    }
-    name.holder(notes, handler)
 }
 
 // Question 13 where a name is unknown.
+#[tactic(auto, unfolding(crate::specs::Draft::wanted, laws::specs::Choice::pick))]
 pub fn want(notes: &mut [u64], name: Known, place: usize)
     ensures { notes.new ≡ draft.wanted name place notes.old }
 {
@@ -673,6 +684,7 @@ pub fn want(notes: &mut [u64], name: Known, place: usize)
 
 impl Lent<'_> {
     // One more node; its size counts the nodes from `before` on.
+    #[tactic(auto, unfolding(crate::specs::Draft::put, laws::specs::Choice::pick))]
     pub fn put(&mut self, kind: u64, argument: u64, before: usize)
         ensures value { draft_in self.new ≡ draft.put kind argument before (draft_in self.old) }
         ensures same_lists { SameLists self.old self.new }
@@ -688,6 +700,7 @@ impl Lent<'_> {
 
     // A name's node.
     #[inline(always)]
+    #[tactic(auto, unfolding(crate::specs::Draft::put_name))]
     pub fn put_name(&mut self, name: Known, place: usize)
         ensures value { draft_in self.new ≡ draft.put_name name place (draft_in self.old) }
         ensures same_lists { SameLists self.old self.new }
@@ -699,6 +712,7 @@ impl Lent<'_> {
     }
 
     // A node without parts that is no name.
+    #[tactic(auto, unfolding(crate::specs::Draft::put_leaf))]
     pub fn put_leaf(&mut self, kind: u64, argument: u64, place: usize)
         ensures value { draft_in self.new ≡ draft.put_leaf kind argument place (draft_in self.old) }
         ensures same_lists { SameLists self.old self.new }
@@ -711,41 +725,39 @@ impl Lent<'_> {
 
 // ---- Rows.
 
-// The number of a name among those of a kind; question 13 where it is not among them.
-// Kept: (a) as `count`.
-fn use_name(name: &NameAt, notes: &mut [u64], kind: usize) -> usize
-    ensures value { result ≡ draft.number_in name.now.text.now notes.old kind name.now.word.now }
-    ensures notes_after { notes.new ≡ draft.name_used name.now.text.now kind name.now.start name.now.end notes.old }
-{
-    let number = name.number(notes, kind);
-    let known = number < many_of(notes, kind);
-    ask(notes, known, Question::NameKind, name.start);
-    number
-}
+impl NameAt<'_> {
+    // Its number among those of a kind; where it is not among them, how many they are, and question 13.
+    // Kept: (a) as `count`.
+    #[tactic(auto, unfolding(crate::specs::Draft::among_in, laws::specs::Choice::pick))]
+    fn used(&self, notes: &mut [u64], kind: usize) -> usize
+        ensures value { result ≡ draft.number_in self.now.text.now notes.old kind self.now.word.now }
+        ensures notes_after { notes.new ≡ draft.name_used self.now.text.now kind self.now.start self.now.end notes.old }
+    {
+        let number = self.number(notes, kind);
+        let many = many_of(notes, kind);
+        ask(notes, number.is_some(), Question::NameKind, self.start);
+        number.unwrap_or(many)
+    }
 
-// Words of a clause's row, after its party: its verb, and how many fields it names.
-const CLAUSE_VERB: usize = 1;
-
-const CLAUSE_MANY: usize = 2;
-
-// A party that a function names, and its number.
-// Kept: (a) as `declare`; the places are those of a name in the text.
-pub fn use_party(text: &[u8], notes: &mut [u64], start: usize, end: usize) -> usize
-    ensures value { result ≡ draft.number_in text.now notes.old 0 (between text.now start end) }
-    ensures notes_after { notes.new ≡ draft.party_used text.now start end notes.old }
-{
-    use_name(&NameAt::of(text, start, end), notes, PARTY)
+    // The number of a party that a function names.
+    #[tactic(auto, unfolding(crate::specs::Draft::party_used))]
+    pub fn use_party(&self, notes: &mut [u64]) -> usize
+        ensures value { result ≡ draft.number_in self.now.text.now notes.old 0 self.now.word.now }
+        ensures notes_after { notes.new ≡ draft.party_used self.now.text.now self.now.start self.now.end notes.old }
+    {
+        self.used(notes, PARTY)
+    }
 }
 
 impl Lent<'_> {
     // The party of the clause at hand.
-    // Kept: (a) as `declare`.
-    pub fn clause_party(&mut self, text: &[u8], start: usize, end: usize)
-        ensures value { draft_in self.new ≡ draft.clause_party text.now start end (draft_in self.old) }
+    #[tactic(auto, unfolding(crate::specs::Draft::clause_party, laws::specs::Choice::pick))]
+    pub fn clause_party(&mut self, name: &NameAt)
+        ensures value { draft_in self.new ≡ draft.clause_party name.now.text.now name.now.start name.now.end (draft_in self.old) }
         ensures same_lists { SameLists self.old self.new }
     {
         let row = self.note(CLAUSES) as usize;
-        let party = use_name(&NameAt::of(text, start, end), self.notes, PARTY);
+        let party = name.used(self.notes, PARTY);
         if row < Contract::CLAUSES {
             items::set(
                 self.table,
@@ -756,6 +768,8 @@ impl Lent<'_> {
     }
 
     // Its verb: 0 for SET, 1 for OK.
+    // Kept: (a) the number that the row holds: a public function takes any, and `Verb` would ask more of its callers.
+    #[tactic(auto, unfolding(crate::specs::Draft::clause_verb, laws::specs::Choice::pick))]
     pub fn clause_verb(&mut self, verb: u64)
         ensures value { draft_in self.new ≡ draft.clause_verb verb (draft_in self.old) }
         ensures same_lists { SameLists self.old self.new }
@@ -764,13 +778,14 @@ impl Lent<'_> {
         if row < Contract::CLAUSES {
             items::set(
                 self.table,
-                contract::CLAUSES + Clause::WORDS * row + CLAUSE_VERB,
+                contract::CLAUSES + Clause::WORDS * row + Clause::VERB,
                 verb,
             );
         }
     }
 
     // Field number `field` in the row at `at`, the j-th there.
+    #[tactic(auto, unfolding(crate::specs::Draft::field_at, laws::specs::Choice::pick))]
     fn field_at(&mut self, at: usize, j: u64, field: usize)
         requires { at ≤ 300000 }
         ensures value { draft_in self.new ≡ draft.field_at at j field (draft_in self.old) }
@@ -778,30 +793,30 @@ impl Lent<'_> {
     {
         if j < Contract::FIELDS as u64 {
             items::set(self.table, at + Clause::FIELDS + j as usize, field as u64);
-            items::set(self.table, at + CLAUSE_MANY, j + 1);
+            items::set(self.table, at + Clause::FIELD_COUNT, j + 1);
         } else {
             items::set(self.notes, EXCESS, 1);
         }
     }
 
     // One more field of it.
-    // Kept: (a) as `declare`.
-    pub fn clause_field(&mut self, text: &[u8], start: usize, end: usize)
-        ensures value { draft_in self.new ≡ draft.clause_field text.now start end (draft_in self.old) }
+    #[tactic(auto, unfolding(crate::specs::Draft::clause_field, laws::specs::Choice::pick))]
+    pub fn clause_field(&mut self, name: &NameAt)
+        ensures value { draft_in self.new ≡ draft.clause_field name.now.text.now name.now.start name.now.end (draft_in self.old) }
         ensures same_lists { SameLists self.old self.new }
     {
         let row = self.note(CLAUSES) as usize;
-        let field = use_name(&NameAt::of(text, start, end), self.notes, FIELD);
+        let field = name.used(self.notes, FIELD);
         if row < Contract::CLAUSES {
             let at = contract::CLAUSES + Clause::WORDS * row;
-            let table = &mut *self.table;
-            let j = contract::word(table, at + CLAUSE_MANY);
+            let j = self.cell(at + Clause::FIELD_COUNT);
             self.field_at(at, j, field);
         }
     }
 }
 
 // The end of the clause at hand.
+#[tactic(auto, unfolding(crate::specs::Draft::clause_end, laws::specs::Choice::pick))]
 pub fn clause_end(notes: &mut [u64])
     ensures { notes.new ≡ draft.clause_end notes.old }
 {
@@ -813,81 +828,89 @@ pub fn clause_end(notes: &mut [u64])
     }
 }
 
-// The mark of a function's head.
-fn head_mark(state: usize, party: usize, name: &NameAt) -> u64
-    ensures { result ≡ draft.head_mark state party name.now.word.now }
-{
-    name.mark + 16777216 * (16 * (state % 256) as u64 + (party % 16) as u64)
+// A function's head: its name, its place, its state's and its party's number.
+#[derive(Clone, Copy)]
+struct Head<'a> {
+    name: NameAt<'a>,
+    place: usize,
+    state: usize,
+    party: usize,
 }
 
-fn is_headed(name: &NameAt, notes: &[u64], state: usize, party: usize) -> bool
-    ensures { result ≡ draft.is_headed name.now.text.now notes.now state party name.now.word.now }
-{
-    let many = Contract::FUNCTIONS.min(contract::word(notes, FUNCTIONS) as usize);
-    let mark = head_mark(state, party, name);
-    find_from(name.text, notes, mark, name.word, Notes::FUNCTIONS, many) < many
-}
+impl Head<'_> {
+    fn mark(&self) -> u64
+        ensures { result ≡ draft.head_mark self.now.state self.now.party self.now.name.word.now }
+    {
+        self.name.mark + 16777216 * (16 * (self.state % 256) as u64 + (self.party % 16) as u64)
+    }
 
-// Questions 11 and 15 of a function's head.
-// Kept: (d) no list with a place in it: `place` is one of the text, and the notes are any lent words.
-fn head_notes(name: &NameAt, notes: &mut [u64], place: usize, state: usize, party: usize)
-    ensures { notes.new ≡ draft.head_notes name.now.text.now place state party name.now.start name.now.end notes.old }
-{
-    let new = !is_headed(name, notes, state, party);
-    ask_limit(notes, FUNCTIONS, Contract::FUNCTIONS, place);
-    ask(notes, new, Question::FunctionNew, name.start);
+    // Whether a function has it.
+    #[tactic(auto, unfolding(crate::specs::Draft::is_headed))]
+    fn is_among(&self, notes: &[u64]) -> bool
+        ensures { result ≡ draft.is_headed self.now.name.text.now notes.now self.now.state self.now.party self.now.name.word.now }
+    {
+        let many = Contract::FUNCTIONS.min(contract::word(notes, FUNCTIONS) as usize);
+        self.name
+            .find_from(notes, self.mark(), Notes::FUNCTIONS, many)
+            .is_some()
+    }
+
+    // Questions 11 and 15.
+    #[tactic(auto, unfolding(crate::specs::Draft::head_notes, laws::specs::Choice::pick))]
+    fn ask(&self, notes: &mut [u64])
+        ensures { notes.new ≡ draft.head_notes self.now.name.text.now self.now.place self.now.state self.now.party self.now.name.start self.now.name.end notes.old }
+    {
+        let new = !self.is_among(notes);
+        ask_limit(notes, FUNCTIONS, Contract::FUNCTIONS, self.place);
+        ask(notes, new, Question::FunctionNew, self.name.start);
+    }
 }
 
 impl Lent<'_> {
     // Function i with its state, party and name.
-    fn write_head(&mut self, name: &NameAt, i: usize, state: usize, party: usize)
+    #[tactic(auto, unfolding(crate::specs::Draft::headed))]
+    fn write_head(&mut self, head: &Head, i: usize)
         requires { i < 64 }
-        ensures value { draft_in self.new ≡ draft.headed name.now.text.now i state party name.now.start name.now.end (draft_in self.old) }
+        ensures value { draft_in self.new ≡ draft.headed head.now.name.text.now i head.now.state head.now.party head.now.name.start head.now.name.end (draft_in self.old) }
         ensures same_lists { SameLists self.old self.new }
     {
         let at = contract::FUNCTIONS + Function::WORDS * i;
-        items::store_all(self.table, at, &[state as u64, party as u64]);
-        write_row(self.table, at + Function::NAME, name.word);
-        let mark = head_mark(state, party, name);
-        write_slot(self.notes, Notes::FUNCTIONS + i, mark, name);
+        items::store_all(self.table, at, &[head.state as u64, head.party as u64]);
+        write_row(self.table, at + Function::NAME, head.name.word);
+        write_slot(self.notes, Notes::FUNCTIONS + i, head.mark(), &head.name);
         items::set(self.notes, FUNCTIONS, i as u64 + 1);
     }
 
     // One more head, within the limit; questions 11 and 15.
-    fn enter_head(&mut self, name: &NameAt, place: usize, state: usize, party: usize)
-        ensures value { draft_in self.new ≡ draft.head_entered name.now.text.now place state party name.now.start name.now.end (draft_in self.old) }
+    #[tactic(auto, unfolding(laws::specs::Choice::pick))]
+    fn enter_head(&mut self, head: &Head)
+        ensures value { draft_in self.new ≡ draft.head_entered head.now.name.text.now head.now.place head.now.state head.now.party head.now.name.start head.now.name.end (draft_in self.old) }
         ensures same_lists { SameLists self.old self.new }
     {
         let n = self.note(FUNCTIONS) as usize;
-        head_notes(name, self.notes, place, state, party);
+        head.ask(self.notes);
         if n < Contract::FUNCTIONS {
-            self.write_head(name, n, state, party);
+            self.write_head(head, n);
         }
     }
 
-    // A function's head: its place, its state's and its party's number, its name.
-    // Kept: (a) as `declare`; the place is one in the text.
-    pub fn head(
-        &mut self,
-        text: &[u8],
-        place: usize,
-        state: usize,
-        party: usize,
-        start: usize,
-        end: usize,
-    )
-        ensures value { draft_in self.new ≡ draft.head text.now place state party start end (draft_in self.old) }
+    // A function's head: its name, its place, its state's and its party's number.
+    #[tactic(auto, unfolding(crate::specs::Draft::head))]
+    pub fn head(&mut self, name: &NameAt, place: usize, state: usize, party: usize)
+        ensures value { draft_in self.new ≡ draft.head name.now.text.now place state party name.now.start name.now.end (draft_in self.old) }
         ensures same_lists { SameLists self.old self.new }
     {
-        let name = NameAt::of(text, start, end);
-        self.enter_head(&name, place, state, party);
+        let head = Head {
+            name: *name,
+            place,
+            state,
+            party,
+        };
+        self.enter_head(&head);
         items::set(self.notes, VALUE, 0);
         items::set(self.notes, PARAMETER, 0);
     }
 }
-
-// Where the rest of a function's row starts: after its state and its party.
-const FUNCTION_REST: usize = 2;
 
 // The rest of a function's row.
 #[derive(Clone, Copy)]
@@ -902,12 +925,13 @@ pub struct Rest {
 
 impl Lent<'_> {
     // The rest of function i's row.
+    #[tactic(auto, unfolding(crate::specs::Draft::function_rest, laws::specs::Choice::pick))]
     pub fn function_rest(&mut self, i: usize, rest: Rest)
         ensures value { draft_in self.new ≡ draft.function_rest i rest.last rest.first rest.precondition rest.body rest.event rest.events (draft_in self.old) }
         ensures same_lists { SameLists self.old self.new }
     {
         if i < Contract::FUNCTIONS {
-            let at = contract::FUNCTIONS + Function::WORDS * i + FUNCTION_REST;
+            let at = contract::FUNCTIONS + Function::WORDS * i + Function::LAST;
             let values = self.note(VALUE);
             let parameters = self.note(PARAMETER);
             let row = [
@@ -927,6 +951,7 @@ impl Lent<'_> {
 
 // An event's row.
 // Kept: (d) no list with its length: `i` is an event's number, in a table of any length.
+#[tactic(auto, unfolding(crate::specs::Draft::event_row, laws::specs::Choice::pick))]
 pub fn event_row(table: &mut [u64], i: usize, state: usize, last: usize, node: usize)
     ensures { table.new ≡ draft.event_row i state last node table.old }
 {
@@ -937,15 +962,16 @@ pub fn event_row(table: &mut [u64], i: usize, state: usize, last: usize, node: u
 }
 
 // The contract's name.
-// Kept: (a) as `declare`; the places are those of a name in the text.
-pub fn title(text: &[u8], table: &mut [u64], start: usize, end: usize)
-    ensures { table.new ≡ draft.title text.now start end table.old }
+#[tactic(auto, unfolding(crate::specs::Draft::title))]
+pub fn title(table: &mut [u64], name: &NameAt)
+    ensures { table.new ≡ draft.title name.now.text.now name.now.start name.now.end table.old }
 {
-    write_row(table, contract::NAME, tokens::between(text, start, end));
+    write_row(table, contract::NAME, name.word);
 }
 
 impl Lent<'_> {
     // How many there are of each, and the initial state.
+    #[tactic(auto, unfolding(crate::specs::Draft::counts))]
     pub fn write_counts(&mut self, initial: usize)
         ensures value { draft_in self.new ≡ draft.with_table (draft_in self.old) (draft.counts initial self.old.notes.now self.old.table.now) }
         ensures same_lists { SameLists self.old self.new }
@@ -970,15 +996,15 @@ impl Lent<'_> {
 const CLEARED: usize = 128;
 
 // A table of zeros.
-// Kept: (b) with one `fill` of the whole table a reading of text_16384_shape_0 takes 97 per cent more instructions (unproved builds), since the bytes
-// of a long run are stored one by one; (c) `chunks_mut`, whose contract says nothing of what the slice ends as.
+// Kept: (b) in parts: with one `fill` of the whole table a reading of the two texts of `same_bytes` takes 19.0 and 18.3 per cent more instructions
+// (unproved builds), since the C library's `memset` clears a long run by `rep stosb`, which callgrind counts byte by byte, and the bar is one of
+// instructions; it takes no more time (docs/TIMES.md). (c) `chunks_mut`: once its borrow is over, nothing is known of what the slice holds.
+#[tactic(auto, using(crate::proofs::Rows::clear_part, crate::proofs::Rows::clear_last), unfolding(contract::specs::Encode::zeros))]
 pub fn clear(table: &mut [u64])
     ensures { table.new ≡ zeros (length table.old) }
 {
-    let mut start: usize = 0;
-    while start < table.len() {
-        let end = start + CLEARED.min(table.len() - start);
+    for start in (0..table.len()).step_by(CLEARED) {
+        let end = table.len().min(start + CLEARED);
         table[start..end].fill(0);
-        start = end;
     }
 }

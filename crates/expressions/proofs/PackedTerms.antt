@@ -13,7 +13,7 @@ use Rattle.tokens.specs.Tokens.{between, name as nameKind, number as numberKind,
 use Rattle.contract.specs.Table.{constant_kind, string_kind as stringNode, now_kind}
 use Rattle.entries.specs.declared.Known.{Known}
 use Rattle.entries.specs.Draft.{note, counted, mention, number_in, name_in, put, put_name, put_leaf}
-use Rattle.reading_laws.specs.Walk.{AgreesWith, draft, cursor_at, unfit_at, string_leaf, leaf}
+use Rattle.reading_laws.specs.Walk.{AgreesWith, draft, next_of, unfit_at, string_leaf, leaf}
 use Rattle.cursors.specs.Packed.{kind_in, start_in, end_in, is_stop, digits_at, cursor_in, step_in}
 use Rattle.cursors.proofs.Tested.{as_on}
 use Rattle.reading_laws.proofs.AgreesWith.{is_stop_lem}
@@ -57,17 +57,13 @@ module _ (s : List ℕ) (h : Bool) (c k : ℕ) (t n : List ℕ) (k-is : k ≡ ki
       (pick_false _ _ _ (kind_not nameKind f1) ∙ pick_false _ _ _ (kind_not numberKind f2) ∙ pick_false _ _ _ (kind_not string_kind f3) ∙ pick_false _ _ _ (kind_not now_word f4))
       g
 
-  module _ (e : ℕ) (e-is : e ≡ end_in c) (d : ℕ) (next : cursor_in s d ≡ cursor_at s e) (going : is_stop d ≡ false) (t' n' : List ℕ) where
-    after_it : cursor_in s d ≡ cursor_at s (end_in c)
-    after_it = next ∙ ap (cursor_at s) e-is
-
-    pub leaf_name : (a b o : ℕ) (x : Known) → k ≡ nameKind → a ≡ start_in c → b ≡ end_in c → o ≡ start_in c → x ≡ name_in s n h (between s a b)
+  module _ (d : ℕ) (next : cursor_in s d ≡ next_of s (cursor_in s c)) (going : is_stop d ≡ false) (t' n' : List ℕ) where
+    pub leaf_name : (o : ℕ) (x : Known) → k ≡ nameKind → o ≡ start_in c → x ≡ name_in s n h (between s (start_in c) (end_in c))
         → draft t' n' ≡ put_name x o (draft t n) → AgreesWith (leaf s h (cursor_in s c) (draft t n)) (step_in s d) t' n'
     unfolding leaf cursor_in
-    leaf_name a b o x f a-is b-is o_is hx g =
-        let y : x ≡ name_in s n h (between s (start_in c) (end_in c)) = hx ∙ (λ i. name_in s n h (between s (a-is i) (b-is i))) in
+    leaf_name o x f o_is y g =
         as_on s _ d t' n' going
-        (goes_on _ _ (cursor_in s d) _ t' n' (pick_true _ _ _ (kind_is nameKind f)) after_it (g ∙ (λ i. put_name (y i) (o_is i) (draft t n))))
+        (goes_on _ _ (cursor_in s d) _ t' n' (pick_true _ _ _ (kind_is nameKind f)) next (g ∙ (λ i. put_name (y i) (o_is i) (draft t n))))
 
     pub leaf_number : (a v o : ℕ) → (k ≡ nameKind → ⊥) → k ≡ numberKind → a ≡ start_in c → v ≡ digits_at s a → o ≡ start_in c
         → draft t' n' ≡ put_leaf constant_kind v o (draft t n)
@@ -76,7 +72,7 @@ module _ (s : List ℕ) (h : Bool) (c k : ℕ) (t n : List ℕ) (k-is : k ≡ ki
     leaf_number a v o f1 f a-is v-is o_is g =
         let y : v ≡ (cursor_in s c).value = v-is ∙ ap (digits_at s) a-is ∙ sym (pick_true _ _ _ (kind_is numberKind f)) in
         as_on s _ d t' n' going
-        (goes_on _ _ (cursor_in s d) _ t' n' (pick_false _ _ _ (kind_not nameKind f1) ∙ pick_true _ _ _ (kind_is numberKind f)) after_it
+        (goes_on _ _ (cursor_in s d) _ t' n' (pick_false _ _ _ (kind_not nameKind f1) ∙ pick_true _ _ _ (kind_is numberKind f)) next
         (g ∙ (λ i. put_leaf constant_kind (y i) (o_is i) (draft t n))))
 
     pub leaf_string : (k ≡ nameKind → ⊥) → (k ≡ numberKind → ⊥) → k ≡ string_kind
@@ -87,7 +83,7 @@ module _ (s : List ℕ) (h : Bool) (c k : ℕ) (t n : List ℕ) (k-is : k ≡ ki
         as_on s _ d t' n' going
         (goes_on _ _ (cursor_in s d) _ t' n'
         (pick_false _ _ _ (kind_not nameKind f1) ∙ pick_false _ _ _ (kind_not numberKind f2) ∙ pick_true _ _ _ (kind_is string_kind f))
-        after_it g)
+        next g)
 
     pub leaf_now : (o : ℕ) → (k ≡ nameKind → ⊥) → (k ≡ numberKind → ⊥) → (k ≡ string_kind → ⊥) → k ≡ now_word → o ≡ start_in c
         → draft t' n' ≡ put_leaf now_kind 0 o (draft t n)
@@ -97,13 +93,13 @@ module _ (s : List ℕ) (h : Bool) (c k : ℕ) (t n : List ℕ) (k-is : k ≡ ki
         as_on s _ d t' n' going
         (goes_on _ _ (cursor_in s d) _ t' n'
         (pick_false _ _ _ (kind_not nameKind f1) ∙ pick_false _ _ _ (kind_not numberKind f2) ∙ pick_false _ _ _ (kind_not string_kind f3) ∙ pick_true _ _ _ (kind_is now_word f))
-        after_it (g ∙ (λ i. put_leaf now_kind 0 (o_is i) (draft t n))))
+        next (g ∙ (λ i. put_leaf now_kind 0 (o_is i) (draft t n))))
 
 -- ---- `~` in a row
 
 module _ (s n₀ : List ℕ) (c₀ : ℕ) (n : List ℕ) (c m : ℕ) (left : NotsLeft s n₀ (cursor_in s c₀) n (cursor_in s c) m) where
-  pub another : (k o e : ℕ) → m < length s → k ≡ kind_in c → k ≡ not_mark → o ≡ start_in c → (n' : List ℕ) → n' ≡ counted 9 o n → e ≡ end_in c
-      → (d : ℕ) → cursor_in s d ≡ cursor_at s e → NotsLeft s n₀ (cursor_in s c₀) n' (cursor_in s d) (m + 1)
+  pub another : (k o : ℕ) → m < length s → k ≡ kind_in c → k ≡ not_mark → o ≡ start_in c → (n' : List ℕ) → n' ≡ counted 9 o n
+      → (d : ℕ) → cursor_in s d ≡ next_of s (cursor_in s c) → NotsLeft s n₀ (cursor_in s c₀) n' (cursor_in s d) (m + 1)
   unfolding cursor_in
-  another k o e h k-is f o_is n' hn e-is d next =
-      nots_turn s n₀ (cursor_in s c₀) n (cursor_in s c) m left h (sym k-is ∙ f) n' (hn ∙ ap (λ (z : ℕ). counted 9 z n) o_is) (cursor_in s d) (next ∙ ap (cursor_at s) e-is)
+  another k o h k-is f o_is n' hn d next =
+      nots_turn s n₀ (cursor_in s c₀) n (cursor_in s c) m left h (sym k-is ∙ f) n' (hn ∙ ap (λ (z : ℕ). counted 9 z n) o_is) (cursor_in s d) next

@@ -1,21 +1,20 @@
 -- Laws of expressions and conditions: chains of operators, factors, comparisons and what is in parentheses. Assumes nothing.
 use mathlib.Core.Path.{◌≡◌, refl, sym, ap, ◌∙◌}
-use mathlib.Core.List.{List, [], ◌∷◌}
+use mathlib.Core.List.{List}
 use mathlib.Core.Bool.{Bool, true, false}
 use Prim.Native.Nat.{ℕ, zero, suc, ◌-◌, ◌<◌, ◌≤◌}
 use native.Mathlib.Omega.{arith}
 use lib.ListN.{length}
-use lib.Dec.{eqb}
-use borrow.Author.Tests.{eqb-false, eq-eqb, ne_eqb}
+use borrow.Author.Tests.{eq-eqb}
 use Rattle.laws.specs.Choice.{pick}
-use Rattle.laws.proofs.Choice.{pick_true, pick_false, by_cases}
+use Rattle.laws.proofs.Choice.{pick_true, pick_false}
 use Rattle.entries.specs.Draft.{Draft, note, counted, put}
 use Rattle.reading.specs.Grammar.{is_one_of, operators, comparisons}
-use Rattle.reading_laws.specs.Walk.{Walk, on, stop, AgreesWith, draft, follow, after, counting, nodes, operator_node, negations, next_of, token, closed_by, enclosed, factor, row_from, chain, inside_expression, expression, comparison, simple, primary, inside_condition, condition}
+use Rattle.reading_laws.specs.Walk.{Walk, on, stop, AgreesWith, draft, follow, after, counting, nodes, operator_node, negations, next_of, token, closed_by, enclosed, factor, row_from, chain, inside_expression, expression, comparison, simple, primary, inside_condition, operand_at}
 use Rattle.reading_laws.specs.Walk.{Cursor}
 use Rattle.expressions.specs.declared.terms.Nots.{Nots}
 use Rattle.cursors.specs.Packed.{cursor_in}
-use Rattle.expressions.specs.Private.{NotsAre}
+use Rattle.expressions.specs.Private.{NotsAre, chain_at, enclosed_at}
 use Rattle.reading_laws.specs.Walk.{Step}
 use Rattle.reading_laws.specs.Walk.{On, Stop}
 use Rattle.reading_laws.proofs.AgreesWith.{leaves_same}
@@ -25,7 +24,7 @@ unfoldable pub weight : ℕ → ℕ
 weight zero = 16
 weight (suc zero) = 12
 weight (suc (suc zero)) = 5
-weight (suc (suc (suc r))) = 1
+weight (suc (suc (suc r))) = 2
 
 pub weight_zero : (r : ℕ) → r ≡ 0 → weight r ≡ 16
 unfolding weight
@@ -39,16 +38,23 @@ pub weight_two : (r : ℕ) → r ≡ 2 → weight r ≡ 5
 unfolding weight
 weight_two r e = ap weight e
 
-pub weight_three : (r : ℕ) → r ≡ 3 → weight r ≡ 1
+pub weight_three : (r : ℕ) → r ≡ 3 → weight r ≡ 2
 unfolding weight
 weight_three r e = ap weight e
 
-pub weight_low : (r : ℕ) → 1 ≤ weight r
+pub weight_low : (r : ℕ) → 2 ≤ weight r
 unfolding weight
 weight_low zero = omega arith
 weight_low (suc zero) = omega arith
 weight_low (suc (suc zero)) = omega arith
 weight_low (suc (suc (suc r))) = omega arith
+
+pub weight_high : (r : ℕ) → weight r ≤ 16
+unfolding weight
+weight_high zero = omega arith
+weight_high (suc zero) = omega arith
+weight_high (suc (suc zero)) = omega arith
+weight_high (suc (suc (suc r))) = omega arith
 
 -- ---- a step where a cursor and a pass are
 
@@ -63,18 +69,6 @@ enclosed_leaves s (on c p) r a t n h e = steps_leave (token s 21 c) a p t n (e �
 enclosed_leaves s (stop q o) r a t n h e = e ∙ ap (closed_by s) h
 
 -- ---- operators of a rank
-
--- one of two numbers in a row, or not
-pub in_pair : (i k : ℕ) → ((k ≡ i → ⊥) → (k ≡ suc i → ⊥) → ⊥) → is_one_of (i ∷ suc i ∷ []) k ≡ true
-unfolding is_one_of
-in_pair i k h =
-    by_cases (λ (b : Bool). b ≡ true) (eqb k i) true _ (λ _. refl)
-    (λ e. by_cases (λ (b : Bool). b ≡ true) (eqb k (suc i)) true _ (λ _. refl)
-    (λ f. absurd (h (eqb-false k i e) (eqb-false k (suc i) f))))
-
-pub not_in_pair : (i k : ℕ) → (k ≡ i → ⊥) → (k ≡ suc i → ⊥) → is_one_of (i ∷ suc i ∷ []) k ≡ false
-unfolding is_one_of
-not_in_pair i k a b = pick_false _ _ _ (ne_eqb k i a) ∙ pick_false _ _ _ (ne_eqb k (suc i) b)
 
 module _ (s : List ℕ) (r : ℕ) (op : Cursor → Draft → Walk) (b : ℕ) where
   pub row_off : (f : ℕ) (c : Cursor) (p : Draft) → is_one_of (operators r) c.kind ≡ false → row_from s r op b f c p ≡ on c p
@@ -122,48 +116,32 @@ module _ (s : List ℕ) (r : ℕ) (op : Cursor → Draft → Walk) (c : Cursor) 
   pub chain_done : (d : Cursor) (q : Draft) → op c p ≡ on d q → is_one_of (operators r) d.kind ≡ false → chain s r op c p ≡ on d q
   chain_done d q e f = sym (chain_more d q (nodes p) e refl) ∙ row_off s r op (nodes p) (length s) d q f
 
--- ---- factors
+-- ---- in parentheses
 
 module _ (s : List ℕ) (h : Bool) where
-  inside_more : (lv : ℕ) (o : ℕ) (c : Cursor) (p : Draft) → (lv ≡ 0 → ⊥) → inside_expression s h lv o c p ≡ expression s h (lv - 1) c p
-  unfolding inside_expression
-  inside_more zero o c p x = absurd (x refl)
-  inside_more (suc n) o c p x = let e : n ≡ suc n - 1 = omega arith in ap (λ (j : ℕ). expression s h j c p) e
+  pub enclosed_shut : (n r : ℕ) (c : Cursor) (p : Draft) → n ≡ 0 → enclosed_at s h n r c p ≡ stop 10 c.start
+  unfolding enclosed_at
+  enclosed_shut n r c p z = ap (λ (x : ℕ). enclosed_at s h x r c p) z
 
-  within_more : (lv : ℕ) (o : ℕ) (c : Cursor) (p : Draft) → (lv ≡ 0 → ⊥) → inside_condition s h lv o c p ≡ condition s h (lv - 1) c p
-  unfolding inside_condition
-  within_more zero o c p x = absurd (x refl)
-  within_more (suc n) o c p x = let e : n ≡ suc n - 1 = omega arith in ap (λ (j : ℕ). condition s h j c p) e
+  pub enclosed_open : (n r : ℕ) (c d : Cursor) (p : Draft) (x a : Step) (t m : List ℕ) → (n ≡ 0 → ⊥) → d ≡ next_of s c
+      → AgreesWith (chain_at s h (n - 1) r d p) x t m → a ≡ closed_by s x → AgreesWith (enclosed_at s h n r c p) a t m
+  unfolding enclosed_at
+  enclosed_open zero r c d p x a t m z d-is l e = absurd (z refl)
+  enclosed_open (suc n) r c d p x a t m z d-is l e =
+      let n-is : suc n - 1 ≡ n = omega arith in
+      enclosed_leaves s (chain_at s h n r (next_of s c) p) x a t m (leaves_same _ _ _ _ _ (λ i. chain_at s h (n-is i) r (d-is i) p) l) e
 
-  pub factor_shut : (lv : ℕ) (c : Cursor) (p : Draft) → c.kind ≡ 20 → lv ≡ 0 → factor s h (inside_expression s h lv) c p ≡ stop 10 c.start
-  unfolding factor inside_expression
-  factor_shut lv c p k z =
-      pick_true _ _ _ (eq-eqb _ _ k) ∙ ap (λ (x : ℕ). enclosed s (inside_expression s h x c.start (next_of s c) p)) z
+  pub factor_encloses : (n : ℕ) (c : Cursor) (p : Draft) → c.kind ≡ 20 → enclosed_at s h n 2 c p ≡ factor s h (inside_expression s h n) c p
+  unfolding factor inside_expression operand_at enclosed_at
+  factor_encloses zero c p k = sym (pick_true _ _ _ (eq-eqb _ _ k))
+  factor_encloses (suc n) c p k = sym (pick_true _ _ _ (eq-eqb _ _ k))
 
-  pub factor_open : (lv : ℕ) (c d : Cursor) (p : Draft) (r a : Step) (t n : List ℕ) → c.kind ≡ 20 → (lv ≡ 0 → ⊥) → d ≡ next_of s c
-      → AgreesWith (expression s h (lv - 1) d p) r t n → a ≡ closed_by s r → AgreesWith (factor s h (inside_expression s h lv) c p) a t n
-  unfolding factor
-  factor_open lv c d p r a t n k z d-is l e =
-      let w : expression s h (lv - 1) d p ≡ inside_expression s h lv c.start (next_of s c) p =
-      ap (λ (x : Cursor). expression s h (lv - 1) x p) d-is ∙ sym (inside_more lv c.start (next_of s c) p z) in
-      leaves_same _ _ _ _ _ (sym (pick_true _ _ _ (eq-eqb _ _ k)))
-      (enclosed_leaves s (inside_expression s h lv c.start (next_of s c) p) r a t n (leaves_same _ _ _ _ _ w l) e)
+  pub simple_encloses : (n : ℕ) (c : Cursor) (p : Draft) → c.kind ≡ 20 → enclosed_at s h n 0 c p ≡ simple s h n (inside_condition s h n) c p
+  unfolding simple inside_condition operand_at enclosed_at
+  simple_encloses zero c p k = sym (pick_true _ _ _ (eq-eqb _ _ k))
+  simple_encloses (suc n) c p k = sym (pick_true _ _ _ (eq-eqb _ _ k))
 
   -- ---- conditions
-
-  pub simple_shut : (lv : ℕ) (c : Cursor) (p : Draft) → c.kind ≡ 20 → lv ≡ 0 → simple s h lv (inside_condition s h lv) c p ≡ stop 10 c.start
-  unfolding simple inside_condition
-  simple_shut lv c p k z =
-      pick_true _ _ _ (eq-eqb _ _ k) ∙ ap (λ (x : ℕ). enclosed s (inside_condition s h x c.start (next_of s c) p)) z
-
-  pub simple_open : (lv : ℕ) (c d : Cursor) (p : Draft) (r a : Step) (t n : List ℕ) → c.kind ≡ 20 → (lv ≡ 0 → ⊥) → d ≡ next_of s c
-      → AgreesWith (condition s h (lv - 1) d p) r t n → a ≡ closed_by s r → AgreesWith (simple s h lv (inside_condition s h lv) c p) a t n
-  unfolding simple
-  simple_open lv c d p r a t n k z d-is l e =
-      let w : condition s h (lv - 1) d p ≡ inside_condition s h lv c.start (next_of s c) p =
-      ap (λ (x : Cursor). condition s h (lv - 1) x p) d-is ∙ sym (within_more lv c.start (next_of s c) p z) in
-      leaves_same _ _ _ _ _ (sym (pick_true _ _ _ (eq-eqb _ _ k)))
-      (enclosed_leaves s (inside_condition s h lv c.start (next_of s c) p) r a t n (leaves_same _ _ _ _ _ w l) e)
 
   module _ (lv : ℕ) (inside : ℕ → Cursor → Draft → Walk) (c : Cursor) (t n n₁ : List ℕ) (r : Nots) (are : NotsAre s c n r n₁) where
     primary_is : primary s h lv inside c (draft t n)

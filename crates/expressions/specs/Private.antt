@@ -1,7 +1,7 @@
 -- For private functions only.
-use Rattle.std.specs.Prelude.{ℕ, ◌≡◌, false, List, length}
+use Rattle.std.specs.Prelude.{ℕ, zero, suc, ◌≡◌, Bool, false, List, length}
 use Rattle.entries.specs.Draft.{Draft}
-use Rattle.reading_laws.specs.Walk.{Cursor, Walk, draft, nots}
+use Rattle.reading_laws.specs.Walk.{Cursor, Walk, stop, draft, next_of, enclosed, nots, chain, operand_at}
 use Rattle.cursors.specs.Packed.{is_stop, cursor_in}
 use Rattle.expressions.specs.declared.terms.Nots.{Nots}
 use Rattle.expressions.specs.declared.terms.Rank.{Rank}
@@ -19,3 +19,13 @@ rank_number Or = 0
 rank_number And = 1
 rank_number Sum = 2
 rank_number Product = 3
+
+module _ (s : List ℕ) (h : Bool) where
+  -- operands of a rank with its operators between them
+  abbrev pub chain_at : ℕ → ℕ → Cursor → Draft → Walk
+  chain_at n r = chain s r (operand_at s h n r)
+
+  -- the same in parentheses, at the opening one
+  unfoldable pub enclosed_at : ℕ → ℕ → Cursor → Draft → Walk
+  enclosed_at zero r c p = stop 10 c.start
+  enclosed_at (suc n) r c p = enclosed s (chain_at n r (next_of s c) p)

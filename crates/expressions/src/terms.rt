@@ -8,11 +8,12 @@ ghost use Rattle.expressions.specs.Private.{NotsAre, rank_number};
 ghost use Rattle.reading_laws.specs.Walk as walk;
 
 use contract::Node;
-use entries::Lent;
+use entries::{Lent, NameAt};
 use tokens::Token;
 
 // The node of an operator or a comparison. Callers ask for no other token's; `>=` is the last, so that the match needs no arm for the others.
 // Kept: (d) both sides are numbers of the documents, in another order each, so that a table of nodes by the token's number would say less.
+#[tactic(auto, unfolding(reading_laws::specs::Walk::operator_node, laws::specs::Choice::pick))]
 pub(crate) fn operator_node(kind: u8) -> u64
     ensures { result ≡ walk.operator_node kind }
 {
@@ -42,6 +43,7 @@ pub(crate) enum Rank {
 }
 
 // Whether a token is an operator of a rank.
+#[tactic(auto, unfolding(reading::specs::Grammar::is_one_of, laws::specs::Choice::pick))]
 pub(crate) fn is_operator(rank: Rank, kind: u8) -> bool
     ensures { result ≡ is_one_of (operators (rank_number rank)) kind }
 {
@@ -53,6 +55,7 @@ pub(crate) fn is_operator(rank: Rank, kind: u8) -> bool
     }
 }
 
+#[tactic(auto, unfolding(reading::specs::Grammar::is_one_of, laws::specs::Choice::pick))]
 pub(crate) fn is_comparison(kind: u8) -> bool
     ensures { result ≡ is_one_of comparisons kind }
 {
@@ -85,7 +88,7 @@ pub(crate) struct Nots {
 }
 
 // What an expression stands in: a text short enough for cursors, how many levels of parentheses are left, and whether it is in a handler.
-// Kept: (d) a text that is short, as in `Lists` of clauses.
+// Kept: (a) a text that is short, as in `Lists` of clauses.
 #[derive(Clone, Copy)]
 pub(crate) struct Scope<'a> {
     pub(crate) text: &'a [u8],
@@ -109,7 +112,8 @@ impl Scope<'_> {
         }
         let place = cursors::start_of(c);
         entries::count(lent.notes, entries::NODE, place);
-        let number = lent.mention(self.text, entries::STRING, start, end, place);
+        let name = NameAt::of(self.text, start, end);
+        let number = lent.mention(&name, entries::STRING, place);
         let before = lent.nodes();
         lent.put(Node::STRING, number as u64, before);
     }
@@ -122,14 +126,7 @@ impl Scope<'_> {
     {
         match cursors::kind_of(c) {
             Token::NAME => {
-                let notes = &mut *lent.notes;
-                let name = entries::name(
-                    self.text,
-                    notes,
-                    self.handler,
-                    cursors::start_of(c),
-                    cursors::end_of(c),
-                );
+                let name = cursors::name_at(self.text, c).named(lent, self.handler);
                 lent.put_name(name, cursors::start_of(c));
             }
             Token::NUMBER => lent.put_leaf(
@@ -141,10 +138,11 @@ impl Scope<'_> {
             words::NOW => lent.put_leaf(Node::NOW, 0, cursors::start_of(c)),
             _ => return cursors::unfit(self.text, c),
         }
-        cursors::lex(self.text, cursors::end_of(c))
+        cursors::past(self.text, c)
     }
 
-    // Kept: (d) as many turns as the definition counts, as in `rest`.
+    // Kept: (a) as many turns as the text has bytes, which the definition counts too: a public parser takes any number for its cursor, and from one at
+    // a `~` that ends at 0, in the text `~`, a `while` over the kind would count two where the definition counts one.
     pub(crate) fn count_nots(&self, notes: &mut [u64], c: u64) -> Nots
         requires { is_stop c ≡ false }
         ensures { NotsAre self.now.text.now (cursor_in self.now.text.now c) notes.old result notes.new }
@@ -155,7 +153,7 @@ impl Scope<'_> {
                 return Nots { many, next: here };
             }
             entries::count(notes, entries::NODE, cursors::start_of(here));
-            here = cursors::lex(self.text, cursors::end_of(here));
+            here = cursors::past(self.text, here);
         }
         Nots {
             many: self.text.len(),

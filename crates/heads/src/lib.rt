@@ -2,30 +2,28 @@
 #![tactic(auto)]
 
 ghost use Rattle.std.specs.Prelude.{◌≡◌, length};
-ghost use Rattle.cursors.specs.Packed.{cursor_in, step_in, entered, step_after, table_after, notes_after};
+ghost use Rattle.entries.specs.Lending.{draft_in, SameLists};
+ghost use Rattle.cursors.specs.Packed.{cursor_in, step_in, entered, step_after, draft_after};
 ghost use Rattle.reading_laws.specs.Walk as walk;
-ghost use Rattle.reading_laws.specs.Walk.{draft};
 
 use contract::Contract;
 use entries::Lent;
 use parts::Functions;
-use questions::Question;
 
 mod parts;
 
 // The functions of a contract.
 // Kept: (a) as `cursors::leave` says: one function over the public parsers would be public, and require that its closure may be called.
-pub fn functions(text: &[u8], table: &mut [u64], notes: &mut [u64], c: u64) -> u64
-    ensures value { step_in text.now result ≡ step_after (entered text.now (walk.functions text.now (length text.now) (cursor_in text.now c) (draft table.old notes.old))) }
-    ensures table_after { table.new ≡ table_after table.old (entered text.now (walk.functions text.now (length text.now) (cursor_in text.now c) (draft table.old notes.old))) }
-    ensures notes_after { notes.new ≡ notes_after notes.old (entered text.now (walk.functions text.now (length text.now) (cursor_in text.now c) (draft table.old notes.old))) }
+pub fn functions(text: &[u8], lent: &mut Lent, c: u64) -> u64
+    ensures value { step_in text.now result ≡ step_after (entered text.now (walk.functions text.now (length text.now) (cursor_in text.now c) (draft_in lent.old))) }
+    ensures lists { draft_in lent.new ≡ draft_after (draft_in lent.old) (entered text.now (walk.functions text.now (length text.now) (cursor_in text.now c) (draft_in lent.old))) }
+    ensures same_lists { SameLists lent.old lent.new }
 {
     // The test has a name, which a proof keeps where the edit `long_text_passes` asks another length.
     let long = Contract::TEXT < text.len();
     if long {
-        return cursors::leave(table, notes, cursors::stop(Question::TextLength as u8, 0));
+        return cursors::too_long(lent);
     }
-    let mut lent = Lent { table, notes };
-    let r = Functions { text }.functions(&mut lent, cursors::going(c));
-    cursors::leave(table, notes, r)
+    let r = Functions { text }.functions(lent, cursors::going(c));
+    cursors::leave(lent, r)
 }

@@ -9,7 +9,7 @@ use contract::Contract;
 use entries::{Lent, Notes, Rest};
 
 // A text with functions, short enough for cursors.
-// Kept: (d) a text that is short, as in `Lists` of clauses.
+// Kept: (a) a text that is short, as in `Lists` of clauses.
 #[derive(Clone, Copy)]
 pub(crate) struct Functions<'a> {
     pub(crate) text: &'a [u8],
@@ -18,17 +18,16 @@ pub(crate) struct Functions<'a> {
 
 impl Functions<'_> {
     // The names of a list of parameters, which may be empty, and its end.
-    // Kept: (d) that c is no stop, here and below: with a type that says so crate clauses had 49 lines more, since a parser's answer is a cursor or a
-    // stop in one number, and is wrapped again before the next parser takes it.
+    // Kept: (d) that c is no stop, here and below, as in `Lists::one` of clauses.
     fn parameter_names(&self, lent: &mut Lent, c: u64, closing: u8, kind: usize) -> u64
         requires { is_stop c ≡ false }
         ensures value { Follows self.now.text.now (walk.parameter_names self.now.text.now closing kind (cursor_in self.now.text.now c)) result lent.old lent.new }
         ensures same_lists { SameLists lent.old lent.new }
     {
         if cursors::kind_of(c) == closing {
-            return cursors::lex(self.text, cursors::end_of(c));
+            return cursors::past(self.text, c);
         }
-        let after = clauses::names(self.text, lent.table, lent.notes, c, kind);
+        let after = clauses::names(self.text, lent, c, kind);
         if cursors::stops(after) {
             return after;
         }
@@ -42,12 +41,7 @@ impl Functions<'_> {
         ensures same_lists { SameLists lent.old lent.new }
     {
         if cursors::kind_of(c) == opening {
-            return self.parameter_names(
-                lent,
-                cursors::lex(self.text, cursors::end_of(c)),
-                closing,
-                kind,
-            );
+            return self.parameter_names(lent, cursors::past(self.text, c), closing, kind);
         }
         c
     }
@@ -60,9 +54,8 @@ impl Functions<'_> {
         if cursors::kind_of(c) == words::OPEN_PAREN {
             let inner = expressions::condition(
                 self.text,
-                lent.table,
-                lent.notes,
-                cursors::lex(self.text, cursors::end_of(c)),
+                lent,
+                cursors::past(self.text, c),
                 Contract::LEVELS,
                 false,
             );
@@ -81,18 +74,11 @@ impl Functions<'_> {
         if cursors::stops(state_name) {
             return state_name;
         }
-        let party = cursors::name_here(
-            self.text,
-            cursors::lex(self.text, cursors::end_of(state_name)),
-        );
+        let party = cursors::name_here(self.text, cursors::past(self.text, state_name));
         if cursors::stops(party) {
             return party;
         }
-        let past = cursors::token(
-            self.text,
-            cursors::lex(self.text, cursors::end_of(party)),
-            words::COLON,
-        );
+        let past = cursors::token(self.text, cursors::past(self.text, party), words::COLON);
         if cursors::stops(past) {
             return past;
         }
@@ -101,21 +87,10 @@ impl Functions<'_> {
             return name;
         }
         let state = cursors::mention_state(self.text, lent, state_name);
-        let number = entries::use_party(
-            self.text,
-            lent.notes,
-            cursors::start_of(party),
-            cursors::end_of(party),
-        );
-        lent.head(
-            self.text,
-            cursors::start_of(c),
-            state,
-            number,
-            cursors::start_of(name),
-            cursors::end_of(name),
-        );
-        cursors::lex(self.text, cursors::end_of(name))
+        let number = cursors::name_at(self.text, party).use_party(lent.notes);
+        let name_at = cursors::name_at(self.text, name);
+        lent.head(&name_at, cursors::start_of(c), state, number);
+        cursors::past(self.text, name)
     }
 
     // Parameters and precondition.
@@ -154,7 +129,7 @@ impl Functions<'_> {
         ensures same_lists { SameLists lent.old lent.new }
     {
         let condition = lent.nodes_since(first);
-        let after = bodies::body(self.text, lent.table, lent.notes, c);
+        let after = bodies::body(self.text, lent, c);
         if cursors::stops(after) {
             return after;
         }
@@ -178,7 +153,7 @@ impl Functions<'_> {
             events,
         };
         lent.function_rest(i, rest);
-        cursors::lex(self.text, cursors::end_of(name))
+        cursors::past(self.text, name)
     }
 
     fn function(&self, lent: &mut Lent, c: u64) -> u64
@@ -201,9 +176,7 @@ impl Functions<'_> {
     }
 
     // The functions of a contract.
-    // Kept: (d) a loop of a few lines over a parser of its own: over two closures, what begins one and what reads it, it would be no shorter;
-    // as many turns as the definition counts (its fuel is the text's length); with a `while` over the token's kind a proof would first have to
-    // show that each turn goes on in the text, which nothing else asks.
+    // Kept: (a) and (d) a loop of its own, with as many turns as the text has bytes, as `Lists::clauses` of clauses.
     pub(crate) fn functions(&self, lent: &mut Lent, c: u64) -> u64
         requires { is_stop c ≡ false }
         ensures value { Follows self.now.text.now (walk.functions self.now.text.now (length self.now.text.now) (cursor_in self.now.text.now c)) result lent.old lent.new }

@@ -1,3 +1,4 @@
 pub mod PackedWhole
 pub mod AllBelow
 pub mod Verbs
+pub mod Down

@@ -9,7 +9,7 @@ use Rattle.entries.specs.Draft.{title}
 use Rattle.std.specs.Prelude.{Err}
 use Rattle.reading.specs.declared.Refusal.{Refusal}
 use Rattle.reading.specs.Reading.{Answered, refusal}
-use Rattle.reading_laws.specs.Walk.{Walk, Step, Cursor, AgreesWith, Ends, On, Stop, draft, settled_answer, settled_table, cursor_at, unfit_at, token, name_here, opening, closed, text_end, at_end, ending_at}
+use Rattle.reading_laws.specs.Walk.{Walk, Step, Cursor, AgreesWith, Ends, On, Stop, draft, settled_answer, settled_table, next_of, unfit_at, token, name_here, opening, closed, text_end, at_end, ending_at}
 use Rattle.cursors.specs.Packed.{kind_in, start_in, end_in, cursor_in, step_in}
 use Rattle.reading_laws.proofs.Enclosing as enclosing
 use Rattle.reading_laws.proofs.Settled.{ends_stop, ends_on}
@@ -21,13 +21,13 @@ ends_lent w r d t n u v a h e j k g = ends_on w r d t n u a h e j (g ∙ k)
 
 module _ (s : List ℕ) where
   -- legal_contract N {
-  pub opens : (c d l next a b e : ℕ) (t n t₁ : List ℕ) (r : ℕ) → token s legal_contract (cursor_in s c) ≡ On (cursor_in s d)
-      → name_here s (cursor_in s d) ≡ On (cursor_in s l) → a ≡ start_in l → b ≡ end_in l → t₁ ≡ title s a b t → e ≡ end_in l → cursor_in s next ≡ cursor_at s e
+  pub opens : (c d l next a b : ℕ) (x t n t₁ : List ℕ) (r : ℕ) → token s legal_contract (cursor_in s c) ≡ On (cursor_in s d)
+      → name_here s (cursor_in s d) ≡ On (cursor_in s l) → x ≡ s → a ≡ start_in l → b ≡ end_in l → t₁ ≡ title x a b t → cursor_in s next ≡ next_of s (cursor_in s l)
       → step_in s r ≡ token s open_brace (cursor_in s next) → AgreesWith (opening s (cursor_in s c) (draft t n)) (step_in s r) t₁ n
   unfolding cursor_in
-  opens c d l next a b e t n t₁ r f g a-is b-is titled e-is then h =
+  opens c d l next a b x t n t₁ r f g x-is a-is b-is titled then h =
       enclosing.opens s (cursor_in s c) (cursor_in s d) (cursor_in s l) (cursor_in s next) t n t₁ (step_in s r) f (sym (enclosing.name_here_lem s (cursor_in s d)) ∙ g)
-      (then ∙ ap (λ (x : ℕ). cursor_at s x) e-is) (titled ∙ (λ i. title s (a-is i) (b-is i) t)) h
+      then (titled ∙ (λ i. title (x-is i) (a-is i) (b-is i) t)) h
 
   -- the agreement's end
   pub closed_at : (d o : ℕ) (t n n₁ : List ℕ) → o ≡ start_in d → n₁ ≡ (closed o (draft t n)).notes → closed (cursor_in s d).start (draft t n) ≡ draft t n₁

@@ -8,7 +8,10 @@ use borrow.Author.Tests.{eqb-true, eqb-false}
 use Rattle.laws.specs.Choice.{pick}
 use Rattle.contract.specs.Tree.{set, ok}
 use Rattle.contract.specs.Decode.{verb_of}
-use Rattle.contract.specs.Rows.{said}
+use Rattle.contract.specs.Rows.{said, clause_row_of}
+use Rattle.contract.specs.Table.{clause_word}
+use Rattle.contract.specs.declared.Clause.{Clause as Row}
+use mathlib.Core.List.{List}
 use Rattle.contract.specs.declared.Verb as rows
 use Rattle.contract.specs.contracts.Verb.{the_type}
 use Rattle.contract.specs.declared.Verb.TheVariants.{Set, Ok}
@@ -40,14 +43,6 @@ set_not : (a : rows.Verb) → sameb the_type a Set ≡ false → is_set (said a)
 set_not Set h = h
 set_not Ok h = refl
 
-ok_is : (a : rows.Verb) → sameb the_type a Ok ≡ true → is_set (said a) ≡ false
-ok_is Set h = sym h
-ok_is Ok h = refl
-
-ok_not : (a : rows.Verb) → sameb the_type a Ok ≡ false → is_set (said a) ≡ true
-ok_not Set h = refl
-ok_not Ok h = sym h
-
 -- the word, where the verb is one or is not
 module _ (a : rows.Verb) (n : ℕ) (p : said a ≡ verb_of n) where
   pub word_set : sameb the_type a Set ≡ true → n ≡ 0
@@ -56,8 +51,11 @@ module _ (a : rows.Verb) (n : ℕ) (p : said a ≡ verb_of n) where
   pub word_not_set : sameb the_type a Set ≡ false → n ≡ 0 → ⊥
   word_not_set h = eqb-false n 0 (sym (word a n p) ∙ set_not a h)
 
-  pub word_ok : sameb the_type a Ok ≡ true → n ≡ 0 → ⊥
-  word_ok h = eqb-false n 0 (sym (word a n p) ∙ ok_is a h)
-
-  pub word_not_ok : sameb the_type a Ok ≡ false → n ≡ 0
-  word_not_ok h = eqb-true n 0 (sym (word a n p) ∙ ok_not a h)
+-- whether a row's verb is SET
+pub row_sets : (w : List ℕ) (i : ℕ) (r : Row) (a : rows.Verb) → said a ≡ verb_of r.verb → r ≡ clause_row_of w i
+    → sameb the_type a Set ≡ eqb (clause_word w i 1) 0
+row_sets w i r a p q = is_verb a r.verb p Set ∙ beq_set (eqb r.verb 0) ∙ ap (λ (k : Row). eqb k.verb 0) q
+  where
+    beq_set : (x : Bool) → beq x true ≡ x
+    beq_set true = refl
+    beq_set false = refl

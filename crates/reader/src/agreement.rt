@@ -12,7 +12,7 @@ use contract::Verb;
 const TWICE: usize = 63;
 
 // As a party's number: none.
-// Kept: (d) no `Option`: a party's number is compared with this as with any other, and none of a text is as large.
+// Kept: (a) no `Option`: any table may be asked, also one with a party of this number, and the rules' definition takes it for none then too.
 const NOBODY: usize = 63;
 
 // The bit of a number, the last one of those that are too large.
@@ -37,78 +37,11 @@ fn with(mask: u64, n: usize) -> u64
     mask | (1 << place(n))
 }
 
-// A mask with the fields of clause i.
-// Kept: (d) masks by loops, last place first, as the definitions go: a `fold` would carry the same mask through a closure.
-fn with_fields(table: &[u64], i: usize, start: u64) -> u64
-    ensures { result ≡ with_all start (row_of table.now i).fields }
-{
-    let mut mask = start;
-    for j in (0..contract::clause_at(table, i).fields).rev() {
-        mask = with(mask, contract::clause_field(table, i, j));
-    }
-    mask
-}
-
-// The fields that parties other than this one set.
-// Kept: (d) a table and how many clauses it has, here and below: `contract::clause_at` and `with_fields` take the table alone, so that a struct of
-// the two would be taken apart in each loop.
-fn fields_set(table: &[u64], clauses: usize, party: usize) -> u64
-    ensures { result ≡ field_mask party (rows_of table.now clauses) }
-{
-    let mut mask: u64 = 0;
-    for i in (0..clauses).rev() {
-        let c = contract::clause_at(table, i);
-        if Verb::from(c.verb) == Verb::Ok {
-            continue;
-        }
-        if c.party == party {
-            continue;
-        }
-        mask = with_fields(table, i, mask);
-    }
-    mask
-}
-
-// The parties of the clauses with a verb.
-fn parties_of(table: &[u64], clauses: usize, verb: Verb) -> u64
-    ensures { result ≡ party_mask (is_set (said verb)) (rows_of table.now clauses) }
-{
-    let mut mask: u64 = 0;
-    for i in (0..clauses).rev() {
-        let c = contract::clause_at(table, i);
-        if Verb::from(c.verb) == verb {
-            mask = with(mask, c.party);
-        }
-    }
-    mask
-}
-
 // Whether each number in a mask, none of them twice, is in another mask.
-// Kept: (d) `&` of truths, here and in `rules_kept`: with `&&` each of its places is a goal of its own, two here and five there, in place of one.
 fn part_of(mask: u64, other: u64) -> bool
     ensures { result ≡ part_of mask other }
 {
-    !holds(mask, TWICE) & (mask & other == mask)
-}
-
-// Whether a party agrees only on fields set by another, each once.
-fn agrees(table: &[u64], clauses: usize, i: usize) -> bool
-    ensures { result ≡ agrees_by_mask (rows_of table.now clauses) (row_of table.now i) }
-{
-    let c = contract::clause_at(table, i);
-    if Verb::from(c.verb) == Verb::Set {
-        return true;
-    }
-    part_of(
-        with_fields(table, i, 0),
-        fields_set(table, clauses, c.party),
-    )
-}
-
-fn all_agree(table: &[u64], clauses: usize) -> bool
-    ensures { result ≡ every (agrees_by_mask (rows_of table.now clauses)) (rows_of table.now clauses) }
-{
-    (0..clauses).all(|i| agrees(table, clauses, i))
+    !holds(mask, TWICE) && mask & other == mask
 }
 
 // Whether each of the first n numbers is in a mask.
@@ -118,14 +51,70 @@ fn holds_all(mask: u64, n: usize) -> bool
     (0..n).all(|a| holds(mask, a))
 }
 
-// A field is set at most once; a party agrees only on fields set by another, each once; each party has a clause, at most one
-// SET and one OK.
-pub(crate) fn rules_kept(table: &[u64], clauses: usize, parties: usize) -> bool
-    ensures { result ≡ kept_by_masks parties (rows_of table.now clauses) }
-{
-    let set = parties_of(table, clauses, Verb::Set);
-    let ok = parties_of(table, clauses, Verb::Ok);
-    !holds(fields_set(table, clauses, NOBODY), TWICE)
-        & (all_agree(table, clauses)
-            & (holds_all(set | ok, parties) & (!holds(set, TWICE) & !holds(ok, TWICE))))
+// The clauses of a table, so many of its rows.
+#[derive(Clone, Copy)]
+pub(crate) struct Clauses<'a> {
+    pub(crate) table: &'a [u64],
+    pub(crate) many: usize,
+}
+
+impl Clauses<'_> {
+    // A mask with the fields of clause i, the last one first, here and below, as the definitions go.
+    fn with_fields(&self, i: usize, start: u64) -> u64
+        ensures { result ≡ with_all start (row_of self.now.table.now i).fields }
+    {
+        (0..contract::clause_at(self.table, i).fields).rev().fold(
+            start,
+            |mask, j| with(mask, contract::clause_field(self.table, i, j)),
+        )
+    }
+
+    // The fields that parties other than this one set.
+    fn fields_set(&self, party: usize) -> u64
+        ensures { result ≡ field_mask party (rows_of self.now.table.now self.now.many) }
+    {
+        (0..self.many)
+            .rev()
+            .filter(|i| contract::clause_at(self.table, *i).verb() == Verb::Set)
+            .filter(|i| contract::clause_at(self.table, *i).party != party)
+            .fold(0, |mask, i| self.with_fields(i, mask))
+    }
+
+    // The parties of the clauses with a verb.
+    fn parties_of(&self, verb: Verb) -> u64
+        ensures { result ≡ party_mask (is_set (said verb)) (rows_of self.now.table.now self.now.many) }
+    {
+        (0..self.many)
+            .rev()
+            .map(|i| contract::clause_at(self.table, i))
+            .filter(|c| c.verb() == verb)
+            .fold(0, |mask, c| with(mask, c.party))
+    }
+
+    // Whether a party agrees only on fields set by another, each once.
+    fn agrees(&self, i: usize) -> bool
+        ensures { result ≡ agrees_by_mask (rows_of self.now.table.now self.now.many) (row_of self.now.table.now i) }
+    {
+        let c = contract::clause_at(self.table, i);
+        c.verb() == Verb::Set || part_of(self.with_fields(i, 0), self.fields_set(c.party))
+    }
+
+    fn all_agree(&self) -> bool
+        ensures { result ≡ every (agrees_by_mask (rows_of self.now.table.now self.now.many)) (rows_of self.now.table.now self.now.many) }
+    {
+        (0..self.many).all(|i| self.agrees(i))
+    }
+
+    // A field is set at most once; a party agrees only on fields set by another, each once; each party has a clause, at most one
+    // SET and one OK.
+    // Kept: (c) `&` of truths: with `&&` there are two goals, and the second joins the four ways to a false answer, each of which an answer takes apart.
+    pub(crate) fn rules_kept(&self, parties: usize) -> bool
+        ensures { result ≡ kept_by_masks parties (rows_of self.now.table.now self.now.many) }
+    {
+        let set = self.parties_of(Verb::Set);
+        let ok = self.parties_of(Verb::Ok);
+        !holds(self.fields_set(NOBODY), TWICE)
+            & (self.all_agree()
+                & (holds_all(set | ok, parties) & (!holds(set, TWICE) & !holds(ok, TWICE))))
+    }
 }

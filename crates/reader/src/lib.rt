@@ -12,6 +12,7 @@ ghost use Rattle.reading_laws.specs.Walk.{draft};
 ghost use Rattle.questions.specs.Numbers.{number_of};
 ghost use Rattle.reading.specs.Reading.{refused, read_text, answer_of, table_of};
 
+use agreement::Clauses;
 use contract::{Contract, TableHead};
 use entries::{Lent, Notes};
 use questions::Question;
@@ -26,16 +27,17 @@ fn close(table: &[u64], notes: &mut [u64], place: usize)
     ensures { notes.new ≡ (walk.closed place (draft table.now notes.old)).notes }
 {
     let excess = contract::word(notes, entries::EXCESS);
-    let clauses = contract::word(notes, entries::CLAUSES) as usize;
+    let many = contract::word(notes, entries::CLAUSES) as usize;
     let parties = contract::word(notes, entries::PARTY) as usize;
-    if excess == 0 && agreement::rules_kept(table, clauses, parties) {
+    let clauses = Clauses { table, many };
+    if excess == 0 && clauses.rules_kept(parties) {
         return;
     }
-    entries::find(notes, Question::AgreementRules as u8, place);
+    entries::find(notes, Question::AgreementRules.number(), place);
 }
 
 // A pass over a text that is short enough for cursors.
-// Kept: (d) a text that is short, as in `Lists` of clauses.
+// Kept: (a) a text that is short, as in `Lists` of clauses.
 #[derive(Clone, Copy)]
 struct Pass<'a> {
     text: &'a [u8],
@@ -44,8 +46,7 @@ struct Pass<'a> {
 
 impl Pass<'_> {
     // legal_contract N {
-    // Kept: (d) that c is no stop, here and below: with a type that says so crate clauses had 49 lines more, since a parser's answer is a cursor or a
-    // stop in one number, and is wrapped again before the next parser takes it.
+    // Kept: (d) that c is no stop, here and below, as in `Lists::one` of clauses.
     fn opening(&self, lent: &mut Lent, c: u64) -> u64
         requires { is_stop c ≡ false }
         ensures value { Follows self.now.text.now (walk.opening self.now.text.now (cursor_in self.now.text.now c)) result lent.old lent.new }
@@ -59,17 +60,8 @@ impl Pass<'_> {
         if cursors::stops(name) {
             return name;
         }
-        entries::title(
-            self.text,
-            lent.table,
-            cursors::start_of(name),
-            cursors::end_of(name),
-        );
-        cursors::token(
-            self.text,
-            cursors::lex(self.text, cursors::end_of(name)),
-            words::OPEN_BRACE,
-        )
+        entries::title(lent.table, &cursors::name_at(self.text, name));
+        cursors::token(self.text, cursors::past(self.text, name), words::OPEN_BRACE)
     }
 
     // The lines of assets and fields.
@@ -78,25 +70,11 @@ impl Pass<'_> {
         ensures value { Follows self.now.text.now (walk.declarations self.now.text.now (cursor_in self.now.text.now c)) result lent.old lent.new }
         ensures same_lists { SameLists lent.old lent.new }
     {
-        let after = clauses::line(
-            self.text,
-            lent.table,
-            lent.notes,
-            c,
-            words::ASSETS,
-            entries::ASSET,
-        );
+        let after = clauses::line(self.text, lent, c, words::ASSETS, entries::ASSET);
         if cursors::stops(after) {
             return after;
         }
-        clauses::line(
-            self.text,
-            lent.table,
-            lent.notes,
-            after,
-            words::FIELDS,
-            entries::FIELD,
-        )
+        clauses::line(self.text, lent, after, words::FIELDS, entries::FIELD)
     }
 
     // => @Q after the agreement's closing brace.
@@ -115,7 +93,7 @@ impl Pass<'_> {
         }
         let state = cursors::mention_state(self.text, lent, name);
         items::set(lent.table, TableHead::INITIAL, state as u64);
-        cursors::lex(self.text, cursors::end_of(name))
+        cursors::past(self.text, name)
     }
 
     // The clauses, and what is after them.
@@ -124,7 +102,7 @@ impl Pass<'_> {
         ensures value { Follows self.now.text.now (walk.agreement_rest self.now.text.now (cursor_in self.now.text.now c)) result lent.old lent.new }
         ensures same_lists { SameLists lent.old lent.new }
     {
-        let after = clauses::clauses(self.text, lent.table, lent.notes, c);
+        let after = clauses::clauses(self.text, lent, c);
         if cursors::stops(after) {
             return after;
         }
@@ -132,6 +110,8 @@ impl Pass<'_> {
         if cursors::stops(closed) {
             return closed;
         }
+        // Kept: (c) lent by a name of its own, here and in `settle`: what a list holds after it was lent to be read through the struct has no name that
+        // a proof can cite.
         let table = &mut *lent.table;
         close(table, lent.notes, cursors::start_of(after));
         self.initial_state(lent, closed)
@@ -150,7 +130,7 @@ impl Pass<'_> {
         if cursors::stops(opened) {
             return opened;
         }
-        let names = clauses::names(self.text, lent.table, lent.notes, opened, entries::PARTY);
+        let names = clauses::names(self.text, lent, opened, entries::PARTY);
         if cursors::stops(names) {
             return names;
         }
@@ -197,7 +177,7 @@ impl Pass<'_> {
         if cursors::stops(agreed) {
             return agreed;
         }
-        let after = heads::functions(self.text, lent.table, lent.notes, agreed);
+        let after = heads::functions(self.text, lent, agreed);
         if cursors::stops(after) {
             return after;
         }

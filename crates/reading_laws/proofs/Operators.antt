@@ -1,70 +1,17 @@
--- Laws of the leaves and operators of expressions. Assumes nothing.
+-- Laws of strings and of `~` in a row. Assumes nothing.
 use mathlib.Core.Path.{◌≡◌, refl, sym, ap, ◌∙◌}
-use mathlib.Core.List.{List, [], ◌∷◌}
-use mathlib.Core.Bool.{Bool, true, false}
+use mathlib.Core.List.{List}
 use mathlib.Core.Logic.{◌⊎◌, ⊎_elim}
 use Prim.Native.Nat.{ℕ, zero, suc, ◌+◌, ◌-◌, ◌<◌, ◌≤◌}
 use native.Mathlib.Omega.{arith}
 use lib.ListN.{length}
-use lib.Dec.{eqb}
-use borrow.Author.Tests.{eqb-false, eq-eqb, ne_eqb, lt-ltb, le-ltb}
-use Rattle.laws.specs.Choice.{pick}
-use Rattle.laws.proofs.Choice.{pick_true, pick_false, by_cases}
+use borrow.Author.Tests.{eq-eqb, ne_eqb, lt-ltb, le-ltb}
+use Rattle.laws.proofs.Choice.{pick_true, pick_false}
 use Rattle.tokens.specs.Tokens.{between}
-use Rattle.contract.specs.Table.{not_kind, string_kind, at_least_kind}
+use Rattle.contract.specs.Table.{not_kind, string_kind}
 use Rattle.entries.specs.Draft.{Draft, note, counted, mention, number_in, put}
-use Rattle.reading.specs.Grammar.{is_one_of, comparisons}
-use Rattle.reading_laws.specs.Walk.{Walk, draft, counting, nodes, operator_node, negations, next_of, inner_start, inner_end, string_leaf, nots}
+use Rattle.reading_laws.specs.Walk.{Walk, draft, counting, nodes, negations, next_of, inner_start, inner_end, string_leaf, nots}
 use Rattle.reading_laws.specs.Walk.{Cursor}
-
--- ---- operators
-
-one : (b : Bool) → b ≡ pick b true false
-unfolding pick
-one true = refl
-one false = refl
-
-pub one_of : (k j : ℕ) → eqb k j ≡ is_one_of (j ∷ []) k
-unfolding is_one_of
-one_of k j = one (eqb k j)
-
-low : (k : ℕ) → 14 ≤ k → k ≤ 17 → (k ≡ 14 → ⊥) → (k ≡ 15 → ⊥) → (k ≡ 16 → ⊥) → (k ≡ 17 → ⊥) → ⊥
-low k a b n1 n2 n4 n6 = omega arith
-
-high : (k : ℕ) → 34 ≤ k → k ≤ 35 → (k ≡ 34 → ⊥) → (k ≡ 35 → ⊥) → ⊥
-high k a b n3 n5 = omega arith
-
-compares : (k : ℕ) → ((k ≡ 14 → ⊥) → (k ≡ 15 → ⊥) → (k ≡ 34 → ⊥) → (k ≡ 16 → ⊥) → (k ≡ 35 → ⊥) → (k ≡ 17 → ⊥) → ⊥) → is_one_of comparisons k ≡ true
-unfolding is_one_of
-compares k h =
-    by_cases (λ (b : Bool). b ≡ true) (eqb k 14) true _ (λ _. refl)
-    (λ e1. by_cases (λ (b : Bool). b ≡ true) (eqb k 15) true _ (λ _. refl)
-    (λ e2. by_cases (λ (b : Bool). b ≡ true) (eqb k 34) true _ (λ _. refl)
-    (λ e3. by_cases (λ (b : Bool). b ≡ true) (eqb k 16) true _ (λ _. refl)
-    (λ e4. by_cases (λ (b : Bool). b ≡ true) (eqb k 35) true _ (λ _. refl)
-    (λ e5. by_cases (λ (b : Bool). b ≡ true) (eqb k 17) true _ (λ _. refl)
-    (λ e6. absurd (h (eqb-false k 14 e1) (eqb-false k 15 e2) (eqb-false k 34 e3) (eqb-false k 16 e4) (eqb-false k 35 e5) (eqb-false k 17 e6))))))))
-
-pub compares_low : (k : ℕ) → 14 ≤ k → k ≤ 17 → is_one_of comparisons k ≡ true
-compares_low k a b = compares k (λ n1 n2 n3 n4 n5 n6. low k a b n1 n2 n4 n6)
-
-pub compares_high : (k : ℕ) → 34 ≤ k → k ≤ 35 → is_one_of comparisons k ≡ true
-compares_high k a b = compares k (λ n1 n2 n3 n4 n5 n6. high k a b n3 n5)
-
-pub compares_not : (k : ℕ) → (k ≡ 14 → ⊥) → (k ≡ 15 → ⊥) → (k ≡ 34 → ⊥) → (k ≡ 16 → ⊥) → (k ≡ 35 → ⊥) → (k ≡ 17 → ⊥) → is_one_of comparisons k ≡ false
-unfolding is_one_of
-compares_not k n1 n2 n3 n4 n5 n6 =
-    pick_false _ _ _ (ne_eqb k 14 n1) ∙ pick_false _ _ _ (ne_eqb k 15 n2) ∙ pick_false _ _ _ (ne_eqb k 34 n3)
-    ∙ pick_false _ _ _ (ne_eqb k 16 n4) ∙ pick_false _ _ _ (ne_eqb k 35 n5) ∙ pick_false _ _ _ (ne_eqb k 17 n6)
-
--- the node of a token that is no other operator's
-pub other_node : (k : ℕ) → (k ≡ 30 → ⊥) → (k ≡ 31 → ⊥) → (k ≡ 32 → ⊥) → (k ≡ 33 → ⊥) → (k ≡ 14 → ⊥) → (k ≡ 15 → ⊥) → (k ≡ 34 → ⊥) → (k ≡ 16 → ⊥)
-    → (k ≡ 35 → ⊥) → (k ≡ 18 → ⊥) → (k ≡ 19 → ⊥) → operator_node k ≡ at_least_kind
-unfolding operator_node
-other_node k n1 n2 n3 n4 n5 n6 n7 n8 n9 n10 n11 =
-    pick_false _ _ _ (ne_eqb k 30 n1) ∙ pick_false _ _ _ (ne_eqb k 31 n2) ∙ pick_false _ _ _ (ne_eqb k 32 n3) ∙ pick_false _ _ _ (ne_eqb k 33 n4)
-    ∙ pick_false _ _ _ (ne_eqb k 14 n5) ∙ pick_false _ _ _ (ne_eqb k 15 n6) ∙ pick_false _ _ _ (ne_eqb k 34 n7) ∙ pick_false _ _ _ (ne_eqb k 16 n8)
-    ∙ pick_false _ _ _ (ne_eqb k 35 n9) ∙ pick_false _ _ _ (ne_eqb k 18 n10) ∙ pick_false _ _ _ (ne_eqb k 19 n11)
 
 -- ---- strings
 

@@ -8,7 +8,7 @@ returns-in-Found c =
     let x = c in
     let e = c.pack.ensures in record {
       value = cursor_in_found x.args.text.now c.pack.result x.args.at _ (sym c.next-found.ensures ∙ c.in-Found.is)
-          (record { kind = e.kind; question = e.question; start = e.start; end = e.end; place = e.at });
+          (record { kind = e.kind; question = e.question ∙ c.number.ensures; start = e.start; end = e.end; place = e.at });
       goes = e.goes;
     }
 
@@ -26,6 +26,6 @@ returns-in-End c =
     let x = c in
     let e = c.pack-in-End.ensures in record {
       value = cursor_in_end x.args.text.now c.pack-in-End.result x.args.at (sym c.next-found.ensures ∙ c.in-End.is)
-          (record { kind = e.kind; question = e.question; start = e.start; end = e.end; place = e.at });
+          (record { kind = e.kind; question = e.question ∙ c.number-in-End.ensures; start = e.start; end = e.end; place = e.at });
       goes = e.goes;
     }

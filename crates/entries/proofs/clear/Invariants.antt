@@ -7,7 +7,7 @@ use Rattle.entries.proofs.clear.Given as goal
 
 abbrev pub invariant-loop-start : goal.invariant-loop-start
 invariant-loop-start l =
-    (l.start ≤ length l.initial.table) × (length l.table ≡ length l.initial.table) × (take l.start l.table ≡ zeros l.start)
+    (l.start ≤ length l.initial.table) × (take l.start l.table ≡ zeros l.start)
 
 abbrev pub decreases-loop-start : goal.decreases-loop-start
 decreases-loop-start l =

@@ -21,6 +21,3 @@ pub returns-clause-value : goal.returns-clause-value
 returns-clause-value c =
     let l = c.loop in
     sym (negated_all (c.args.many - l.counter) c.args.before (draft_in l.lent) (omega (arith, c.loop-test.false))) ∙ l.invariant.0
-
-pub returns-clause-same_lists : goal.returns-clause-same_lists
-returns-clause-same_lists c = c.loop.invariant.1

@@ -27,7 +27,7 @@ unfolding walk.agreement
 returns-then-stops-3-clause-value c =
     let short = c.args.self.now.short in
     let s = c.args.self.now.text.now in
-    handed _ _ _ _ _ _ _ _ _ (agrees _ _ _ _ _ _ _ short (c.names-names.ensures.value, (c.names-names.ensures.table_after, c.names-names.ensures.notes_after))) (packed.halts s _ _ c.stops-3.ensures c.if-stops-3.true)
+    handed _ _ _ _ _ _ _ _ _ (agrees _ _ _ _ _ short c.names-names.ensures.value c.names-names.ensures.lists) (packed.halts s _ _ c.stops-3.ensures c.if-stops-3.true)
     (λ e. after_on _ _ _ (sym (tokened _ _ _ _ short c.token-word.ensures) ∙ packed.keeps s _ _ c.stops.ensures c.if-stops.false)
     ∙ after_on _ _ _ (sym (tokened _ _ _ _ short c.token-opened.ensures) ∙ packed.keeps s _ _ c.stops-2.ensures c.if-stops-2.false)
     ∙ follow_stop _ _ _ _ e)
@@ -41,7 +41,7 @@ returns-then-stops-4-clause-value c =
     is_stop_lem _ _ _ _ _ _
     (after_on _ _ _ (sym (tokened _ _ _ _ short c.token-word.ensures) ∙ packed.keeps s _ _ c.stops.ensures c.if-stops.false)
     ∙ after_on _ _ _ (sym (tokened _ _ _ _ short c.token-opened.ensures) ∙ packed.keeps s _ _ c.stops-2.ensures c.if-stops-2.false)
-    ∙ follow_on _ _ _ _ (went _ _ _ _ _ (agrees _ _ _ _ _ _ _ short (c.names-names.ensures.value, (c.names-names.ensures.table_after, c.names-names.ensures.notes_after))) (packed.keeps s _ _ c.stops-3.ensures c.if-stops-3.false))
+    ∙ follow_on _ _ _ _ (went _ _ _ _ _ (agrees _ _ _ _ _ short c.names-names.ensures.value c.names-names.ensures.lists) (packed.keeps s _ _ c.stops-3.ensures c.if-stops-3.false))
     ∙ after_stop _ _ _ _ (sym (tokened _ _ _ _ short c.token-closed.ensures) ∙ f)) f
 
 pub returns-then-stops-5-clause-value : goal.returns-then-stops-5-clause-value
@@ -53,7 +53,7 @@ returns-then-stops-5-clause-value c =
     is_stop_lem _ _ _ _ _ _
     (after_on _ _ _ (sym (tokened _ _ _ _ short c.token-word.ensures) ∙ packed.keeps s _ _ c.stops.ensures c.if-stops.false)
     ∙ after_on _ _ _ (sym (tokened _ _ _ _ short c.token-opened.ensures) ∙ packed.keeps s _ _ c.stops-2.ensures c.if-stops-2.false)
-    ∙ follow_on _ _ _ _ (went _ _ _ _ _ (agrees _ _ _ _ _ _ _ short (c.names-names.ensures.value, (c.names-names.ensures.table_after, c.names-names.ensures.notes_after))) (packed.keeps s _ _ c.stops-3.ensures c.if-stops-3.false))
+    ∙ follow_on _ _ _ _ (went _ _ _ _ _ (agrees _ _ _ _ _ short c.names-names.ensures.value c.names-names.ensures.lists) (packed.keeps s _ _ c.stops-3.ensures c.if-stops-3.false))
     ∙ after_on _ _ _ (sym (tokened _ _ _ _ short c.token-closed.ensures) ∙ packed.keeps s _ _ c.stops-4.ensures c.if-stops-4.false)
     ∙ after_stop _ _ _ _ (sym (tokened _ _ _ _ short c.token-inside.ensures) ∙ f)) f
 
@@ -66,7 +66,7 @@ returns-clause-value c =
     (sym
     (after_on _ _ _ (sym (tokened _ _ _ _ short c.token-word.ensures) ∙ packed.keeps s _ _ c.stops.ensures c.if-stops.false)
     ∙ after_on _ _ _ (sym (tokened _ _ _ _ short c.token-opened.ensures) ∙ packed.keeps s _ _ c.stops-2.ensures c.if-stops-2.false)
-    ∙ follow_on _ _ _ _ (went _ _ _ _ _ (agrees _ _ _ _ _ _ _ short (c.names-names.ensures.value, (c.names-names.ensures.table_after, c.names-names.ensures.notes_after))) (packed.keeps s _ _ c.stops-3.ensures c.if-stops-3.false))
+    ∙ follow_on _ _ _ _ (went _ _ _ _ _ (agrees _ _ _ _ _ short c.names-names.ensures.value c.names-names.ensures.lists) (packed.keeps s _ _ c.stops-3.ensures c.if-stops-3.false))
     ∙ after_on _ _ _ (sym (tokened _ _ _ _ short c.token-closed.ensures) ∙ packed.keeps s _ _ c.stops-4.ensures c.if-stops-4.false)
     ∙ after_on _ _ _ (sym (tokened _ _ _ _ short c.token-inside.ensures) ∙ packed.keeps s _ _ c.stops-5.ensures c.if-stops-5.false)))
     c.agreement_rest.ensures.value

@@ -45,7 +45,7 @@ returns-then-stops-4-clause-value c =
     let g = c.args in
     let s = g.self.now.text.now in
     let o = went _ _ _ _ _ c.opening-opened.ensures.value (packed.keeps s _ _ c.stops.ensures c.if-stops.false) in
-    handed _ _ _ _ _ _ _ _ _ (agrees _ _ _ _ _ _ _ short (c.functions-after.ensures.value, (c.functions-after.ensures.table_after, c.functions-after.ensures.notes_after))) (packed.halts s _ _ c.stops-4.ensures c.if-stops-4.true)
+    handed _ _ _ _ _ _ _ _ _ (agrees _ _ _ _ _ short c.functions-after.ensures.value c.functions-after.ensures.lists) (packed.halts s _ _ c.stops-4.ensures c.if-stops-4.true)
     (λ e. follow_on _ _ _ _ (ap (λ (x : Cursor). walk.opening s x (walk.draft g.lent.now.table.now g.lent.now.notes.now)) (sym (lexed_first _ _ short c.lex.ensures.value)) ∙ o)
     ∙ follow_on _ _ _ _ (went _ _ _ _ _ c.declarations-declared.ensures.value (packed.keeps s _ _ c.stops-2.ensures c.if-stops-2.false))
     ∙ follow_on _ _ _ _ (went _ _ _ _ _ c.agreement_of-agreed.ensures.value (packed.keeps s _ _ c.stops-3.ensures c.if-stops-3.false))
@@ -63,5 +63,5 @@ returns-clause-value c =
     (follow_on _ _ _ _ (ap (λ (x : Cursor). walk.opening s x (walk.draft g.lent.now.table.now g.lent.now.notes.now)) (sym (lexed_first _ _ short c.lex.ensures.value)) ∙ o)
     ∙ follow_on _ _ _ _ (went _ _ _ _ _ c.declarations-declared.ensures.value (packed.keeps s _ _ c.stops-2.ensures c.if-stops-2.false))
     ∙ follow_on _ _ _ _ (went _ _ _ _ _ c.agreement_of-agreed.ensures.value (packed.keeps s _ _ c.stops-3.ensures c.if-stops-3.false))
-    ∙ follow_on _ _ _ _ (went _ _ _ _ _ (agrees _ _ _ _ _ _ _ short (c.functions-after.ensures.value, (c.functions-after.ensures.table_after, c.functions-after.ensures.notes_after))) (packed.keeps s _ _ c.stops-4.ensures c.if-stops-4.false))))
+    ∙ follow_on _ _ _ _ (went _ _ _ _ _ (agrees _ _ _ _ _ short c.functions-after.ensures.value c.functions-after.ensures.lists) (packed.keeps s _ _ c.stops-4.ensures c.if-stops-4.false))))
     (steps_on _ _ _ _ c.ending.ensures)

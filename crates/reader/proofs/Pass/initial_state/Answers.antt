@@ -6,7 +6,7 @@ use Rattle.reading_laws.specs.Walk as walk
 use Rattle.cursors.proofs.Packs.{step_in_on}
 use Rattle.reading_laws.proofs.AgreesWith.{goes, is_stop_lem, after_on, after_stop}
 use Rattle.cursors.proofs.Tested as packed
-use Rattle.cursors.proofs.Clipped.{lexed, stated, tokened}
+use Rattle.cursors.proofs.Clipped.{passed, stated, tokened}
 use Rattle.reader.proofs.Pass.initial_state.Goals as goal
 
 pub returns-then-stops-clause-value : goal.returns-then-stops-clause-value
@@ -34,5 +34,5 @@ returns-clause-value c =
     goes _ _ _ _ _ _ _
     (after_on _ _ _ (sym (tokened _ _ _ _ short c.token-mark.ensures) ∙ packed.keeps s _ _ c.stops.ensures c.if-stops.false)
     ∙ after_on _ _ _ (sym (stated _ _ _ short c.state_at-name.ensures) ∙ packed.keeps s _ _ c.stops-2.ensures c.if-stops-2.false))
-    (step_in_on s _ c.lex.ensures.goes) (packed.next_is s _ _ _ c.end_of.ensures (lexed _ _ _ _ short c.end_of.ensures c.lex.ensures.value))
+    (step_in_on s _ c.past.ensures.goes) (passed s _ _ short c.past.ensures.value)
     (c.set.ensures ∙ (λ i. set (m.value i).table 9 (m.number i))) (ap (λ (p : Draft). p.notes) m.value)

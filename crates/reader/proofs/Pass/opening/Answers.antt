@@ -4,7 +4,7 @@ use Rattle.reading_laws.specs.Walk as walk
 use Rattle.reading_laws.proofs.AgreesWith.{is_stop_lem, after_on, after_stop}
 use Rattle.cursors.proofs.Tested as packed
 use Rattle.reader.proofs.PackedWhole.{opens}
-use Rattle.cursors.proofs.Clipped.{lexed, tokened}
+use Rattle.cursors.proofs.Clipped.{passed, tokened}
 use Rattle.reader.proofs.Pass.opening.Goals as goal
 
 pub returns-then-stops-clause-value : goal.returns-then-stops-clause-value
@@ -28,5 +28,5 @@ returns-clause-value c =
     let short = c.args.self.now.short in
     let s = c.args.self.now.text.now in
     opens s _ _ _ _ _ _ _ _ _ _ _ (sym (tokened _ _ _ _ short c.token-after.ensures) ∙ packed.keeps s _ _ c.stops.ensures c.if-stops.false)
-    (sym c.name_here-name.ensures ∙ packed.keeps s _ _ c.stops-2.ensures c.if-stops-2.false) c.start_of.ensures c.end_of.ensures c.title.ensures
-    c.end_of-2.ensures (lexed _ _ _ _ short c.end_of-2.ensures c.lex.ensures.value) (tokened _ _ _ _ short c.token.ensures)
+    (sym c.name_here-name.ensures ∙ packed.keeps s _ _ c.stops-2.ensures c.if-stops-2.false) c.name_at.ensures.text c.name_at.ensures.start c.name_at.ensures.end c.title.ensures
+    (passed _ _ _ short c.past.ensures.value) (tokened _ _ _ _ short c.token.ensures)

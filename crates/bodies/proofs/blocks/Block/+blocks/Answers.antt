@@ -1,12 +1,12 @@
 -- The parsers of statements and blocks, which call each other, meet their contracts. Assumes nothing.
-use Prim.Native.Nat.{ℕ}
+use Prim.Native.Nat.{ℕ, ◌%◌}
 use native.Mathlib.Omega.{arith}
 use lib.ListN.{length}
 use Rattle.cursors.proofs.Turns.{fewer}
 use Rattle.cursors.proofs.Following.{still_same}
 use mathlib.Core.Path.{sym, ◌∙◌, ap}
 use Rattle.reading_laws.specs.Walk as walk
-use Rattle.reading_laws.specs.Walk.{draft}
+use Rattle.reading_laws.specs.Walk.{draft, Stop}
 use Rattle.cursors.specs.Packed.{cursor_in}
 use Rattle.reading_laws.proofs.Blocks as blocks
 use Rattle.cursors.proofs.Packs.{step_in_on, step_in_stop}
@@ -37,7 +37,7 @@ braces-returns-clause-value t c =
 pub conditional-returns-then-self-eq0-clause-value : goal.conditional-returns-then-self-eq0-clause-value
 conditional-returns-then-self-eq0-clause-value t c =
     let z = c.args in
-    leaves_step_in _ _ _ _ _ (refused_at z.self.now.text.now z.c _ _ _ c.start_of-place.ensures c.stop.ensures.stops (stopped _ _ _ _ c.start_of-place.ensures c.stop.ensures.value))
+    leaves_step_in _ _ _ _ _ (refused_at z.self.now.text.now z.c _ _ _ c.start_of-place.ensures c.stop.ensures.stops (stopped _ _ _ _ c.start_of-place.ensures (c.stop.ensures.value ∙ ap (λ (q : ℕ). Stop q (c.start_of-place.result % 32768)) c.number.ensures)))
     (blocks.conditional_deep z.self.now.text.now z.self.now.handler z.self.now.levels z.self.now.from (cursor_in z.self.now.text.now z.c) _ _ _ c.if-self-eq0.true)
 
 pub conditional-returns-then-stops-clause-value : goal.conditional-returns-then-stops-clause-value
@@ -52,7 +52,7 @@ conditional-returns-then-stops-2-clause-value t c =
     let z = c.args in
     blocks.conditional_open z.self.now.text.now z.self.now.handler z.self.now.levels z.self.now.from (cursor_in z.self.now.text.now z.c) z.lent.now.table.now z.lent.now.notes.now c.if-self-eq0.false _ (tokened _ _ _ _ short c.token-opened.ensures) _
     (step_in_on z.self.now.text.now _ (sym c.stops.ensures ∙ c.if-stops.false)) _ _ (counted_at z.self.now.text.now _ z.c _ _ _ c.start_of-place.ensures c.count.ensures) (counted_at z.self.now.text.now _ z.c _ _ _ c.start_of-place.ensures c.count-2.ensures) _ _ _ _
-    (agrees _ _ _ _ _ _ _ short (c.condition-inner.ensures.value, (c.condition-inner.ensures.table_after, c.condition-inner.ensures.notes_after))) (closed _ _ _ short c.close-closed.ensures) _ _ _ _ (step_in_stop z.self.now.text.now _ (sym c.stops-2.ensures ∙ c.if-stops-2.true))
+    (agrees _ _ _ _ _ short c.condition-inner.ensures.value c.condition-inner.ensures.lists) (closed _ _ _ short c.close-closed.ensures) _ _ _ _ (step_in_stop z.self.now.text.now _ (sym c.stops-2.ensures ∙ c.if-stops-2.true))
 
 pub conditional-returns-then-stops-3-clause-value : goal.conditional-returns-then-stops-3-clause-value
 conditional-returns-then-stops-3-clause-value t c =
@@ -60,7 +60,7 @@ conditional-returns-then-stops-3-clause-value t c =
     let z = c.args in
     blocks.conditional_stops z.self.now.text.now z.self.now.handler z.self.now.levels z.self.now.from (cursor_in z.self.now.text.now z.c) z.lent.now.table.now z.lent.now.notes.now c.if-self-eq0.false _ (tokened _ _ _ _ short c.token-opened.ensures) _
     (step_in_on z.self.now.text.now _ (sym c.stops.ensures ∙ c.if-stops.false)) _ _ (counted_at z.self.now.text.now _ z.c _ _ _ c.start_of-place.ensures c.count.ensures) (counted_at z.self.now.text.now _ z.c _ _ _ c.start_of-place.ensures c.count-2.ensures) _ _ _ _
-    (agrees _ _ _ _ _ _ _ short (c.condition-inner.ensures.value, (c.condition-inner.ensures.table_after, c.condition-inner.ensures.notes_after))) (closed _ _ _ short c.close-closed.ensures) _ (step_in_on z.self.now.text.now _ (sym c.stops-2.ensures ∙ c.if-stops-2.false)) _ _ _ c.braces-after.ensures.value _ _ _ _ (step_in_stop z.self.now.text.now _ (sym c.stops-3.ensures ∙ c.if-stops-3.true))
+    (agrees _ _ _ _ _ short c.condition-inner.ensures.value c.condition-inner.ensures.lists) (closed _ _ _ short c.close-closed.ensures) _ (step_in_on z.self.now.text.now _ (sym c.stops-2.ensures ∙ c.if-stops-2.false)) _ _ _ c.braces-after.ensures.value _ _ _ _ (step_in_stop z.self.now.text.now _ (sym c.stops-3.ensures ∙ c.if-stops-3.true))
 
 pub conditional-returns-clause-value : goal.conditional-returns-clause-value
 conditional-returns-clause-value t c =
@@ -69,7 +69,7 @@ conditional-returns-clause-value t c =
     leaves_step_in _ _ _ _ _ (step_in_on z.self.now.text.now _ (sym c.stops-3.ensures ∙ c.if-stops-3.false))
     (blocks.conditional_on z.self.now.text.now z.self.now.handler z.self.now.levels z.self.now.from (cursor_in z.self.now.text.now z.c) z.lent.now.table.now z.lent.now.notes.now c.if-self-eq0.false _ (tokened _ _ _ _ short c.token-opened.ensures) _
     (step_in_on z.self.now.text.now _ (sym c.stops.ensures ∙ c.if-stops.false)) _ _ (counted_at z.self.now.text.now _ z.c _ _ _ c.start_of-place.ensures c.count.ensures) (counted_at z.self.now.text.now _ z.c _ _ _ c.start_of-place.ensures c.count-2.ensures) _ _ _ _
-    (agrees _ _ _ _ _ _ _ short (c.condition-inner.ensures.value, (c.condition-inner.ensures.table_after, c.condition-inner.ensures.notes_after))) (closed _ _ _ short c.close-closed.ensures) _ (step_in_on z.self.now.text.now _ (sym c.stops-2.ensures ∙ c.if-stops-2.false)) _ _ _ c.braces-after.ensures.value _ _ _ _ _
+    (agrees _ _ _ _ _ short c.condition-inner.ensures.value c.condition-inner.ensures.lists) (closed _ _ _ short c.close-closed.ensures) _ (step_in_on z.self.now.text.now _ (sym c.stops-2.ensures ∙ c.if-stops-2.false)) _ _ _ c.braces-after.ensures.value _ _ _ _ _
     (step_in_on z.self.now.text.now _ (sym c.stops-3.ensures ∙ c.if-stops-3.false)) c.nodes-before.ensures c.nodes_since-block.ensures c.put.ensures.value)
 
 pub statement-returns-then-kind_of-eq-OPEN_PAREN-clause-value : goal.statement-returns-then-kind_of-eq-OPEN_PAREN-clause-value
@@ -82,14 +82,14 @@ statement-returns-then-stops-clause-value t c =
     let short = c.args.self.now.short in
     let z = c.args in
     blocks.statement_stops z.self.now.text.now z.self.now.handler z.self.now.levels (walk.conditional z.self.now.text.now z.self.now.handler z.self.now.levels) z.self.now.from (cursor_in z.self.now.text.now z.c) z.lent.now.table.now z.lent.now.notes.now _
-    (kind_not z.self.now.text.now z.c _ _ c.kind_of.ensures c.if-kind_of-eq-OPEN_PAREN.false) (counted_at z.self.now.text.now _ z.c _ _ _ c.start_of.ensures c.count.ensures) _ _ _ _ _ _ _ (agrees _ _ _ _ _ _ _ short (c.expression-after.ensures.value, (c.expression-after.ensures.table_after, c.expression-after.ensures.notes_after))) (step_in_stop z.self.now.text.now _ (sym c.stops.ensures ∙ c.if-stops.true))
+    (kind_not z.self.now.text.now z.c _ _ c.kind_of.ensures c.if-kind_of-eq-OPEN_PAREN.false) (counted_at z.self.now.text.now _ z.c _ _ _ c.start_of.ensures c.count.ensures) _ _ _ _ _ _ _ (agrees _ _ _ _ _ short c.expression-after.ensures.value c.expression-after.ensures.lists) (step_in_stop z.self.now.text.now _ (sym c.stops.ensures ∙ c.if-stops.true))
 
 pub statement-returns-clause-value : goal.statement-returns-clause-value
 statement-returns-clause-value t c =
     let short = c.args.self.now.short in
     let z = c.args in
     blocks.statement_acts z.self.now.text.now z.self.now.handler z.self.now.levels (walk.conditional z.self.now.text.now z.self.now.handler z.self.now.levels) z.self.now.from (cursor_in z.self.now.text.now z.c) z.lent.now.table.now z.lent.now.notes.now _
-    (kind_not z.self.now.text.now z.c _ _ c.kind_of.ensures c.if-kind_of-eq-OPEN_PAREN.false) (counted_at z.self.now.text.now _ z.c _ _ _ c.start_of.ensures c.count.ensures) _ _ _ _ _ _ _ (agrees _ _ _ _ _ _ _ short (c.expression-after.ensures.value, (c.expression-after.ensures.table_after, c.expression-after.ensures.notes_after))) (step_in_on z.self.now.text.now _ (sym c.stops.ensures ∙ c.if-stops.false)) c.action.ensures.value
+    (kind_not z.self.now.text.now z.c _ _ c.kind_of.ensures c.if-kind_of-eq-OPEN_PAREN.false) (counted_at z.self.now.text.now _ z.c _ _ _ c.start_of.ensures c.count.ensures) _ _ _ _ _ _ _ (agrees _ _ _ _ _ short c.expression-after.ensures.value c.expression-after.ensures.lists) (step_in_on z.self.now.text.now _ (sym c.stops.ensures ∙ c.if-stops.false)) c.action.ensures.value
 
 pub statements-returns-then-not-is_start-clause-value : goal.statements-returns-then-not-is_start-clause-value
 statements-returns-then-not-is_start-clause-value t c =

@@ -7,6 +7,6 @@ returns-clause-value c =
     let z = c.args in
     moved_all z.self.now.text.now z.self.now.handler z.self.now.first z.c z.self.now.from z.lent.now.table.now z.lent.now.notes.now _ _ _ _ _ _ _ _ _ _ _ _ _ _ _ _ _ _ _ c.nodes-before.ensures
     c.start_of.ensures c.count.ensures c.start_of-2.ensures c.count-2.ensures
-    c.start_of-3.ensures c.end_of.ensures c.holder-holder.ensures c.start_of-4.ensures c.end_of-2.ensures c.asset_target-target.ensures
-    c.start_of-5.ensures c.want.ensures c.start_of-6.ensures c.want-2.ensures
+    c.name_at.ensures.text c.name_at.ensures.word c.holder-holder.ensures c.name_at-2.ensures.text c.name_at-2.ensures.word c.asset_target-target.ensures
+    c.start_of-3.ensures c.want.ensures c.start_of-4.ensures c.want-2.ensures
     c.put.ensures.value c.put-2.ensures.value

@@ -2,7 +2,7 @@
 use Rattle.cursors.specs.Packed.{cursor_in}
 use Rattle.reading_laws.proofs.Exits as parts
 use Rattle.cursors.proofs.Tested as packed
-use Rattle.cursors.proofs.Clipped.{lexed, stated, tokened}
+use Rattle.cursors.proofs.Clipped.{passed, stated, tokened}
 use Rattle.bodies.proofs.parts.Bodies.event.Goals as goal
 
 pub returns-then-stops-clause-value : goal.returns-then-stops-clause-value
@@ -28,7 +28,7 @@ returns-then-stops-3-clause-value c =
     (packed.keeps z.self.now.text.now _ _ c.stops.ensures c.if-stops.false) _ (stated _ _ _ short c.state_at-name.ensures) _ (packed.keeps z.self.now.text.now _ _
     c.stops-2.ensures c.if-stops-2.false) _ _ c.note-i.ensures c.nodes-from.ensures _ c.count.ensures _ _ _
     c.mention_state-state.ensures.number c.mention_state-state.ensures.value _ c.set.ensures _
-    (packed.next_is z.self.now.text.now _ _ _ c.end_of.ensures (lexed _ _ _ _ short c.end_of.ensures c.lex.ensures.value)) _ _ _ c.braces-after.ensures.value _ _ _ _ (packed.halts
+    (passed z.self.now.text.now _ _ short c.past.ensures.value) _ _ _ c.braces-after.ensures.value _ _ _ _ (packed.halts
     z.self.now.text.now _ _ c.stops-3.ensures c.if-stops-3.true)
 
 pub returns-clause-value : goal.returns-clause-value
@@ -39,5 +39,5 @@ returns-clause-value c =
     (packed.keeps z.self.now.text.now _ _ c.stops.ensures c.if-stops.false) _ (stated _ _ _ short c.state_at-name.ensures) _ (packed.keeps z.self.now.text.now _ _
     c.stops-2.ensures c.if-stops-2.false) _ _ c.note-i.ensures c.nodes-from.ensures _ c.count.ensures _ _ _
     c.mention_state-state.ensures.number c.mention_state-state.ensures.value _ c.set.ensures _
-    (packed.next_is z.self.now.text.now _ _ _ c.end_of.ensures (lexed _ _ _ _ short c.end_of.ensures c.lex.ensures.value)) _ _ _ c.braces-after.ensures.value _ _ _ _ (packed.keeps
+    (passed z.self.now.text.now _ _ short c.past.ensures.value) _ _ _ c.braces-after.ensures.value _ _ _ _ (packed.keeps
     z.self.now.text.now _ _ c.stops-3.ensures c.if-stops-3.false) c.event_end.ensures.value

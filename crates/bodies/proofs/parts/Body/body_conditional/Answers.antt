@@ -1,5 +1,6 @@
 -- `bodies::parts::Body::body_conditional` meets its contract. Assumes nothing.
-use mathlib.Core.Path.{sym, ◌∙◌}
+use mathlib.Core.Path.{sym, ap, ◌∙◌}
+use Rattle.std.specs.Prelude.{set}
 use Rattle.cursors.specs.Packed.{cursor_in}
 use Rattle.reading_laws.proofs.Exits as parts
 use Rattle.cursors.proofs.Tested as packed
@@ -22,4 +23,4 @@ returns-clause-value c =
     let z = c.args in
     packed.as_on z.self.now.text.now _ _ _ _ (sym c.stops.ensures ∙ c.if-stops.false)
     (parts.body_grows_lem z.self.now.text.now z.self.now.from (cursor_in z.self.now.text.now z.c) z.lent.now.table.now z.lent.now.notes.now _ c.note.ensures c.if-note-ne0.false _
-    _ _ c.conditional-after.ensures.value _ _ (packed.keeps z.self.now.text.now _ _ c.stops.ensures c.if-stops.false) c.grow.ensures)
+    _ _ c.conditional-after.ensures.value _ _ (packed.keeps z.self.now.text.now _ _ c.stops.ensures c.if-stops.false) (c.set.ensures ∙ ap (set c.conditional-after.new.lent.notes.now 604) c.nodes_since-written.ensures))

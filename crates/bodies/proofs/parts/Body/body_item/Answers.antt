@@ -17,7 +17,7 @@ returns-then-stops-clause-value c =
     let z = c.args in
     parts.item_stops z.self.now.text.now z.self.now.from (cursor_in z.self.now.text.now z.c) z.lent.now.table.now z.lent.now.notes.now (packed.kind_not z.self.now.text.now z.c _ _
     c.kind_of.ensures c.if-kind_of-eq-OPEN_PAREN.false) _ c.nodes-before.ensures _ (packed.counted_at z.self.now.text.now 9 z.c _ _ _ c.start_of.ensures
-    c.count.ensures) _ _ _ (agrees _ _ _ _ _ _ _ short (c.expression-after.ensures.value, (c.expression-after.ensures.table_after, c.expression-after.ensures.notes_after))) _ _ _ _ (packed.halts z.self.now.text.now _ _ c.stops.ensures c.if-stops.true)
+    c.count.ensures) _ _ _ (agrees _ _ _ _ _ short c.expression-after.ensures.value c.expression-after.ensures.lists) _ _ _ _ (packed.halts z.self.now.text.now _ _ c.stops.ensures c.if-stops.true)
 
 pub returns-clause-value : goal.returns-clause-value
 returns-clause-value c =
@@ -25,5 +25,5 @@ returns-clause-value c =
     let z = c.args in
     parts.item_goes z.self.now.text.now z.self.now.from (cursor_in z.self.now.text.now z.c) z.lent.now.table.now z.lent.now.notes.now (packed.kind_not z.self.now.text.now z.c _ _
     c.kind_of.ensures c.if-kind_of-eq-OPEN_PAREN.false) _ c.nodes-before.ensures _ (packed.counted_at z.self.now.text.now 9 z.c _ _ _ c.start_of.ensures
-    c.count.ensures) _ _ _ (agrees _ _ _ _ _ _ _ short (c.expression-after.ensures.value, (c.expression-after.ensures.table_after, c.expression-after.ensures.notes_after))) _ _ _ _ (packed.keeps z.self.now.text.now _ _ c.stops.ensures c.if-stops.false)
+    c.count.ensures) _ _ _ (agrees _ _ _ _ _ short c.expression-after.ensures.value c.expression-after.ensures.lists) _ _ _ _ (packed.keeps z.self.now.text.now _ _ c.stops.ensures c.if-stops.false)
     c.body_rest.ensures.value

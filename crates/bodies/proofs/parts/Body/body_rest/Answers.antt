@@ -1,5 +1,6 @@
 -- `bodies::parts::Body::body_rest` meets its contract. Assumes nothing.
-use mathlib.Core.Path.{sym, ◌∙◌}
+use mathlib.Core.Path.{sym, ap, ◌∙◌}
+use Rattle.std.specs.Prelude.{set}
 use Rattle.cursors.specs.Packed.{cursor_in}
 use Rattle.reading_laws.proofs.Exits as parts
 use Rattle.cursors.proofs.Tested as packed
@@ -43,4 +44,4 @@ returns-clause-value c =
     packed.as_on z.self.now.text.now _ _ _ _ (sym c.stops-2.ensures ∙ c.if-stops-2.false)
     (parts.rest_grows z.self.now.text.now z.self.now.from (cursor_in z.self.now.text.now z.first) z.before (cursor_in z.self.now.text.now z.c) z.lent.now.table.now
     z.lent.now.notes.now (packed.kind_not z.self.now.text.now z.c _ _ c.kind_of.ensures c.if-kind_of-eq-EVENT_MARK.false) _ c.note.ensures c.if-note-ne0.false _ _
-    _ c.action-after.ensures.value _ _ (packed.keeps z.self.now.text.now _ _ c.stops-2.ensures c.if-stops-2.false) c.grow.ensures)
+    _ c.action-after.ensures.value _ _ (packed.keeps z.self.now.text.now _ _ c.stops-2.ensures c.if-stops-2.false) (c.set.ensures ∙ ap (set c.action-after.new.lent.notes.now 604) c.nodes_since-written.ensures))

@@ -11,8 +11,8 @@ use Rattle.reading_laws.specs.Walk as walk
 use Rattle.cursors.specs.Packed.{cursor_in}
 use Rattle.reading_laws.proofs.AgreesWith.{leaves_same, is_stop_lem}
 use Rattle.reading_laws.proofs.Listed.{verbed}
-use Rattle.cursors.proofs.Tested.{kind_is, kind_not, next_is}
-use Rattle.cursors.proofs.Clipped.{lexed}
+use Rattle.cursors.proofs.Tested.{kind_is, kind_not}
+use Rattle.cursors.proofs.Clipped.{passed}
 use Rattle.clauses.proofs.lists.Lists.clause_from.Goals.{in-7, in-8}
 use Rattle.clauses.proofs.lists.Lists.clause_from.Goals as goal
 
@@ -33,7 +33,7 @@ returns-clause-value c =
     let eight_not_seven : 8 ≡ 7 → ⊥ = λ e. omega (arith, e) in
     let rest = λ (x : rows.Verb). walk.clause_rest s (walk.next_of s here) (clause_verb (tag_of the_type x) lists) in
     leaves_same _ _ _ _ _
-    (verbed _ here _ _ _ (next_is s c.args.c _ _ c.end_of.ensures (lexed _ _ _ _ short c.end_of.ensures c.lex.ensures.value)) c.clause_verb.ensures.value
+    (verbed _ here _ _ _ (passed s _ c.args.c short c.past.ensures.value) c.clause_verb.ensures.value
     ∙ (elim c.match-kind_of.branch [
       | in-7 w ↦ ap rest w.verb-is ∙ sym (pick_true _ _ _ (eq-eqb _ _ (kind_is s c.args.c _ _ c.kind_of.ensures w.in-7.is)))
       | in-8 w ↦ ap rest w.verb-is

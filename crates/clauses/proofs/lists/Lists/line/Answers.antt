@@ -6,8 +6,8 @@ use Rattle.reading_laws.specs.Walk as walk
 use Rattle.reading_laws.specs.Walk.{Cursor}
 use Rattle.reading_laws.proofs.AgreesWith.{leaves_same, is_on}
 use Rattle.cursors.proofs.Packs.{step_in_on}
-use Rattle.cursors.proofs.Tested.{kind_is, kind_not, next_is}
-use Rattle.cursors.proofs.Clipped.{lexed}
+use Rattle.cursors.proofs.Tested.{kind_is, kind_not}
+use Rattle.cursors.proofs.Clipped.{passed}
 use Rattle.clauses.proofs.lists.Lists.line.Goals as goal
 
 pub returns-then-kind_of-word-clause-value : goal.returns-then-kind_of-word-clause-value
@@ -16,7 +16,7 @@ returns-then-kind_of-word-clause-value c =
     let short = c.args.self.now.short in
     let g = c.args in
     leaves_same _ _ _ _ _
-    (ap (λ (x : Cursor). walk.names g.self.now.text.now g.kind x (walk.draft g.lent.now.table.now g.lent.now.notes.now)) (next_is g.self.now.text.now g.c _ _ c.end_of.ensures (lexed _ _ _ _ short c.end_of.ensures c.lex.ensures.value))
+    (ap (λ (x : Cursor). walk.names g.self.now.text.now g.kind x (walk.draft g.lent.now.table.now g.lent.now.notes.now)) (passed g.self.now.text.now _ g.c short c.past.ensures.value)
     ∙ sym (pick_true _ _ _ (eq-eqb _ _ (kind_is g.self.now.text.now g.c _ _ c.kind_of.ensures c.if-kind_of-word.true))))
     c.names.ensures.value
 

@@ -2,7 +2,7 @@
 use Rattle.reading_laws.proofs.AgreesWith.{is_on, is_stop_lem}
 use Rattle.cursors.proofs.Packs.{step_in_on}
 use Rattle.cursors.proofs.Tested.{kind_not}
-use Rattle.cursors.proofs.Clipped.{lexed}
+use Rattle.cursors.proofs.Clipped.{passed}
 use Rattle.clauses.proofs.NameLists.{one_misfit, one_read}
 use Rattle.clauses.proofs.lists.Lists.one.Goals as goal
 
@@ -14,5 +14,5 @@ pub returns-clause-value : goal.returns-clause-value
 returns-clause-value c =
     let short = c.args.self.now.short in
     is_on _ _ _ _ _
-    (one_read c.args.self.now.text.now c.args.listed c.args.c _ _ _ _ _ _ _ _ _ c.kind_of.ensures c.if-kind_of-ne-NAME.false c.start_of.ensures c.end_of.ensures c.end_of-2.ensures (lexed _ _ _ _ short c.end_of-2.ensures c.lex.ensures.value) c.enter.ensures.value)
-    (step_in_on c.args.self.now.text.now _ c.lex.ensures.goes)
+    (one_read c.args.self.now.text.now c.args.listed c.args.c _ _ _ _ _ _ _ _ _ c.kind_of.ensures c.if-kind_of-ne-NAME.false c.name_at.ensures.text c.name_at.ensures.start c.name_at.ensures.end (passed _ _ _ short c.past.ensures.value) c.enter.ensures.value)
+    (step_in_on c.args.self.now.text.now _ c.past.ensures.goes)

@@ -15,26 +15,17 @@ decreases-chain l = l.self.now.levels * 20 + weight (rank_number l.rank) + 2
 abbrev pub decreases-comparison : goal.decreases-comparison
 decreases-comparison l = l.self.now.levels * 20 + 9
 
-abbrev pub decreases-condition : goal.decreases-condition
-decreases-condition l = l.self.now.levels * 20 + 19
-
-abbrev pub decreases-conjunction : goal.decreases-conjunction
-decreases-conjunction l = l.self.now.levels * 20 + 15
-
-abbrev pub decreases-expression : goal.decreases-expression
-decreases-expression l = l.self.now.levels * 20 + 8
+abbrev pub decreases-enclosed : goal.decreases-enclosed
+decreases-enclosed l = l.self.now.levels * 20
 
 abbrev pub decreases-factor : goal.decreases-factor
-decreases-factor l = l.self.now.levels * 20 + 0
+decreases-factor l = l.self.now.levels * 20 + 1
 
 abbrev pub decreases-operand : goal.decreases-operand
 decreases-operand l = l.self.now.levels * 20 + weight (rank_number l.rank)
 
 abbrev pub decreases-primary : goal.decreases-primary
 decreases-primary l = l.self.now.levels * 20 + 11
-
-abbrev pub decreases-product : goal.decreases-product
-decreases-product l = l.self.now.levels * 20 + 4
 
 abbrev pub decreases-rest : goal.decreases-rest
 decreases-rest l = l.self.now.levels * 20 + weight (rank_number l.rank) + 1

@@ -2,18 +2,13 @@
 use Prim.Native.Nat.{ℕ}
 use native.Mathlib.Omega.{arith}
 use lib.ListN.{length}
-use mathlib.Core.Path.{◌≡◌, refl, ap, ◌∙◌}
+use mathlib.Core.Path.{◌≡◌, ap, ◌∙◌}
 use Rattle.reading_laws.specs.Walk.{draft}
 use Rattle.cursors.specs.Packed.{cursor_in}
-use Rattle.reading_laws.proofs.Operators.{nots_begin, nots_stop, nots_end}
+use Rattle.reading_laws.proofs.Operators.{nots_stop, nots_end}
 use Rattle.expressions.proofs.PackedTerms.{another}
-use Rattle.cursors.proofs.Clipped.{lexed}
+use Rattle.cursors.proofs.Clipped.{passed}
 use Rattle.expressions.proofs.terms.Scope.count_nots.Goals as goal
-
-pub loop-many-init : goal.loop-many-init
-loop-many-init c =
-    let z = c.args in
-    (nots_begin z.self.now.text.now z.notes.now (cursor_in z.self.now.text.now z.c), c.requires, refl)
 
 pub returns-then-kind_of-ne-NOT : goal.returns-then-kind_of-ne-NOT
 unfolding cursor_in
@@ -30,8 +25,8 @@ loop-many-preserved c =
     let short = c.args.self.now.short in
     let z = c.args in
     let l = c.loop-many in (
-      another z.self.now.text.now z.notes.now z.c l.notes l.here l.many l.invariant.0 _ _ _ c.loop-many-test.true c.kind_of.ensures c.if-kind_of-ne-NOT.false c.start_of.ensures _ c.count.ensures c.end_of.ensures _ (lexed _ _ _ _ short c.end_of.ensures c.lex-here.ensures.value),
-      c.lex-here.ensures.goes,
+      another z.self.now.text.now z.notes.now z.c l.notes l.here l.many l.invariant.0 _ _ c.loop-many-test.true c.kind_of.ensures c.if-kind_of-ne-NOT.false c.start_of.ensures _ c.count.ensures _ (passed _ _ _ short c.past-here.ensures.value),
+      c.past-here.ensures.goes,
       c.count.auto.notes ∙ l.invariant.2,
     )
 

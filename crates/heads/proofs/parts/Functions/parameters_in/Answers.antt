@@ -2,7 +2,7 @@
 use Rattle.cursors.specs.Packed.{cursor_in}
 use Rattle.reading_laws.proofs.Exits as parts
 use Rattle.cursors.proofs.Tested as packed
-use Rattle.cursors.proofs.Clipped.{lexed}
+use Rattle.cursors.proofs.Clipped.{passed}
 use Rattle.heads.proofs.parts.Functions.parameters_in.Goals as goal
 
 pub returns-then-kind_of-opening-clause-value : goal.returns-then-kind_of-opening-clause-value
@@ -10,7 +10,7 @@ returns-then-kind_of-opening-clause-value c =
     let short = c.args.self.now.short in
     let z = c.args in
     parts.listed z.self.now.text.now z.opening z.closing z.kind (cursor_in z.self.now.text.now z.c) _ _ _ _ _ (packed.kind_is z.self.now.text.now z.c _ _
-    c.kind_of.ensures c.if-kind_of-opening.true) (packed.next_is z.self.now.text.now _ _ _ c.end_of.ensures (lexed _ _ _ _ short c.end_of.ensures c.lex.ensures.value))
+    c.kind_of.ensures c.if-kind_of-opening.true) (passed z.self.now.text.now _ _ short c.past.ensures.value)
     c.parameter_names.ensures.value
 
 pub returns-clause-value : goal.returns-clause-value
