@@ -4,15 +4,16 @@ use mathlib.Core.Bool.{Bool, true, false, ◌&&◌}
 use mathlib.Core.List.{List, [], ◌∷◌}
 use Prim.Native.Nat.{ℕ, zero, suc, ◌+◌, ◌-◌, ◌*◌, ◌%◌, ◌^◌, ◌<◌, ◌≤◌}
 use native.Mathlib.Numerals.{add-one}
-use native.Mathlib.Nat.{one-mul}
+use native.Mathlib.Nat.{one-mul, add-zero}
 use native.Mathlib.Omega.{arith}
 use lib.ListN.{length, get_or, take, drop, length-take, length-drop, drop_of_length-le}
-use lib.Seq.{drop-cons, drop-drop, get_or-drop}
+use Rattle.std.specs.List.{list_all, enumerate_from}
+use lib.Seq.{drop-cons, drop-drop, get_or-drop, get_or-take}
 use lib.IntN.{ℤ, pos}
 use lib.Bits.{bit_or}
 use lib.Dec.{eqb, leb}
 use lib.Pow.{shl_exact}
-use borrow.Author.Tests.{eq-eqb, ne_eqb, eqb-true, leb-true, leb-false}
+use borrow.Author.Tests.{eq-eqb, ne_eqb, eqb-true, eqb-false, leb-true, leb-false}
 use Rattle.questions.specs.declared.Question.TheVariants as ask
 use Rattle.laws.specs.Choice.{pick}
 use Rattle.laws.specs.Bytes.{same_bytes}
@@ -23,13 +24,15 @@ use Rattle.numbers.specs.Numbers.{eq_z}
 use Rattle.tokens.specs.Tokens.{between}
 use Rattle.contract.specs.Tree.{Verb, Clause, Contract}
 use Rattle.contract.specs.Tree as tree
-use Rattle.contract.specs.Rows.{head_of, said}
-use Rattle.contract.specs.declared.Verb as rows
+use Rattle.contract.specs.Rows.{head_of, clause_row_of, said}
+use Rattle.contract.specs.declared.Verb as verbs
+use Rattle.contract.specs.declared.Clause as rows
 use Rattle.contract.specs.contracts.Verb.{the_type}
 use denote.Enum.Bare.{sameb}
 use Rattle.contract.specs.declared.Verb.TheVariants.{Set, Ok}
 use Rattle.contract.specs.declared.TableHead as head
-use Rattle.contract.specs.Decode.{each_from, contract_of}
+use Rattle.contract.specs.Table.{word_at, clause_word}
+use Rattle.contract.specs.Decode.{each_from, clause_at, contract_of}
 use Rattle.contract.specs.Check.{passes}
 use Rattle.state.specs.declared.State.{State}
 use Rattle.state.specs.States.{with_integer, opened}
@@ -40,17 +43,17 @@ use Rattle.outcomes.specs.Outcomes.{answered, refused}
 use Rattle.agreements.specs.Agreement.{Part, words_in, parts_in, same_verb, same_fields, same_clause, same_clauses, set_fields, set_clause, set_clauses, agreed_fields, agreed_clause, agreed_clauses, surplus, fields_in, fields_of, same_map, agreed_on, agreed_in}
 use Rattle.contract.specs.Decode.{verb_of}
 use Rattle.agreements.specs.Private.{part_at, set_part, set_by, agreed_part, agreed_by, same_by}
-use Rattle.agreements.proofs.Clauses.{each_cons, each_nil}
+use Rattle.agreements.proofs.Clauses.{placed, row_count, row_fields, each_cons, each_nil}
 
 -- ---- verbs
-same_verbs : (a b : rows.Verb) → sameb the_type a b ≡ same_verb (said a) (said b)
+same_verbs : (a b : verbs.Verb) → sameb the_type a b ≡ same_verb (said a) (said b)
 unfolding same_verb
 same_verbs Set Set = refl
 same_verbs Set Ok = refl
 same_verbs Ok Set = refl
 same_verbs Ok Ok = refl
 
-pub verbs_are : (a b : rows.Verb) {x y : Verb} → said a ≡ x → said b ≡ y → sameb the_type a b ≡ same_verb x y
+pub verbs_are : (a b : verbs.Verb) {x y : Verb} → said a ≡ x → said b ≡ y → sameb the_type a b ≡ same_verb x y
 verbs_are a b p q = same_verbs a b ∙ λ t. same_verb (p t) (q t)
 
 -- ---- fields
@@ -126,22 +129,31 @@ module _ (c : Contract) (k : Clause) (line parts spans : List ℕ) (values : Lis
         ap (λ (b : Bool). same_bytes it.party (get_or c.parties k.party []) && (same_verb k.verb it.verb && (same_fields c k.fields it.fields && b)))
         (eq-eqb (length (take count (drop at values))) (length (words_in line count (drop (at * 2) spans))) e)
 
-    pub other_verb : same_verb k.verb it.verb ≡ false → false ≡ same_clause c k it
-    other_verb e = sym (clause_is ∙ go (same_bytes it.party (get_or c.parties k.party [])))
-      where
-        go : (t : Bool) → (t && (same_verb k.verb it.verb && (same_fields c k.fields it.fields && true))) ≡ false
-        go true = rw e
-        go false = refl
+  -- in the code's order
+  pub clause_parts : (n m : ℕ) → n ≡ length k.fields → n ≡ m → same_clause c k it ≡ (eqb count n && (leb (at + n) (length values) && (same_verb k.verb it.verb && (same_bytes it.party (get_or c.parties k.party []) && same_fields c k.fields (words_in line m (drop (at * 2) spans))))))
+  clause_parts n m f g = go (eqb count n) refl (leb (at + n) (length values)) refl
+    where
+      swapped : (x y z : Bool) → (x && (y && (z && true))) ≡ (y && (x && z))
+      swapped true true true = refl
+      swapped true true false = refl
+      swapped true false z = refl
+      swapped false true z = refl
+      swapped false false z = refl
 
-    pub other_party : same_bytes it.party (get_or c.parties k.party []) ≡ false → false ≡ same_clause c k it
-    other_party e = sym (clause_is ∙ rw e)
+      go : (a : Bool) → eqb count n ≡ a → (b : Bool) → leb (at + n) (length values) ≡ b → same_clause c k it ≡ (a && (b && (same_verb k.verb it.verb && (same_bytes it.party (get_or c.parties k.party []) && same_fields c k.fields (words_in line m (drop (at * 2) spans))))))
+      go false e b q = sym (other_count (λ r. eqb-false count n e (r ∙ sym f)))
+      go true e false q = sym (values_short (omega (arith, eqb-true count n e, leb-false (at + n) (length values) q)))
+      go true e true q =
+          let u : count ≡ n = eqb-true count n e in
+          clause_is (omega (arith, u, leb-true (at + n) (length values) q))
+          ∙ swapped (same_bytes it.party (get_or c.parties k.party [])) (same_verb k.verb it.verb) (same_fields c k.fields it.fields)
+          ∙ ap (λ (z : ℕ). same_verb k.verb it.verb && (same_bytes it.party (get_or c.parties k.party []) && same_fields c k.fields (words_in line z (drop (at * 2) spans)))) (u ∙ g)
 
-    pub by_fields : same_bytes it.party (get_or c.parties k.party []) ≡ true → same_verb k.verb it.verb ≡ true → same_fields c k.fields it.fields ≡ same_clause c k it
-    by_fields e f = sym (clause_is ∙ rw (e, f) (go (same_fields c k.fields it.fields)))
-      where
-        go : (t : Bool) → (t && true) ≡ t
-        go true = refl
-        go false = refl
+-- the same of clause i of a table that passes, by its row
+pub row_parts : (w line parts spans : List ℕ) (values : List ℤ) (i at : ℕ) (row : rows.Clause) → passes w ≡ true → i < word_at w 5 → row ≡ clause_row_of w i → at ≤ length values
+    → same_clause (contract_of w) (clause_at w i) (part_at line parts spans values i at) ≡ (eqb (get_or parts (i * 4 + 3) 0) row.fields && (leb (at + row.fields) (length values) && (same_verb (clause_at w i).verb (verb_of (get_or parts (i * 4 + 2) 0)) && (same_bytes (between line (get_or parts (i * 4) 0) (get_or parts (i * 4 + 1) 0)) (get_or (contract_of w).parties (clause_at w i).party []) && same_fields (contract_of w) (clause_at w i).fields (words_in line (clause_word w i 2) (drop (at * 2) spans))))))
+row_parts w line parts spans values i at row e h r room =
+    clause_parts (contract_of w) (clause_at w i) line parts spans values i at room row.fields (clause_word w i 2) (sym (row_count w i row r (placed w e i h))) (row_fields w i row r)
 
 -- ---- the parts from one of them on
 abbrev pub parts_from : List ℕ → List ℕ → List ℕ → List ℤ → ℕ → ℕ → ℕ → List Part
@@ -237,72 +249,52 @@ module _ (c : Contract) (f : ℕ → Clause) (line parts spans : List ℕ) (valu
       ∙ (λ t. nothing_left parts (i * 4) t && (nothing_left spans (at * 2) t && nothing_left values at t))
 
 -- ---- values set
-module _ (fs : List ℕ) (values : List ℤ) (at j : ℕ) where
-  more_fields : j < length fs → drop j fs ≡ get_or fs j 0 ∷ drop (j + 1) fs
-  more_fields h = drop-cons fs j 0 h ∙ ap (λ (m : ℕ). get_or fs j 0 ∷ drop m fs) (sym (add-one j))
+-- one field more, of those that have values
+pub set_next : (s t : State) (fs : List ℕ) (zs : List ℤ) (n j x : ℕ) {z : ℤ} → t ≡ with_integer s x z → n ≡ length fs → j < length (take n zs) → get_or fs j 0 ≡ x → get_or (take n zs) j (pos 0) ≡ z
+    → set_fields s (drop j fs) (drop j zs) ≡ set_fields t (drop (j + 1) fs) (drop (j + 1) zs)
+unfolding set_fields
+set_next s t fs zs n j x r e h p q =
+    let few : j < n = omega (arith, length-take n zs) in
+    let here = sym (get_or-take n zs j (pos 0) few) ∙ q in
+    (λ i. set_fields s (drop-cons fs j 0 (omega arith) i) (drop-cons zs j (pos 0) (omega (arith, length-take n zs)) i))
+    ∙ (λ i. set_fields (with_integer s (p i) (here i)) (drop (sym (add-one j) i) fs) (drop (sym (add-one j) i) zs))
+    ∙ ap (λ (u : State). set_fields u (drop (j + 1) fs) (drop (j + 1) zs)) (sym r)
 
-  more_values : at + j < length values → drop j (drop at values) ≡ get_or values (at + j) (pos 0) ∷ drop (j + 1) (drop at values)
-  more_values h =
-      let k : j < length (drop at values) = omega (arith, length-drop at values) in
-      drop-cons (drop at values) j (pos 0) k
-      ∙ (λ i. get_or-drop at values j (pos 0) i ∷ drop (sym (add-one j) i) (drop at values))
+set_none : (s : State) (xs : List ℕ) → set_fields s xs [] ≡ s
+unfolding set_fields
+set_none s [] = refl
+set_none s (x ∷ xs) = refl
 
-  no_values : length values ≤ at + j → drop j (drop at values) ≡ []
-  no_values h =
-      let k : length (drop at values) ≤ j = omega (arith, length-drop at values) in
-      drop_of_length-le (drop at values) k
+pub set_end : (s : State) (fs : List ℕ) (zs : List ℤ) (n j : ℕ) → n ≡ length fs → length (take n zs) ≤ j → set_fields s (drop j fs) (drop j zs) ≡ s
+unfolding set_fields
+set_end s fs zs n j e h = go (leb (length fs) j) refl
+  where
+    go : (b : Bool) → leb (length fs) j ≡ b → set_fields s (drop j fs) (drop j zs) ≡ s
+    go true q = ap (λ (xs : List ℕ). set_fields s xs (drop j zs)) (drop_of_length-le fs (leb-true (length fs) j q))
+    go false q =
+        let l = leb-false (length fs) j q in
+        let m : length zs ≤ j = omega (arith, length-take n zs) in
+        ap (set_fields s (drop j fs)) (drop_of_length-le zs m) ∙ set_none s (drop j fs)
 
-  module _ (s : State) where
-    pub set_more : j < length fs → at + j < length values → (x : ℕ) (z : ℤ) → get_or fs j 0 ≡ x → get_or values (at + j) (pos 0) ≡ z → set_fields s (drop j fs) (drop j (drop at values)) ≡ set_fields (with_integer s x z) (drop (j + 1) fs) (drop (j + 1) (drop at values))
-    unfolding set_fields
-    set_more h k x z e f =
-        (λ i. set_fields s (more_fields h i) (more_values k i))
-        ∙ (λ i. set_fields (with_integer s (e i) (f i)) (drop (j + 1) fs) (drop (j + 1) (drop at values)))
+-- ---- values agreed on
+abbrev pub agrees : State → ℕ → ℤ → Bool
+agrees s x z = eqb (get_or s.kinds x 0) 1 && eq_z (get_or s.numbers x (pos 0)) z
 
-    set_none : (xs : List ℕ) → set_fields s xs [] ≡ s
-    unfolding set_fields
-    set_none [] = refl
-    set_none (x ∷ xs) = refl
+-- as many fields as have values, each with its number
+pub agreed_numbered : (s : State) (x : ℕ → ℕ) (fs : List ℕ) (zs : List ℤ) (n : ℕ) → ((j : ℕ) → j < length fs → x (n + j) ≡ get_or fs j 0)
+    → list_all (λ p. agrees s (x p.0) p.1) (enumerate_from n (take (length fs) zs)) ≡ agreed_fields s fs zs
+unfolding agreed_fields
+agreed_numbered s x [] zs n e = refl
+agreed_numbered s x (f ∷ fs) [] n e = refl
+agreed_numbered s x (f ∷ fs) (z ∷ zs) n e =
+    let here : x n ≡ f = ap x (sym (add-zero n)) ∙ e 0 (omega arith) in
+    (λ i. agrees s (here i) z && agreed_numbered s x fs zs (n + 1) (λ j h. ap x (omega arith) ∙ e (suc j) (omega (arith, h))) i)
+    ∙ regroup (eqb (get_or s.kinds f 0) 1) _ _
+  where
+    regroup : (a b c : Bool) → ((a && b) && c) ≡ (a && (b && c))
+    regroup true b c = refl
+    regroup false b c = refl
 
-    pub set_short : length values ≤ at + j → set_fields s (drop j fs) (drop j (drop at values)) ≡ s
-    set_short h = ap (set_fields s (drop j fs)) (no_values h) ∙ set_none (drop j fs)
-
-    pub set_all : length fs ≤ j → set_fields s (drop j fs) (drop j (drop at values)) ≡ s
-    unfolding set_fields
-    set_all h = ap (λ (xs : List ℕ). set_fields s xs (drop j (drop at values))) (drop_of_length-le fs h)
-
-    agreed_turn : j < length fs → at + j < length values → (x : ℕ) (z : ℤ) → get_or fs j 0 ≡ x → get_or values (at + j) (pos 0) ≡ z → agreed_fields s (drop j fs) (drop j (drop at values)) ≡ (eqb (get_or s.kinds x 0) 1 && (eq_z (get_or s.numbers x (pos 0)) z && agreed_fields s (drop (j + 1) fs) (drop (j + 1) (drop at values))))
-    unfolding agreed_fields
-    agreed_turn h k x z e f =
-        (λ i. agreed_fields s (more_fields h i) (more_values k i))
-        ∙ (λ i. eqb (get_or s.kinds (e i) 0) 1 && (eq_z (get_or s.numbers (e i) (pos 0)) (f i) && agreed_fields s (drop (j + 1) fs) (drop (j + 1) (drop at values))))
-
-    pub agreed_more : j < length fs → at + j < length values → (x : ℕ) (z : ℤ) → get_or fs j 0 ≡ x → get_or values (at + j) (pos 0) ≡ z → (eqb (get_or s.kinds x 0) 1 && eq_z (get_or s.numbers x (pos 0)) z) ≡ true → agreed_fields s (drop j fs) (drop j (drop at values)) ≡ agreed_fields s (drop (j + 1) fs) (drop (j + 1) (drop at values))
-    agreed_more h k x z e f t =
-        let b = both_of (eqb (get_or s.kinds x 0) 1) (eq_z (get_or s.numbers x (pos 0)) z) t in
-        agreed_turn h k x z e f ∙ rw (b.0, b.1)
-
-    pub agreed_not : j < length fs → at + j < length values → (x : ℕ) (z : ℤ) → get_or fs j 0 ≡ x → get_or values (at + j) (pos 0) ≡ z → (eqb (get_or s.kinds x 0) 1 && eq_z (get_or s.numbers x (pos 0)) z) ≡ false → agreed_fields s (drop j fs) (drop j (drop at values)) ≡ false
-    agreed_not h k x z e f t = agreed_turn h k x z e f ∙ go (eqb (get_or s.kinds x 0) 1) (eq_z (get_or s.numbers x (pos 0)) z) t
-      where
-        go : (a b : Bool) → (a && b) ≡ false → (a && (b && agreed_fields s (drop (j + 1) fs) (drop (j + 1) (drop at values)))) ≡ false
-        go true true r = true_false r
-        go true false r = refl
-        go false b r = refl
-
-    agreed_none : (xs : List ℕ) → agreed_fields s xs [] ≡ true
-    unfolding agreed_fields
-    agreed_none [] = refl
-    agreed_none (x ∷ xs) = refl
-
-    pub agreed_short : length values ≤ at + j → agreed_fields s (drop j fs) (drop j (drop at values)) ≡ true
-    agreed_short h = ap (agreed_fields s (drop j fs)) (no_values h) ∙ agreed_none (drop j fs)
-
-    pub agreed_all : length fs ≤ j → agreed_fields s (drop j fs) (drop j (drop at values)) ≡ true
-    unfolding agreed_fields
-    agreed_all h = ap (λ (xs : List ℕ). agreed_fields s xs (drop j (drop at values))) (drop_of_length-le fs h)
-
--- ---- a field's integer
 -- ---- all clauses, turn by turn
 module _ (f : ℕ → Clause) (values : List ℤ) (n i at : ℕ) (s : State) where
   next_values : (k : ℕ) → length (f i).fields ≡ k → drop (length (f i).fields) (drop at values) ≡ drop (at + k) values

@@ -1,53 +1,79 @@
 // The agreement: the parties' clauses in the contract's order, with the fields' values, as parts of a session line.
 #![tactic(auto)]
 
-ghost use Rattle.std.specs.Prelude.{◌≡◌, true, ◌&&◌, [], ◌+◌, ◌*◌, ◌/◌, ◌≤◌, ◌<◌, length, get_or, drop, pos, eqb};
+ghost use Rattle.std.specs.Prelude.{◌≡◌, ◌&&◌, [], ◌+◌, ◌*◌, ◌/◌, ◌≤◌, ◌<◌, length, get_or, take, drop, pos, eqb};
 ghost use Rattle.laws.specs.Bytes.{same_bytes};
 ghost use Rattle.numbers.specs.Numbers.{eq_z};
 ghost use Rattle.tokens.specs.Tokens.{between};
 ghost use Rattle.contract.specs.Table.{word_at, clause_word};
-ghost use Rattle.contract.specs.Decode.{word_of, clause_at, contract_of};
-ghost use Rattle.contract.specs.Check.{passes};
+ghost use Rattle.contract.specs.Decode.{word_of, verb_of, clause_at, contract_of};
 ghost use Rattle.contract.specs.Rows.{clause_row_of, said};
 ghost use Rattle.state.specs.States.{with_integer};
-ghost use Rattle.agreements.specs.Agreement.{parts_in, words_in, same_fields, same_clause, same_clauses, set_fields, agreed_fields, fields_in, fields_of, agreed_on, agreed_in};
+ghost use Rattle.outcomes.specs.Outcomes.{answered};
+ghost use Rattle.agreements.specs.Agreement.{parts_in, words_in, same_verb, same_fields, same_clause, same_clauses, set_fields, agreed_fields, fields_in, fields_of, agreed_on, agreed_in};
 ghost use Rattle.agreements.specs.Private.{part_at, set_part, set_by, agreed_part, agreed_by, same_by};
 
 use contract::{Clause, Verb};
 use evaluation::FieldKind;
 use items::get_or;
-use outcomes::{Outcome, Rule, Stepped};
+use lines::Agreement;
+use outcomes::{Outcome, Rule};
 use questions::Question;
 use state::State;
+use tables::Passed;
 
 // Field x gets an integer.
-fn with_integer(s: State, x: usize, z: i64) -> State
-    ensures { result ≡ with_integer s x z }
+fn set_integer(s: &mut State, x: usize, z: i64)
+    ensures { s.new ≡ with_integer s.old x z }
 {
-    let mut next = s;
-    items::set(&mut next.kinds, x, FieldKind::INTEGER);
-    items::set(&mut next.numbers, x, z);
-    next
+    items::set(&mut s.kinds, x, FieldKind::INTEGER);
+    items::set(&mut s.numbers, x, z);
 }
 
 // Whether field x has this integer.
 #[tactic(auto, using(numbers::proofs::Whole::eq_bits))]
-fn has_integer(s: State, x: usize, z: i64) -> bool
-    ensures { result ≡ (eqb (get_or s.kinds x 0) 1 && eq_z (get_or s.numbers x (pos 0)) z) }
+fn has_integer(s: &State, x: usize, z: i64) -> bool
+    ensures { result ≡ (eqb (get_or s.now.kinds x 0) 1 && eq_z (get_or s.now.numbers x (pos 0)) z) }
 {
     get_or(&s.kinds, x, 0) == FieldKind::INTEGER && get_or(&s.numbers, x, 0) == z
 }
 
+// A part of the line in the list of parts: at which of its words its party's name starts and ends and its verb and the count of its fields stand.
+#[derive(Clone, Copy)]
+struct Part {}
+
+// Kept: (d) no kinds but places.
+impl Part {
+    const START: usize = 0;
+
+    const END: usize = 1;
+
+    const VERB: usize = 2;
+
+    const FIELD_COUNT: usize = 3;
+}
+
+// The same of a field's name in the list of spans.
+#[derive(Clone, Copy)]
+struct Span {}
+
+// Kept: (d) no kinds but places.
+impl Span {
+    const START: usize = 0;
+
+    const END: usize = 1;
+}
+
 // What was heard, on a table that passes: the line, its parts, where its fields' names stand, and their values.
-// Kept: (a) lists of numbers beside each other, since the public step takes them so, of any lengths; that they belong together is question 23.
+// Kept: (a) lists of numbers beside each other, since document 01 has the public step take them so, of any lengths, and question 23 judges whether
+// they belong together.
 #[derive(Clone, Copy)]
 struct Heard<'a> {
-    table: &'a [u64],
+    terms: Passed<'a>,
     line: &'a [u8],
     parts: &'a [usize],
     spans: &'a [usize],
     values: &'a [i64],
-    ghost whole: { passes table.now ≡ true },
 }
 
 // Clause i of the table, and from which field on its own fields were heard.
@@ -57,13 +83,13 @@ struct ClauseAt<'a> {
     i: usize,
     at: usize,
     row: Clause,
-    ghost read: { row ≡ clause_row_of heard.table.now i },
-    ghost room: { (i < word_at heard.table.now 5) × (at < 1024) },
+    ghost read: { row ≡ clause_row_of heard.terms.table.now i },
+    ghost room: { (i < word_at heard.terms.table.now 5) × (at < 1024) },
 }
 
 impl<'a> ClauseAt<'a> {
     fn of(heard: Heard<'a>, i: usize, at: usize) -> ClauseAt<'a>
-        requires { (i < word_at heard.table.now 5) × (at < 1024) }
+        requires { (i < word_at heard.terms.table.now 5) × (at < 1024) }
         ensures same_heard { result.heard ≡ heard.entry }
         ensures same_i { result.i ≡ i }
         ensures same_at { result.at ≡ at }
@@ -72,7 +98,7 @@ impl<'a> ClauseAt<'a> {
             heard,
             i,
             at,
-            row: contract::clause_at(heard.table, i),
+            row: contract::clause_at(heard.terms.table, i),
         }
     }
 }
@@ -80,122 +106,128 @@ impl<'a> ClauseAt<'a> {
 impl Heard<'_> {
     // Whether the name whose length stands at o is the part of the line from a up to, not including, e.
     fn named(&self, o: usize, a: usize, e: usize) -> bool
-        ensures { result ≡ same_bytes (between self.now.line.now a e) (word_of self.now.table.now o) }
+        ensures { result ≡ same_bytes (between self.now.line.now a e) (word_of self.now.terms.table.now o) }
     {
-        table_names::same_name(self.table, o, tokens::between(self.line, a, e))
+        table_names::same_name(self.terms.table, o, tokens::between(self.line, a, e))
     }
 }
 
-impl ClauseAt<'_> {
+impl<'a> ClauseAt<'a> {
     // What it does with its fields.
     #[tactic(auto, using(crate::proofs::Clauses::row_verb))]
     fn verb(&self) -> Verb
-        ensures { said result ≡ (clause_at self.now.heard.table.now self.now.i).verb }
+        ensures { said result ≡ (clause_at self.now.heard.terms.table.now self.now.i).verb }
     {
-        Verb::from(self.row.verb)
+        self.row.verb()
     }
 
     // Whether its field j is the one that the line names there.
     #[tactic(auto, using(crate::proofs::Clauses::placed, crate::proofs::Clauses::row_fields, crate::proofs::Clauses::field_name))]
     fn same_field(&self, j: usize) -> bool
         requires { j < self.now.row.fields }
-        ensures { result ≡ same_bytes (between self.now.heard.line.now (get_or self.now.heard.spans.now ((self.now.at + j) * 2) 0) (get_or self.now.heard.spans.now ((self.now.at + j) * 2 + 1) 0)) (get_or (contract_of self.now.heard.table.now).fields (clause_word self.now.heard.table.now self.now.i (3 + j)) []) }
+        ensures { result ≡ same_bytes (between self.now.heard.line.now (get_or self.now.heard.spans.now ((self.now.at + j) * 2) 0) (get_or self.now.heard.spans.now ((self.now.at + j) * 2 + 1) 0)) (get_or (contract_of self.now.heard.terms.table.now).fields (clause_word self.now.heard.terms.table.now self.now.i (3 + j)) []) }
     {
         let spans = self.heard.spans;
-        let from = (self.at + j) * 2;
-        let field = contract::clause_field(self.heard.table, self.i, j);
+        let from = (self.at + j) * Agreement::SPAN;
+        let field = contract::clause_field(self.heard.terms.table, self.i, j);
         let o = contract::FIELDS + field * contract::NAME_WORDS;
-        self.heard
-            .named(o, get_or(spans, from, 0), get_or(spans, from + 1, 0))
+        self.heard.named(
+            o,
+            get_or(spans, from + Span::START, 0),
+            get_or(spans, from + Span::END, 0),
+        )
     }
 
     // Whether its fields are those that the line names.
     fn same_fields(&self) -> bool
-        ensures { result ≡ same_fields (contract_of self.now.heard.table.now) (clause_at self.now.heard.table.now self.now.i).fields (words_in self.now.heard.line.now (clause_word self.now.heard.table.now self.now.i 2) (drop (self.now.at * 2) self.now.heard.spans.now)) }
+        ensures { result ≡ same_fields (contract_of self.now.heard.terms.table.now) (clause_at self.now.heard.terms.table.now self.now.i).fields (words_in self.now.heard.line.now (clause_word self.now.heard.terms.table.now self.now.i 2) (drop (self.now.at * 2) self.now.heard.spans.now)) }
     {
         (0..self.row.fields).all(|j| self.same_field(j))
     }
 
+    // Word j of the part with its number.
+    #[tactic(auto, using(crate::proofs::Clauses::placed))]
+    fn part(&self, j: usize) -> usize
+        requires { j < 4 }
+        ensures { result ≡ get_or self.now.heard.parts.now (self.now.i * 4 + j) 0 }
+    {
+        get_or(self.heard.parts, self.i * Agreement::HEAD + j, 0)
+    }
+
+    // Whether the part with its number is of its party.
+    #[tactic(auto, using(crate::proofs::Clauses::placed, crate::proofs::Clauses::row_party, crate::proofs::Clauses::row_party_few))]
+    fn same_party(&self) -> bool
+        ensures { result ≡ same_bytes (between self.now.heard.line.now (get_or self.now.heard.parts.now (self.now.i * 4) 0) (get_or self.now.heard.parts.now (self.now.i * 4 + 1) 0)) (get_or (contract_of self.now.heard.terms.table.now).parties (clause_at self.now.heard.terms.table.now self.now.i).party []) }
+    {
+        let o = contract::PARTIES + self.row.party * contract::NAME_WORDS;
+        self.heard
+            .named(o, self.part(Part::START), self.part(Part::END))
+    }
+
+    // Whether that part does the same with its fields.
+    #[tactic(auto, using(crate::proofs::Agreements::verbs_are, crate::proofs::Clauses::placed))]
+    fn same_verb(&self) -> bool
+        ensures { result ≡ same_verb (clause_at self.now.heard.terms.table.now self.now.i).verb (verb_of (get_or self.now.heard.parts.now (self.now.i * 4 + 2) 0)) }
+    {
+        self.verb() == Verb::from(self.part(Part::VERB))
+    }
+
     // Whether it is the part with its number.
-    #[tactic(auto, using(crate::proofs::Clauses::placed, crate::proofs::Clauses::row_few, crate::proofs::Clauses::row_party_few, crate::proofs::Clauses::row_count, crate::proofs::Clauses::row_fields, crate::proofs::Agreements::other_count, crate::proofs::Agreements::values_short))]
+    #[tactic(auto, using(crate::proofs::Clauses::placed, crate::proofs::Clauses::row_few))]
     fn same_clause(&self) -> bool
         requires { self.now.at ≤ length self.now.heard.values.now }
-        ensures { result ≡ same_clause (contract_of self.now.heard.table.now) (clause_at self.now.heard.table.now self.now.i) (part_at self.now.heard.line.now self.now.heard.parts.now self.now.heard.spans.now self.now.heard.values.now self.now.i self.now.at) }
+        ensures { result ≡ same_clause (contract_of self.now.heard.terms.table.now) (clause_at self.now.heard.terms.table.now self.now.i) (part_at self.now.heard.line.now self.now.heard.parts.now self.now.heard.spans.now self.now.heard.values.now self.now.i self.now.at) }
     {
-        let c = self.row;
-        let parts = self.heard.parts;
-        let values = self.heard.values;
-        let p = self.i * 4;
-        if get_or(parts, p + 3, 0) != c.fields {
-            return false;
-        }
-        if values.len() < self.at + c.fields {
-            return false;
-        }
-        let same_verb = self.verb() == Verb::from(get_or(parts, p + 2, 0));
-        if !same_verb {
-            return false;
-        }
-        let o = contract::PARTIES + c.party * contract::NAME_WORDS;
-        self.heard
-            .named(o, get_or(parts, p, 0), get_or(parts, p + 1, 0))
+        let n = self.row.fields;
+        self.part(Part::FIELD_COUNT) == n
+            && self.at + n <= self.heard.values.len()
+            && self.same_verb()
+            && self.same_party()
             && self.same_fields()
     }
 
-    // Its fields get their values.
-    // Kept: (d) here and in `agreed_fields` the values may end before the fields do, which the definition tells at each field; in the loop's bound it
-    // would be a difference of two lengths, the less of which is taken.
-    #[tactic(auto, using(crate::proofs::Clauses::placed, crate::proofs::Clauses::row_fields, crate::proofs::Clauses::fields_count, crate::proofs::Clauses::field_at, crate::proofs::Agreements::set_more, crate::proofs::Agreements::set_short, crate::proofs::Agreements::set_all))]
-    fn set_fields(&self, s: State) -> State
-        ensures { result ≡ set_fields s (clause_at self.now.heard.table.now self.now.i).fields (drop self.now.at self.now.heard.values.now) }
+    // The values that the line has for its fields.
+    fn values(&self) -> &'a [i64]
+        ensures { result.now ≡ take self.now.row.fields (drop self.now.at self.now.heard.values.now) }
     {
-        let n = self.row.fields;
-        let values = self.heard.values;
-        let mut next = s;
-        for j in 0..n {
-            let k = self.at + j;
-            if values.len() <= k {
-                return next;
-            }
-            let field = contract::clause_field(self.heard.table, self.i, j);
-            next = with_integer(next, field, get_or(values, k, 0));
+        let rest = self.heard.values.get(self.at..).unwrap_or(&[]);
+        rest.get(..self.row.fields).unwrap_or(rest)
+    }
+
+    // Its fields get their values.
+    fn set_fields(&self, s: &mut State)
+        ensures { s.new ≡ set_fields s.old (clause_at self.now.heard.terms.table.now self.now.i).fields (drop self.now.at self.now.heard.values.now) }
+    {
+        let table = self.heard.terms.table;
+        for (j, value) in self.values().iter().enumerate() {
+            set_integer(s, contract::clause_field(table, self.i, j), *value);
         }
-        next
     }
 
     // The same, of a clause that says SET.
-    fn set_clause(&self, s: State) -> State
-        ensures { result ≡ set_part s (clause_at self.now.heard.table.now self.now.i).fields (drop self.now.at self.now.heard.values.now) (clause_at self.now.heard.table.now self.now.i).verb }
+    fn set_clause(&self, s: &mut State)
+        ensures { s.new ≡ set_part s.old (clause_at self.now.heard.terms.table.now self.now.i).fields (drop self.now.at self.now.heard.values.now) (clause_at self.now.heard.terms.table.now self.now.i).verb }
     {
-        match self.verb() {
-            Verb::Set => self.set_fields(s),
-            Verb::Ok => s,
+        if self.verb() == Verb::Set {
+            self.set_fields(s);
         }
     }
 
     // Whether its fields have their values.
-    #[tactic(auto, using(crate::proofs::Clauses::placed, crate::proofs::Clauses::row_fields, crate::proofs::Clauses::fields_count, crate::proofs::Clauses::field_at, crate::proofs::Agreements::agreed_more, crate::proofs::Agreements::agreed_not, crate::proofs::Agreements::agreed_short, crate::proofs::Agreements::agreed_all))]
-    fn agreed_fields(&self, s: State) -> bool
-        ensures { result ≡ agreed_fields s (clause_at self.now.heard.table.now self.now.i).fields (drop self.now.at self.now.heard.values.now) }
+    fn agreed_fields(&self, s: &State) -> bool
+        ensures { result ≡ agreed_fields s.now (clause_at self.now.heard.terms.table.now self.now.i).fields (drop self.now.at self.now.heard.values.now) }
     {
-        let n = self.row.fields;
-        let values = self.heard.values;
-        for j in 0..n {
-            let k = self.at + j;
-            if values.len() <= k {
-                return true;
-            }
-            let field = contract::clause_field(self.heard.table, self.i, j);
-            if !has_integer(s, field, get_or(values, k, 0)) {
-                return false;
-            }
-        }
-        true
+        let table = self.heard.terms.table;
+        self.values().iter().enumerate().all(|(j, value)| has_integer(
+            s,
+            contract::clause_field(table, self.i, j),
+            *value,
+        ))
     }
 
     // The same, of a clause that says OK.
-    fn agreed_clause(&self, s: State) -> bool
-        ensures { result ≡ agreed_part s (clause_at self.now.heard.table.now self.now.i).fields (drop self.now.at self.now.heard.values.now) (clause_at self.now.heard.table.now self.now.i).verb }
+    fn agreed_clause(&self, s: &State) -> bool
+        ensures { result ≡ agreed_part s.now (clause_at self.now.heard.terms.table.now self.now.i).fields (drop self.now.at self.now.heard.values.now) (clause_at self.now.heard.terms.table.now self.now.i).verb }
     {
         match self.verb() {
             Verb::Set => true,
@@ -206,16 +238,17 @@ impl ClauseAt<'_> {
 
 impl Heard<'_> {
     // Whether the clauses are the parts, and nothing is left over.
-    // Kept: (d) here and in `agreed_clauses` the place of the next field goes on beside the index, and a clause that fails ends both: by `try_fold` the
-    // place stands in an Option, to be opened again.
+    // Kept: (d) here, in `set_clauses` and in `agreed_clauses` the place of the next field goes on beside the index. An iterator of `ClauseAt` for the
+    // three is a struct with the index and the place, and a `next` with its own contract, more than the three lines `at` takes of each; by `try_fold`
+    // the place stands in an Option, to be opened again.
     fn same_clauses(&self) -> bool
-        ensures { result ≡ same_clauses (contract_of self.now.table.now) (contract_of self.now.table.now).clauses (parts_in self.now.line.now (length self.now.parts.now / 4) self.now.parts.now self.now.spans.now self.now.values.now) }
+        ensures { result ≡ same_clauses (contract_of self.now.terms.table.now) (contract_of self.now.terms.table.now).clauses (parts_in self.now.line.now (length self.now.parts.now / 4) self.now.parts.now self.now.spans.now self.now.values.now) }
     {
         let parts = self.parts;
         let spans = self.spans;
         let values = self.values;
-        let count = contract::head(self.table).clauses;
-        if parts.len() / 4 != count {
+        let count = contract::head(self.terms.table).clauses;
+        if parts.len() / Agreement::HEAD != count {
             return false;
         }
         let mut at: usize = 0;
@@ -226,31 +259,31 @@ impl Heard<'_> {
             }
             at += clause.row.fields;
         }
-        parts.len() <= count * 4 && spans.len() <= at * 2 && values.len() <= at
+        parts.len() <= count * Agreement::HEAD
+            && spans.len() <= at * Agreement::SPAN
+            && values.len() <= at
     }
 
     // The clauses' fields get their values.
     #[tactic(auto, using(crate::proofs::Clauses::placed, crate::proofs::Clauses::row_few, crate::proofs::Clauses::clauses_first, crate::proofs::Agreements::set_by_more, crate::proofs::Agreements::set_by_all))]
-    fn set_clauses(&self, s: State) -> State
-        ensures { result ≡ set_by s (contract_of self.now.table.now).clauses self.now.values.now }
+    fn set_clauses(&self, s: &mut State)
+        ensures { s.new ≡ set_by s.old (contract_of self.now.terms.table.now).clauses self.now.values.now }
     {
-        let count = contract::head(self.table).clauses;
-        let mut next = s;
+        let count = contract::head(self.terms.table).clauses;
         let mut at: usize = 0;
         for i in 0..count {
             let clause = ClauseAt::of(*self, i, at);
-            next = clause.set_clause(next);
+            clause.set_clause(s);
             at += clause.row.fields;
         }
-        next
     }
 
     // Whether the values agreed on are those set.
     #[tactic(auto, using(crate::proofs::Clauses::placed, crate::proofs::Clauses::row_few, crate::proofs::Clauses::clauses_first, crate::proofs::Agreements::agreed_by_more, crate::proofs::Agreements::agreed_by_not, crate::proofs::Agreements::agreed_by_all))]
-    fn agreed_clauses(&self, s: State) -> bool
-        ensures { result ≡ agreed_by s (contract_of self.now.table.now).clauses self.now.values.now }
+    fn agreed_clauses(&self, s: &State) -> bool
+        ensures { result ≡ agreed_by s.now (contract_of self.now.terms.table.now).clauses self.now.values.now }
     {
-        let count = contract::head(self.table).clauses;
+        let count = contract::head(self.terms.table).clauses;
         let mut at: usize = 0;
         for i in 0..count {
             let clause = ClauseAt::of(*self, i, at);
@@ -267,12 +300,12 @@ impl Heard<'_> {
     // closure's argument, and no shorter.
     #[tactic(auto, using(crate::proofs::Clauses::placed, crate::proofs::Clauses::field_at, crate::proofs::Clauses::fields_count, crate::proofs::Clauses::row_count, crate::proofs::Agreements::fields_none, crate::proofs::Agreements::fields_before, crate::proofs::Agreements::fields_done))]
     fn fields_in(&self, i: usize) -> u64
-        requires { i < word_at self.now.table.now 5 }
-        ensures { result ≡ fields_in (clause_at self.now.table.now i).fields }
+        requires { i < word_at self.now.terms.table.now 5 }
+        ensures { result ≡ fields_in (clause_at self.now.terms.table.now i).fields }
     {
         let mut mask: u64 = 0;
-        for j in (0..contract::clause_at(self.table, i).fields).rev() {
-            mask |= 1 << contract::clause_field(self.table, i, j);
+        for j in (0..contract::clause_at(self.terms.table, i).fields).rev() {
+            mask |= 1 << contract::clause_field(self.terms.table, i, j);
         }
         mask
     }
@@ -280,12 +313,11 @@ impl Heard<'_> {
     // A bit for each field that clauses of this verb name.
     #[tactic(auto, using(crate::proofs::Clauses::clauses_first, crate::proofs::Clauses::row_verb, crate::proofs::Agreements::clauses_none, crate::proofs::Agreements::clauses_before, crate::proofs::Agreements::clauses_skip, crate::proofs::Agreements::clauses_done))]
     fn fields_of(&self, verb: Verb) -> u64
-        ensures { result ≡ fields_of (said verb) (contract_of self.now.table.now).clauses }
+        ensures { result ≡ fields_of (said verb) (contract_of self.now.terms.table.now).clauses }
     {
         let mut mask: u64 = 0;
-        for i in (0..contract::head(self.table).clauses).rev() {
-            let said = Verb::from(contract::clause_at(self.table, i).verb);
-            if verb == said {
+        for i in (0..contract::head(self.terms.table).clauses).rev() {
+            if verb == contract::clause_at(self.terms.table, i).verb() {
                 mask |= self.fields_in(i);
             }
         }
@@ -294,55 +326,55 @@ impl Heard<'_> {
 
     // Whether the values set, which this state has, and the values agreed on are the same map.
     #[tactic(auto, using(crate::proofs::Agreements::masks_same, crate::proofs::Agreements::masks_other))]
-    fn same_map(&self, s: State) -> bool
-        ensures { result ≡ same_by s (contract_of self.now.table.now).clauses self.now.values.now }
+    fn same_map(&self, s: &State) -> bool
+        ensures { result ≡ same_by s.now (contract_of self.now.terms.table.now).clauses self.now.values.now }
     {
         self.fields_of(Verb::Set) == self.fields_of(Verb::Ok) && self.agreed_clauses(s)
     }
 
     // An agreement on a contract's state.
-    fn agree_on_contract(&self, s: State) -> Stepped
-        ensures { result ≡ agreed_on (contract_of self.now.table.now) s (parts_in self.now.line.now (length self.now.parts.now / 4) self.now.parts.now self.now.spans.now self.now.values.now) }
+    fn agree_on_contract(&self, s: &mut State) -> Outcome
+        ensures { answered result s.new ≡ agreed_on (contract_of self.now.terms.table.now) s.old (parts_in self.now.line.now (length self.now.parts.now / 4) self.now.parts.now self.now.spans.now self.now.values.now) }
     {
         if s.agreed {
-            return outcomes::refuse(s, Question::NotAgreed);
+            return Outcome::Refused(Question::NotAgreed);
         }
         if !self.same_clauses() {
-            return outcomes::refuse(s, Question::SameClauses);
+            return Outcome::Refused(Question::SameClauses);
         }
-        let set = self.set_clauses(s);
-        if !self.same_map(set) {
-            return outcomes::refuse(s, Question::SameValues);
+        let mut set = *s;
+        self.set_clauses(&mut set);
+        if !self.same_map(&set) {
+            return Outcome::Refused(Question::SameValues);
         }
-        let h = contract::head(self.table);
-        let mut next = set;
-        next.agreed = true;
-        next.state = h.initial;
-        outcomes::answer(Outcome::Accepted(Rule::Agree), next)
+        set.agreed = true;
+        set.state = contract::head(self.terms.table).initial;
+        *s = set;
+        Outcome::Accepted(Rule::Agree)
     }
 }
 
-// An agreement on a table and a state: question 3, then 21, 23 and 24.
+// An agreement on a table and a state: question 3, then 21, 23 and 24. A state that is refused stays as it is.
 #[tactic(auto, unfolding(crate::specs::Agreement::agreed_in, laws::specs::Choice::pick))]
 pub fn agree_on(
     table: &[u64],
-    s: State,
+    s: &mut State,
     line: &[u8],
     parts: &[usize],
     spans: &[usize],
     values: &[i64],
-) -> Stepped
-    ensures { result ≡ agreed_in table.now s (parts_in line.now (length parts.now / 4) parts.now spans.now values.now) }
+) -> Outcome
+    ensures { answered result s.new ≡ agreed_in table.now s.old (parts_in line.now (length parts.now / 4) parts.now spans.now values.now) }
 {
-    if tables::table_passes(table) {
-        let heard = Heard {
-            table,
-            line,
-            parts,
-            spans,
-            values,
-        };
-        return heard.agree_on_contract(s);
-    }
-    outcomes::refuse(s, Question::TableCheck)
+    let Some(terms) = Passed::of(table) else {
+        return Outcome::Refused(Question::TableCheck);
+    };
+    let heard = Heard {
+        terms,
+        line,
+        parts,
+        spans,
+        values,
+    };
+    heard.agree_on_contract(s)
 }

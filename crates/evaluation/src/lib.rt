@@ -20,7 +20,8 @@ use numbers::{Comparison, Operator, Value};
 use questions::Question;
 
 // The amounts that expressions read: those of the assets, then those of the asset parameters.
-// Kept: (a) document 01 has limits and numbers of kinds stand as associated constants: this type and the next hold nothing else.
+// Kept: (a) a limit is an associated constant of the type that it limits (docs/CONTRIBUTING.md); the amounts are an array that is lent by itself, too
+// (`holdings`, `statements`), so that this type stands for it and holds nothing else, as `Contract` for a table.
 #[derive(Clone, Copy)]
 pub struct Holdings {}
 
@@ -32,7 +33,7 @@ impl Holdings {
 #[derive(Clone, Copy)]
 pub struct FieldKind {}
 
-// Kept: (a) question 4 judges the word, whatever it is, so that it is a number.
+// Kept: (a) question 4 judges the word, whatever it is, so that it is a number and no enum; the type holds its numbers alone, as `Holdings` its limit.
 impl FieldKind {
     pub const NOTHING: u8 = 0;
 
@@ -41,9 +42,11 @@ impl FieldKind {
     pub const STRING: u8 = 2;
 }
 
-// What expressions and conditions are worked out in.
+// What expressions and conditions are worked out in, and the table that they stand in.
+// Kept: (a) the three arrays of the fields' values are columns of the public `State`, lent as they stand there.
 #[derive(Clone, Copy)]
 pub struct Memory<'a> {
+    pub table: &'a [u64],
     // Of each field its kind; its integer, and its string's number.
     pub kinds: &'a [u8; Contract::FIELDS],
     pub numbers: &'a [i64; Contract::FIELDS],
@@ -114,53 +117,11 @@ fn string(n: u64) -> Result<Value, Question>
     Err(Question::TableCheck)
 }
 
-// The value of field i.
-#[tactic(auto, unfolding(laws::specs::Choice::pick, crate::specs::Meaning::field_value, crate::specs::Meaning::value_of))]
-fn field_value(memory: &Memory, i: usize) -> Result<Value, Question>
-    ensures { result ≡ value_of (lent memory.now) (field i) }
-{
-    let Memory {
-        kinds,
-        numbers,
-        texts,
-        ..
-    } = *memory;
-    match get_or(kinds, i, 0) {
-        FieldKind::NOTHING => Err(Question::FieldValue),
-        FieldKind::INTEGER => Ok(Value::Integer(get_or(numbers, i, 0))),
-        _ => Ok(Value::Text(get_or(texts, i, 0))),
-    }
-}
-
 // The amount of asset parameter i: they stand after the assets.
 fn parameter_amount(holdings: &[u64; Holdings::MOST], i: usize) -> u64
     ensures { result ≡ get_or holdings.now (max_assets + i) 0 }
 {
     get_or(&holdings[Contract::ASSETS..], i, 0)
-}
-
-// An expression of no parts.
-#[tactic(auto, unfolding(laws::specs::Choice::pick, contract::specs::Decode::leaf_of, crate::specs::Meaning::value_of))]
-fn leaf(memory: &Memory, kind: u64, n: u64) -> Result<Value, Question>
-    ensures { result ≡ value_of (lent memory.now) (leaf_of kind n) }
-{
-    let Memory {
-        holdings,
-        values,
-        clock,
-        ..
-    } = *memory;
-    let i = n as usize;
-    match kind {
-        Node::CONSTANT => constant(n),
-        Node::STRING => string(n),
-        Node::NOW => numbers::natural(clock),
-        Node::FIELD => field_value(memory, i),
-        Node::VALUE => Ok(Value::Integer(get_or(values, i, 0))),
-        Node::ASSET => numbers::natural(get_or(holdings, i, 0)),
-        Node::PARAMETER => numbers::natural(parameter_amount(holdings, i)),
-        _ => Err(Question::TableCheck),
-    }
 }
 
 // Whether a node of this size counts itself and parts of two sizes.
@@ -189,68 +150,75 @@ fn left_of(table: &[u64], k: usize, size: usize) -> Result<usize, Question>
     Err(Question::TableCheck)
 }
 
-// The expression at node k.
-// Kept: (a) this and `truth` are public with these three, and statements and the machine call them so: a struct of table and memory could
-// serve the two private functions alone, and would be made in each call of these.
-pub fn value(table: &[u64], memory: &Memory, k: usize) -> Result<Value, Question>
-    ensures { result ≡ value_of (lent memory.now) (expression_at table.now k) }
-{
-    let node = contract::node_at(table, k);
-    let kind = node.kind;
-    if kind < Node::PLUS {
-        let n = node.argument;
-        return leaf(memory, kind, n);
+// ---- Expressions.
+
+impl Memory<'_> {
+    // The value of field i.
+    #[tactic(auto, unfolding(laws::specs::Choice::pick, crate::specs::Meaning::field_value, crate::specs::Meaning::value_of))]
+    fn field_value(&self, i: usize) -> Result<Value, Question>
+        ensures { result ≡ value_of (lent self.now) (field i) }
+    {
+        let Memory {
+            kinds,
+            numbers,
+            texts,
+            ..
+        } = *self;
+        match get_or(kinds, i, 0) {
+            FieldKind::NOTHING => Err(Question::FieldValue),
+            FieldKind::INTEGER => Ok(Value::Integer(get_or(numbers, i, 0))),
+            _ => Ok(Value::Text(get_or(texts, i, 0))),
+        }
     }
-    if Node::OVER < kind {
-        return Err(Question::TableCheck);
+
+    // An expression of no parts.
+    #[tactic(auto, unfolding(laws::specs::Choice::pick, contract::specs::Decode::leaf_of, crate::specs::Meaning::value_of))]
+    fn leaf(&self, kind: u64, n: u64) -> Result<Value, Question>
+        ensures { result ≡ value_of (lent self.now) (leaf_of kind n) }
+    {
+        let holdings = self.holdings;
+        let i = n as usize;
+        match kind {
+            Node::CONSTANT => constant(n),
+            Node::STRING => string(n),
+            Node::NOW => numbers::natural(self.clock),
+            Node::FIELD => self.field_value(i),
+            Node::VALUE => Ok(Value::Integer(get_or(self.values, i, 0))),
+            Node::ASSET => numbers::natural(get_or(holdings, i, 0)),
+            Node::PARAMETER => numbers::natural(parameter_amount(holdings, i)),
+            _ => Err(Question::TableCheck),
+        }
     }
-    let left = left_of(table, k, node.size)?;
-    let last = k - 1;
-    let first = value(table, memory, left);
-    // Kept: (a) document 01 opens an evaluation answer by let .. else, which leaves with its question where others use `?`.
-    let Ok(a) = first else {
-        return first;
-    };
-    let second = value(table, memory, last);
-    let Ok(b) = second else {
-        return second;
-    };
-    numbers::apply(operator_of(kind), a, b)
+
+    // The expression at node k.
+    pub fn value(&self, k: usize) -> Result<Value, Question>
+        ensures { result ≡ value_of (lent self.now) (expression_at self.now.table.now k) }
+    {
+        let node = contract::node_at(self.table, k);
+        let kind = node.kind;
+        if kind < Node::PLUS {
+            return self.leaf(kind, node.argument);
+        }
+        if Node::OVER < kind {
+            return Err(Question::TableCheck);
+        }
+        let left = left_of(self.table, k, node.size)?;
+        let last = k - 1;
+        let first = self.value(left);
+        // Kept: (a) document 01 opens an evaluation answer by let .. else (docs/DECISIONS.md, the forms that it names), which leaves with its
+        // question where others use `?`.
+        let Ok(a) = first else {
+            return first;
+        };
+        let second = self.value(last);
+        let Ok(b) = second else {
+            return second;
+        };
+        numbers::apply(operator_of(kind), a, b)
+    }
 }
 
-// A comparison at node k.
-fn compared_at(table: &[u64], memory: &Memory, k: usize) -> Result<bool, Question>
-    ensures { result ≡ compared_at (lent memory.now) table.now k }
-{
-    let node = contract::node_at(table, k);
-    let left = left_of(table, k, node.size)?;
-    let last = k - 1;
-    let x = value(table, memory, left);
-    // Kept: (a) document 01 opens an evaluation answer by let .. else.
-    let Ok(a) = x else {
-        return Err(x.unwrap_err());
-    };
-    let y = value(table, memory, last);
-    let Ok(b) = y else {
-        return Err(y.unwrap_err());
-    };
-    numbers::compare(comparison_of(node.kind), a, b)
-}
-
-// A condition without conditions in it, true, false or a comparison, at node k; any other is refused.
-#[tactic(auto, using(contract_laws::proofs::Levels::condition_step), unfolding(laws::specs::Choice::pick, crate::specs::Private::simple_at, crate::specs::Meaning::truth_of))]
-fn simple(table: &[u64], memory: &Memory, k: usize) -> Result<bool, Question>
-    ensures { result ≡ simple_at (lent memory.now) table.now k }
-{
-    let node = contract::node_at(table, k);
-    let kind = node.kind;
-    match kind {
-        Node::TRUE => Ok(true),
-        Node::FALSE => Ok(false),
-        Node::EQUAL..=Node::AT_LEAST => compared_at(table, memory, k),
-        _ => Err(Question::TableCheck),
-    }
-}
+// ---- Conditions.
 
 // Whether node k is `~` and counts itself and its part.
 #[tactic(auto, unfolding(laws::specs::Choice::pick, contract::specs::Decode::counts_one, crate::specs::Private::negates_at))]
@@ -295,32 +263,68 @@ fn decides(kind: u64, holds: bool) -> bool
     if kind == Node::AND { !holds } else { holds }
 }
 
-// The condition at node k. Runs of `~` are counted, so that only `&&` and `||` call on: the left side, and the right one where the left is
-// not refused and does not decide.
-pub fn truth(table: &[u64], memory: &Memory, k: usize) -> Result<bool, Question>
-    ensures { result ≡ truth_of (lent memory.now) (condition_at table.now k) }
-{
-    let run = run_at(table, k);
-    let end = run.end;
-    let node = contract::node_at(table, end);
-    let kind = node.kind;
-    if kind < Node::AND {
-        let whole = simple(table, memory, end);
-        return turned(run.odd, whole);
+impl Memory<'_> {
+    // A comparison at node k.
+    fn compared_at(&self, k: usize) -> Result<bool, Question>
+        ensures { result ≡ compared_at (lent self.now) self.now.table.now k }
+    {
+        let node = contract::node_at(self.table, k);
+        let left = left_of(self.table, k, node.size)?;
+        let last = k - 1;
+        let x = self.value(left);
+        // Kept: (a) document 01 opens an evaluation answer by let .. else.
+        let Ok(a) = x else {
+            return Err(x.unwrap_err());
+        };
+        let y = self.value(last);
+        let Ok(b) = y else {
+            return Err(y.unwrap_err());
+        };
+        numbers::compare(comparison_of(node.kind), a, b)
     }
-    if Node::OR < kind {
-        return Err(Question::TableCheck);
+
+    // A condition without conditions in it, true, false or a comparison, at node k; any other is refused.
+    #[tactic(auto, using(contract_laws::proofs::Levels::condition_step), unfolding(laws::specs::Choice::pick, crate::specs::Private::simple_at, crate::specs::Meaning::truth_of))]
+    fn simple(&self, k: usize) -> Result<bool, Question>
+        ensures { result ≡ simple_at (lent self.now) self.now.table.now k }
+    {
+        let node = contract::node_at(self.table, k);
+        let kind = node.kind;
+        match kind {
+            Node::TRUE => Ok(true),
+            Node::FALSE => Ok(false),
+            Node::EQUAL..=Node::AT_LEAST => self.compared_at(k),
+            _ => Err(Question::TableCheck),
+        }
     }
-    let left = left_of(table, end, node.size)?;
-    let last = end - 1;
-    let one = truth(table, memory, left);
-    // Kept: (a) document 01 opens an evaluation answer by let .. else.
-    let Ok(a) = one else {
-        return one;
-    };
-    if decides(kind, a) {
-        return turned(run.odd, one);
+
+    // The condition at node k. Runs of `~` are counted, so that only `&&` and `||` call on: the left side, and the right one where the left is
+    // not refused and does not decide.
+    pub fn truth(&self, k: usize) -> Result<bool, Question>
+        ensures { result ≡ truth_of (lent self.now) (condition_at self.now.table.now k) }
+    {
+        let run = run_at(self.table, k);
+        let end = run.end;
+        let node = contract::node_at(self.table, end);
+        let kind = node.kind;
+        if kind < Node::AND {
+            let whole = self.simple(end);
+            return turned(run.odd, whole);
+        }
+        if Node::OR < kind {
+            return Err(Question::TableCheck);
+        }
+        let left = left_of(self.table, end, node.size)?;
+        let last = end - 1;
+        let one = self.truth(left);
+        // Kept: (a) document 01 opens an evaluation answer by let .. else.
+        let Ok(a) = one else {
+            return one;
+        };
+        if decides(kind, a) {
+            return turned(run.odd, one);
+        }
+        let other = self.truth(last);
+        turned(run.odd, other)
     }
-    let other = truth(table, memory, last);
-    turned(run.odd, other)
 }

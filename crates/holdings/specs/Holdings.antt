@@ -4,7 +4,7 @@ use Rattle.laws.specs.Lists.{repeated}
 use Rattle.contract.specs.Limits.{max_assets, max_parameters}
 use Rattle.state.specs.declared.State.{State}
 use Rattle.state.specs.States.{with_memory, with_state}
-use Rattle.statements.specs.declared.Work.{Work}
+use Rattle.statements.specs.Running.{Work}
 
 -- asset arguments as amounts
 unfoldable pub amounts : List ℤ → List ℕ

@@ -4,7 +4,6 @@ use mathlib.Core.Bool.{Bool, true, false}
 use mathlib.Core.List.{List, [], ◌∷◌, ◌++◌, append-nil}
 use Prim.Native.Nat.{ℕ, suc, ◌+◌, ◌-◌, ◌*◌, ◌<◌, ◌≤◌}
 use native.Mathlib.Omega.{arith}
-use Rattle.std.specs.Prelude.{Option, Some}
 use lib.ListN.{length, get_or, drop, replicate, length-take, length-append}
 use lib.Seq.{sets, get_or-drop}
 use lib.Dec.{ltb}
@@ -19,12 +18,12 @@ use Rattle.tokens.specs.Classes.{within as in_range, is_letter, is_digit, is_nam
 use Rattle.tokens.specs.Tokens.{between}
 use Rattle.lines.specs.Lines.{Span, Verb, set, ok, Field, Part, Parsed, done, no, and_then, give, skipped, name, is_word, verb, field, list, part}
 use Rattle.lines.specs.Answers.{verb_number, fields_of, heads_of, spans_of, values_of, agreement_of}
-use Rattle.lines.specs.Private.{read_of, Added, verb_in, verb_word, with_fields, with_head, with_part}
+use Rattle.lines.specs.Private.{Spot, verb_from, verb_word, with_fields, with_head, with_part}
 use Rattle.lines.specs.declared.Agreement.{Agreement}
-use Rattle.lines.specs.declared.Found.{Found}
-use Rattle.lines.specs.declared.Verb as declared
-use Rattle.lines.proofs.Got.{Gave, added_done}
-use Rattle.lines.proofs.Ahead.{Then, then_done, skipped_on, name_span, name_ahead, letter_name, field_size}
+use Rattle.contract.specs.declared.Verb as declared
+use Rattle.contract.specs.declared.Verb.TheVariants as word
+use Rattle.lines.proofs.Got.{Filled}
+use Rattle.lines.proofs.Ahead.{Ahead, Then, then_done, skipped_on, name_span, name_ahead, letter_name, field_size}
 use Rattle.lines.proofs.Flat.{spans_more, values_more, heads_more, fields_append}
 use Rattle.lines.proofs.Size.{list_size, total_six}
 
@@ -128,25 +127,14 @@ module _ (s : List ℕ) where
         inside = omega (arith, t.inside);
       }
 
+  pub part_ahead : {x : Part} {n : ℕ} (at : ℕ) → part s at ≡ done x n → Ahead s at n
+  part_ahead at e = let z = part_size at e in record { more = omega (arith, z.least); inside = z.inside }
+
 -- ---- a verb
 
-pub record VerbGave (s : List ℕ) (at : ℕ) (x : Found declared.Verb) : Type 0 where
-  pub read : Verb
-  pub parsed : verb s at ≡ done read x.next
-  pub kept : verb_in read ≡ x.value
-
-pub verb_got : {x : Found declared.Verb} (s : List ℕ) (at : ℕ) → Some x ≡ read_of verb_in (verb s at) → VerbGave s at x
-verb_got {x} s at q = go (verb s at) refl q
-  where
-    go : (p : Parsed Verb) → verb s at ≡ p → Some x ≡ read_of verb_in p → VerbGave s at x
-    go (done v m) e h =
-        let k : ◌≡◌ {A = Found declared.Verb} (record { value = verb_in v; next = m }) x = cc in
-        record { read = v; parsed = e ∙ ap (λ (y : Found declared.Verb). done v y.next) k; kept = ap (λ (y : Found declared.Verb). y.value) k }
-    go no e h = cc
-
-verb_word_is : (v : Verb) → verb_word (verb_in v) ≡ verb_number v
-verb_word_is set = refl
-verb_word_is ok = refl
+pub verb_word_is : (v : declared.Verb) → verb_word v ≡ verb_number (verb_from v)
+verb_word_is word.Set = refl
+verb_word_is word.Ok = refl
 
 -- ---- a part
 
@@ -154,8 +142,8 @@ module _ (s : List ℕ) (at : ℕ) {x : Span} {e : ℕ} (n : name s at ≡ done 
   pub party_on : at < length s
   party_on = omega (arith, (name_ahead s at n).more, (name_ahead s at n).inside)
 
-  pub verb_on : {y : Found declared.Verb} → VerbGave s e y → at < y.next
-  verb_on v = omega (arith, (name_ahead s at n).more, (verb_size s e v.parsed).0, skipped_on s e)
+  pub verb_on : {y : Verb} {k : ℕ} → verb s e ≡ done y k → at < k
+  verb_on v = omega (arith, (name_ahead s at n).more, (verb_size s e v).0, skipped_on s e)
 
 module _ (s : List ℕ) (at : ℕ) where
   pub party_missing : name s at ≡ no → part s at ≡ no
@@ -167,19 +155,23 @@ module _ (s : List ℕ) (at : ℕ) where
     unfolding part
     verb_missing f = rw (n, f)
 
-    module _ {y : Found declared.Verb} (v : VerbGave s e y) where
-      pub fields_missing : list s (91 ∷ []) (field s) (93 ∷ []) y.next ≡ no → part s at ≡ no
+    module _ (y : declared.Verb) {k : ℕ} (v : verb s e ≡ done (verb_from y) k) where
+      pub fields_missing : list s (91 ∷ []) (field s) (93 ∷ []) k ≡ no → part s at ≡ no
       unfolding part
-      fields_missing f = rw (n, v.parsed, f)
+      fields_missing f = rw (n, v, f)
 
       -- its fields are added, then its head
-      pub part_added : (old : Agreement) {middle new : Agreement} {count j : ℕ} {r : Option ℕ} → Gave (with_fields old) (list s (91 ∷ []) (field s) (93 ∷ []) y.next) middle j → count ≡ middle.fields - old.fields → new ≡ with_head middle (x.start ∷ x.end ∷ verb_word y.value ∷ count ∷ []) → r ≡ Some j → Added (with_part old) (part s at) r new
+      pub part_filled : (old : Agreement) {middle new : Agreement} {last : Spot} {count : ℕ} → Filled (with_fields old) (list s (91 ∷ []) (field s) (93 ∷ []) k) s last middle → count ≡ middle.fields - old.fields → new ≡ with_head middle (x.start ∷ x.end ∷ verb_word y ∷ count ∷ []) → Filled (with_part old) (part s at) s last new
       unfolding part
-      part_added old {middle} {new} {count} {j} {r} f k w q =
-          let c : count ≡ length f.read = omega (arith, ap (λ (a : Agreement). a.fields) f.stored) in
-          let u : verb_word y.value ≡ verb_number v.read = ap verb_word (sym v.kept) ∙ verb_word_is v.read in
-          let p : part s at ≡ done (record { party = x; verb = v.read; fields = f.read }) j = rw (n, v.parsed, f.parsed) in
-          added_done (with_part old) p q (w ∙ (λ t. with_head (f.stored t) (x.start ∷ x.end ∷ u t ∷ c t ∷ [])))
+      part_filled old {middle} {new} {last} {count} f q w =
+          let c : count ≡ length f.read = omega (arith, ap (λ (a : Agreement). a.fields) f.out_is) in
+          let u : verb_word y ≡ verb_number (verb_from y) = verb_word_is y in
+          let p : part s at ≡ done (record { party = x; verb = verb_from y; fields = f.read }) last.at = rw (n, v, f.is.parsed) in
+          record {
+            read = record { party = x; verb = verb_from y; fields = f.read };
+            is = record { parsed = p; line = f.is.line };
+            out_is = w ∙ (λ t. with_head (f.out_is t) (x.start ∷ x.end ∷ u t ∷ c t ∷ []));
+          }
 
 -- ---- the parts stored so far, from nothing on
 

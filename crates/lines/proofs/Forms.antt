@@ -16,22 +16,22 @@ use Rattle.laws.specs.Bytes.{bytes, starts_with}
 use Rattle.laws.proofs.Choice.{true_false, pick_true, pick_false}
 use Rattle.tokens.specs.Classes.{within as in_range, is_letter}
 use Rattle.lines.specs.Lines.{Span, Part, Names, Lists, Asked, refused, tick, jump, call, agreement, Parsed, done, no, and_then, give, otherwise, skipped, is_next, mark, end, name_from, name, verb, integer, list, names, lists, part, parts, tick_line, call_line, agreement_line, or_refused, asked}
-use Rattle.lines.specs.Answers.{padded, request_of, numbers_of, parts_of, fields_of, heads_of, spans_of, values_of, agreement_of}
+use Rattle.lines.specs.Answers.{padded, request_of, numbers_of, fields_of, heads_of, spans_of, values_of, agreement_of, agreement_in}
 use Rattle.std.specs.Prelude.{Option, Some, None, Result, Ok, Err, ok_or}
 use Rattle.std.specs.Option.{MatchOption, IsSomeAnd}
 use Rattle.questions.specs.declared.Question.{Question}
-use Rattle.lines.specs.Private.{given, count_of, names_from, CallIs, Integers, with_integers}
-use Rattle.lines.specs.declared.Names as declared
+use Rattle.lines.specs.Private.{Spot, given, count_of, span_from, CallIs, Integers, with_integers}
+use Rattle.lines.specs.declared.Span as declared
 use Rattle.lines.specs.declared.Request.{Request}
 use Rattle.lines.specs.declared.Request.TheVariants as request
 use Rattle.lines.specs.declared.Call.{Call}
 use Rattle.lines.specs.declared.Agreement.{Agreement}
-use Rattle.lines.proofs.Got.{Gave}
+use Rattle.lines.proofs.Got.{Filled}
 use Rattle.lines.proofs.Ahead.{then_done, taken, mark_size}
 use Rattle.lines.proofs.Flat.{sets_append, spans_length, values_length, heads_length}
 use Rattle.lines.proofs.Turns.{begin, missing, next_yes}
 use Rattle.lines.proofs.Size.{total, items_size, total_eight, integers_size}
-use Rattle.lines.proofs.Times.{Timed, ticks, jumps, timed_parts, tick_gives}
+use Rattle.lines.proofs.Times.{Timed, ticks, jumps, timed_agreement, tick_gives}
 use Rattle.lines.proofs.Agreed.{part_size, placed}
 
 -- ---- arrays
@@ -144,7 +144,7 @@ module _ (s : List ℕ) where
   after_party : Span → ℕ → Parsed Names
   after_party p i = and_then (mark s (bytes ":") i) (λ u j. and_then (name s j) (λ f. give (record { party = p; function = f })))
 
-  pub call_alone : {a : Asked} {n : ℕ} → call_line s 0 ≡ done a n → (parts_of a ≡ []) × (agreement_line s 0 ≡ no)
+  pub call_alone : {a : Asked} {n : ℕ} → call_line s 0 ≡ done a n → (agreement_in a ≡ None) × (agreement_line s 0 ≡ no)
   unfolding call_line names after_names after_party part verb
   call_alone {a} {n} e =
       let x = then_done (names s 0) after_names e in
@@ -152,7 +152,7 @@ module _ (s : List ℕ) where
       let z = then_done (name s 0) after_party x.first in
       let w = then_done (mark s (bytes ":") z.place) (λ u j. and_then (name s j) (λ f. give (record { party = z.got; function = f }))) z.rest in
       let q : call (record { names = x.got; lists = y.got }) ≡ a = cc in
-      (sym (ap parts_of q), no_part (rw (z.first, no_name 58 z.place colon w.first)))
+      (sym (ap agreement_in q), no_part (rw (z.first, no_name 58 z.place colon w.first)))
 
 -- ---- what a line asks for
 
@@ -183,40 +183,30 @@ module _ (s : List ℕ) (short : length s ≤ 512) where
       asked_none e = asked_short ∙ rw (t, c, e)
 
   -- the parts of any line are those of an agreement
-  pub asked_parts : parts_of (or_refused (agreement_line s 0)) ≡ parts_of (asked s)
-  asked_parts = go (tick_line s 0) (call_line s 0) refl refl ∙ sym (ap parts_of asked_short)
+  asked_parts : agreement_in (or_refused (agreement_line s 0)) ≡ agreement_in (asked s)
+  asked_parts = go (tick_line s 0) (call_line s 0) refl refl ∙ sym (ap agreement_in asked_short)
     where
-      go : (p q : Parsed Asked) → tick_line s 0 ≡ p → call_line s 0 ≡ q → parts_of (or_refused (agreement_line s 0)) ≡ parts_of (or_refused (otherwise p (otherwise q (agreement_line s 0))))
-      go (done a n) q e f = ap (λ (x : Parsed Asked). parts_of (or_refused x)) (tick_alone s e).1 ∙ sym (timed_parts (tick_alone s e).0)
-      go no (done a n) e f = ap (λ (x : Parsed Asked). parts_of (or_refused x)) (call_alone s f).1 ∙ sym (call_alone s f).0
+      go : (p q : Parsed Asked) → tick_line s 0 ≡ p → call_line s 0 ≡ q → agreement_in (or_refused (agreement_line s 0)) ≡ agreement_in (or_refused (otherwise p (otherwise q (agreement_line s 0))))
+      go (done a n) q e f = ap (λ (x : Parsed Asked). agreement_in (or_refused x)) (tick_alone s e).1 ∙ sym (timed_agreement (tick_alone s e).0)
+      go no (done a n) e f = ap (λ (x : Parsed Asked). agreement_in (or_refused x)) (call_alone s f).1 ∙ sym (call_alone s f).0
       go no no e f = refl
 
-  module _ {n : ℕ} {ps : List Part} (e : parts s 0 ≡ done ps n) where
-    pub parts_read : ps ≡ parts_of (asked s)
-    unfolding agreement_line
-    parts_read = (rw e) ∙ asked_parts
-
-    -- what was stored
-    pub parts_made : placed ps ≡ agreement_of ps
-    unfolding agreement_of
-    parts_made =
-        let a : length (heads_of ps) ≤ 256 = omega (arith, heads_length ps, parts_fit s short ps n e) in
-        let b : length (spans_of (fields_of ps)) ≤ 172 = omega (arith, spans_length (fields_of ps), fields_fit s short ps n e) in
-        let c : length (values_of (fields_of ps)) ≤ 86 = omega (arith, values_length (fields_of ps), fields_fit s short ps n e) in
-        λ j. record { parts = length ps; fields = length (fields_of ps); heads = padded_by 0 256 (heads_of ps) a j; spans = padded_by 0 172 (spans_of (fields_of ps)) b j; values = padded_by (pos 0) 86 (values_of (fields_of ps)) c j }
-
-  pub no_parts_read : parts s 0 ≡ no → [] ≡ parts_of (asked s)
+  pub agreement_told : given agreement_of (parts s 0) ≡ agreement_in (asked s)
   unfolding agreement_line
-  no_parts_read e = (rw e) ∙ asked_parts
-
-  pub agreement_told : {x : Agreement} (r : Option Agreement) → r ≡ given agreement_of (parts s 0) → MatchOption r (x ≡ agreement_of []) (λ y. x ≡ y) → x ≡ agreement_of (parts_of (asked s))
-  agreement_told {x} r q m = go (parts s 0) refl r q m
+  agreement_told = as_asked (parts s 0) ∙ asked_parts
     where
-      go : (p : Parsed (List Part)) → parts s 0 ≡ p → (t : Option Agreement) → t ≡ given agreement_of p → MatchOption t (x ≡ agreement_of []) (λ y. x ≡ y) → x ≡ agreement_of (parts_of (asked s))
-      go (done ps n) e (Some y) h w = let k : agreement_of ps ≡ y = cc in w ∙ sym k ∙ ap agreement_of (parts_read e)
-      go (done ps n) e None h w = cc
-      go no e (Some y) h w = cc
-      go no e None h w = w ∙ ap agreement_of (no_parts_read e)
+      as_asked : (p : Parsed (List Part)) → given agreement_of p ≡ agreement_in (or_refused (and_then p (λ ps. give (agreement ps))))
+      as_asked (done ps n) = refl
+      as_asked no = refl
+
+  -- what was stored
+  pub parts_made : {n : ℕ} {ps : List Part} → parts s 0 ≡ done ps n → placed ps ≡ agreement_of ps
+  unfolding agreement_of
+  parts_made {n} {ps} e =
+      let a : length (heads_of ps) ≤ 256 = omega (arith, heads_length ps, parts_fit s short ps n e) in
+      let b : length (spans_of (fields_of ps)) ≤ 172 = omega (arith, spans_length (fields_of ps), fields_fit s short ps n e) in
+      let c : length (values_of (fields_of ps)) ≤ 86 = omega (arith, values_length (fields_of ps), fields_fit s short ps n e) in
+      λ j. record { parts = length ps; fields = length (fields_of ps); heads = padded_by 0 256 (heads_of ps) a j; spans = padded_by 0 172 (spans_of (fields_of ps)) b j; values = padded_by (pos 0) 86 (values_of (fields_of ps)) c j }
 
 -- a tick or a jump has no integers
 pub timed_numbers : {a : Asked} → Timed a → numbers_of a ≡ []
@@ -316,6 +306,25 @@ module _ (a : Asked) (r : Result Request Question) (e : r ≡ request_of a) (new
 
 -- ---- a call
 
+module _ (s : List ℕ) where
+  pub no_party : name s 0 ≡ no → call_line s 0 ≡ no
+  unfolding call_line names
+  no_party e = rw e
+
+  module _ {p : Span} {i : ℕ} (e : name s 0 ≡ done p i) where
+    pub no_colon : mark s (58 ∷ []) i ≡ no → call_line s 0 ≡ no
+    unfolding call_line names
+    no_colon f = rw (e, f)
+
+    module _ {j : ℕ} (m : mark s (58 ∷ []) i ≡ done tt j) where
+      pub no_function : name s j ≡ no → call_line s 0 ≡ no
+      unfolding call_line names
+      no_function f = rw (e, m, f)
+
+      pub names_read : {f : Span} {k : ℕ} → name s j ≡ done f k → names s 0 ≡ done (record { party = p; function = f }) k
+      unfolding names
+      names_read f = rw (e, m, f)
+
 module _ (s : List ℕ) {m : Names} {d : ℕ} (e : names s 0 ≡ done m d) where
   pub no_values : list s (40 ∷ []) (integer s) (41 ∷ []) d ≡ no → call_line s 0 ≡ no
   unfolding call_line lists
@@ -342,19 +351,19 @@ module _ (s : List ℕ) {m : Names} {d : ℕ} (e : names s 0 ≡ done m d) where
             let h : length (vs ++ hs) ≤ 256 = omega (arith, lists_fit s short d (record { values = vs; assets = hs }) j (rw (v, w, f))) in
             ap (take (length (vs ++ hs))) (sets-eq (vs ++ hs) old 0 (omega arith)) ∙ take-append_seam (vs ++ hs) _
 
-pub call_made : {x : declared.Names} {d : ℕ} {old : List ℤ} {first second : Integers} {i j : ℕ} (s : List ℕ) → length s ≤ 512 → length old ≡ 256 → names s 0 ≡ done (names_from x) d
-    → Gave (with_integers (record { count = 0; all = old })) (list s (40 ∷ []) (integer s) (41 ∷ []) d) first i → Gave (with_integers first) (list s (91 ∷ []) (integer s) (93 ∷ []) i) second j → end s j ≡ done tt j
-    → CallIs (call_line s 0) (Some (record { party = x.party; function = x.function; values = first.count; assets = second.count - first.count })) second.all
+pub call_made : {party function : declared.Span} {d : ℕ} {old : List ℤ} {first second : Integers} {middle last : Spot} (s : List ℕ) → length s ≤ 512 → length old ≡ 256 → names s 0 ≡ done (record { party = span_from party; function = span_from function }) d
+    → Filled (with_integers (record { count = 0; all = old })) (list s (40 ∷ []) (integer s) (41 ∷ []) d) s middle first → Filled (with_integers first) (list s (91 ∷ []) (integer s) (93 ∷ []) middle.at) s last second → end s last.at ≡ done tt last.at
+    → CallIs (call_line s 0) (Some (record { party = party; function = function; values = first.count; assets = second.count - first.count })) second.all
 unfolding request_of
-call_made {x} {d} {old} {first} {second} {i} {j} s short full e v w f =
-    let u : first ≡ with_integers (record { count = 0; all = old }) v.read = v.stored in
+call_made {party} {function} {d} {old} {first} {second} {middle} {last} s short full e v w f =
+    let u : first ≡ with_integers (record { count = 0; all = old }) v.read = v.out_is in
     let a : first.count ≡ length v.read = ap (λ (y : Integers). y.count) u ∙ (let n : 0 + length v.read ≡ length v.read = omega arith in n) in
-    let b : second.count - first.count ≡ length w.read = omega (arith, ap (λ (y : Integers). y.count) w.stored) in
+    let b : second.count - first.count ≡ length w.read = omega (arith, ap (λ (y : Integers). y.count) w.out_is) in
     let n : second.all ≡ sets old 0 (v.read ++ w.read) =
-    ap (λ (y : Integers). y.all) (w.stored ∙ ap (λ (y : Integers). with_integers y w.read) u)
+    ap (λ (y : Integers). y.all) (w.out_is ∙ ap (λ (y : Integers). with_integers y w.read) u)
     ∙ sym (sets_append old 0 v.read w.read) in
-    rw (call_whole s e v.parsed w.parsed f)
-    (λ t. Some (Ok (request.Call (record { party = x.party; function = x.function; values = a t; assets = b t }))), ap (take (length (v.read ++ w.read))) n ∙ call_front s e v.parsed w.parsed f short old full)
+    rw (call_whole s e v.is.parsed w.is.parsed f)
+    (λ t. Some (Ok (request.Call (record { party = party; function = function; values = a t; assets = b t }))), ap (take (length (v.read ++ w.read))) n ∙ call_front s e v.is.parsed w.is.parsed f short old full)
 
 -- the same list
 pub call_as : (p : Parsed Asked) (r : Option Call) {old new : List ℤ} → CallIs p r old → new ≡ old → CallIs p r new

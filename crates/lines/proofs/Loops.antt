@@ -1,53 +1,51 @@
 -- The invariant of the loops over the items of a list: what was read so far is added, and what is left of the line gives the rest. Assumes nothing.
-use mathlib.Core.Path.{◌≡◌, refl, sym, ap, ◌∙◌}
+use mathlib.Core.Path.{◌≡◌, sym, ap, ◌∙◌}
 use mathlib.Core.List.{List, [], ◌∷◌, ◌++◌}
-use Prim.Native.Nat.{ℕ, ◌+◌, ◌<◌, ◌≤◌}
+use Prim.Native.Nat.{ℕ, ◌+◌, ◌≤◌}
 use native.Mathlib.Omega.{arith}
-use Rattle.std.specs.Prelude.{Option, None}
 use lib.ListN.{length, length-append}
 use lib.IntN.{ℤ}
 use Rattle.lines.specs.Lines as lines
-use Rattle.lines.specs.Lines.{Parsed, done, no, Parser, mark, items}
+use Rattle.lines.specs.Lines.{done, no, Parser, mark, items}
 use Rattle.lines.specs.Answers.{spans_of, values_of}
-use Rattle.lines.specs.Private.{place_of, Added, Integers, with_integers, with_fields}
+use Rattle.lines.specs.Private.{Spot, Integers, with_integers, with_fields}
 use Rattle.lines.specs.declared.Agreement.{Agreement}
-use Rattle.lines.proofs.Got.{added_no, added_done}
+use Rattle.lines.proofs.Got.{Got, Filled}
+use Rattle.lines.proofs.Ahead.{Ahead}
 use Rattle.lines.proofs.Flat.{sets_append, spans_more, values_more}
-use Rattle.lines.proofs.Turns.{Reached, begin, missing, over, turn, last, unclosed}
+use Rattle.lines.proofs.Turns.{Reached, begin, missing, turn, last, unclosed}
 
 module _ {A B : Type 0} (s : List ℕ) (item : Parser A) (between : List ℕ) (close : Parser Unit) (add : List A → B) where
-  pub record SoFar (at n i : ℕ) (out : B) : Type 0 where
+  pub record SoFar (at : ℕ) (here : Spot) (out : B) : Type 0 where
     pub read : List A
-    pub reached : Reached s item between close at n i read
+    pub reached : Reached s item between close at here.at read
     pub stored : out ≡ add read
-    pub behind : at + length read ≤ i
+    pub behind : at + length read ≤ here.at
+    pub line : here.line ≡ s
 
-  pub started : (at : ℕ) {out : B} → out ≡ add [] → SoFar at 0 at out
-  started at e = record { read = []; reached = begin s item between close at; stored = e; behind = omega arith }
+  pub started : (here : Spot) {out : B} → here.line ≡ s → out ≡ add [] → SoFar here.at here out
+  started here l e = record { read = []; reached = begin s item between close here.at; stored = e; behind = omega arith; line = l }
 
-  module _ {at n i : ℕ} {out : B} (v : SoFar at n i out) where
-    pub item_missing : {r : Option ℕ} (new : B) → item i ≡ no → r ≡ None → Added add (items s item between close (length s) at) r new
-    item_missing new e q = added_no add new (missing s item between close v.reached e) q
+  module _ {at : ℕ} {here : Spot} {out : B} (v : SoFar at here out) where
+    pub item_missing : item here.at ≡ no → items s item between close (length s) at ≡ no
+    item_missing e = missing s item between close v.reached e
 
-    pub turns_over : {r : Option ℕ} (new : B) → length s ≤ n → r ≡ None → Added add (items s item between close (length s) at) r new
-    turns_over new h q = added_no add new (over s item between close v.reached h) q
-
-    module _ {x : A} {k : ℕ} (got : item i ≡ done x k) (before : n < length s) {new : B} (w : new ≡ add (v.read ++ (x ∷ []))) where
-      pub one_more : {m : ℕ} → mark s between k ≡ done tt m → i < m → SoFar at (n + 1) m new
+    module _ {x : A} {after : Spot} (got : Got (item here.at) s x after) (a : Ahead s here.at after.at) {new : B} (w : new ≡ add (v.read ++ (x ∷ []))) where
+      pub one_more : {next : Spot} → Got (mark s between after.at) s tt next → after.at ≤ next.at → SoFar at next new
       one_more e h =
           record {
             read = v.read ++ (x ∷ []);
-            reached = turn s item between close v.reached got before e;
+            reached = turn s item between close v.reached got.parsed (omega (arith, v.behind, a.more, a.inside)) e.parsed;
             stored = w;
-            behind = omega (arith, v.behind, length-append v.read (x ∷ []));
+            behind = omega (arith, v.behind, a.more, length-append v.read (x ∷ []));
+            line = e.line;
           }
 
-      pub closing : {r : Option ℕ} → mark s between k ≡ no → r ≡ place_of (close k) → Added add (items s item between close (length s) at) r new
-      closing {r} e q = go (close k) refl
-        where
-          go : (p : Parsed Unit) → close k ≡ p → Added add (items s item between close (length s) at) r new
-          go (done u m) f = added_done add (last s item between close v.reached got before e f) (q ∙ ap place_of f) w
-          go no f = added_no add new (unclosed s item between close v.reached got before e f) (q ∙ ap place_of f)
+      pub closing : {last_at : Spot} → mark s between after.at ≡ no → Got (close after.at) s tt last_at → Filled add (items s item between close (length s) at) s last_at new
+      closing e f = record { read = v.read ++ (x ∷ []); is = record { parsed = last s item between close v.reached got.parsed (omega (arith, v.behind, a.more, a.inside)) e f.parsed; line = f.line }; out_is = w }
+
+      pub never_closed : mark s between after.at ≡ no → close after.at ≡ no → items s item between close (length s) at ≡ no
+      never_closed e f = unclosed s item between close v.reached got.parsed (omega (arith, v.behind, a.more, a.inside)) e f
 
 -- ---- one more
 

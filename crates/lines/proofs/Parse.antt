@@ -20,9 +20,8 @@ use Rattle.tokens.specs.Tokens.{digits_at}
 use Rattle.tokens.specs.declared.Digits.{Digits}
 use Rattle.lines.specs.Lines.{Parsed, done, no, skipped, is_next, mark, end, name_from, name, digits, integer}
 use Rattle.std.specs.Prelude.{Option, Some, None}
-use Rattle.std.specs.Bool.{then_some}
-use Rattle.lines.specs.Private.{place_of, is_done, read_of, ranged, sign_of}
-use Rattle.lines.specs.declared.Found.{Found}
+use Rattle.lines.specs.Private.{Spot, moved, Gave, is_done, ranged, sign_of}
+use Rattle.lines.proofs.Got.{gave_none}
 
 -- ---- marks
 
@@ -78,16 +77,15 @@ module _ (s : List ℕ) (at : ℕ) {i : ℕ} (skip : i ≡ skipped s at) where
     unfolding is_next
     goes e = sym (e ∙ ap (λ (k : ℕ). starts_with (drop k s) m) skip)
 
-    pub mark_then : {t : Bool} → t ≡ starts_with (drop i s) m → then_some t (i + length m) ≡ place_of (mark s m at)
-    mark_then {t} e = go t refl
-      where
-        go : (b : Bool) → t ≡ b → then_some b (i + length m) ≡ place_of (mark s m at)
-        go true q = ap (λ (k : ℕ). Some (k + length m)) skip ∙ sym (ap place_of (mark_is s at m (goes e ∙ q)))
-        go false q = sym (ap place_of (mark_not s at m (goes e ∙ q)))
+    pub mark_then : {t : Bool} → t ≡ starts_with (drop i s) m → t ≡ true → mark s m at ≡ done tt (i + length m)
+    mark_then e q = mark_is s at m (goes e ∙ q) ∙ ap (λ (k : ℕ). done tt (k + length m)) (sym skip)
 
-  pub mark_past : (m : List ℕ) → 0 < length m → length s ≤ i → None ≡ place_of (mark s m at)
+    pub mark_else : {t : Bool} → t ≡ starts_with (drop i s) m → t ≡ false → mark s m at ≡ no
+    mark_else e q = mark_not s at m (goes e ∙ q)
+
+  pub mark_past : (m : List ℕ) → 0 < length m → length s ≤ i → mark s m at ≡ no
   mark_past [] n h = absurd (omega arith)
-  mark_past (b ∷ m) n h = sym (ap place_of (mark_not s at (b ∷ m) (here_past b m h)))
+  mark_past (b ∷ m) n h = mark_not s at (b ∷ m) (here_past b m h)
 
   pub end_is : leb (length s) i ≡ is_done (end s at)
   unfolding end pick
@@ -99,45 +97,41 @@ module _ (s : List ℕ) (at : ℕ) {i : ℕ} (skip : i ≡ skipped s at) where
 
 -- ---- integers
 
--- a number that was read up to this place
-abbrev pub read_at : Option ℤ → ℕ → Option (Found ℤ)
-read_at (Some z) n = Some (record { value = z; next = n })
-read_at None n = None
-
--- a choice under `read_of`
-ranged_done : (z : ℤ) (n : ℕ) → read_at (ranged z) n ≡ read_of (λ (y : ℤ). y) (pick (within z) (done z n) no)
-unfolding pick
-ranged_done z n = go (within z)
-  where
-    go : (b : Bool) → read_at (pick b (Some z) None) n ≡ read_of (λ (y : ℤ). y) (pick b (done z n) no)
-    go true = refl
-    go false = refl
-
-module _ (sign : ℤ → ℤ) (far : (m : ℕ) → 2 ^ 63 < m → within (sign (pos m)) ≡ false) where
-  -- a magnitude that is kept up to 2 ^ 63 + 1
-  capped : (d n : ℕ) → read_at (ranged (sign (pos (min d 9223372036854775809)))) n ≡ read_of (λ (y : ℤ). y) (pick (within (sign (pos d))) (done (sign (pos d)) n) no)
-  capped d n = go (leb d 9223372036854775809) refl
+module _ (old : Spot) where
+  ranged_gave : (z : ℤ) (n : ℕ) → Gave (λ (y : ℤ). y) (pick (within z) (done z n) no) old (ranged z) (moved old n)
+  unfolding pick
+  ranged_gave z n = go (within z)
     where
-      go : (b : Bool) → leb d 9223372036854775809 ≡ b → read_at (ranged (sign (pos (min d 9223372036854775809)))) n ≡ read_of (λ (y : ℤ). y) (pick (within (sign (pos d))) (done (sign (pos d)) n) no)
-      go true e =
-          let h : d ≤ 9223372036854775809 = leb-true d 9223372036854775809 e in
-          let q : min d 9223372036854775809 ≡ d = omega arith in
-          ap (λ (m : ℕ). read_at (ranged (sign (pos m))) n) q ∙ ranged_done (sign (pos d)) n
-      go false e =
-          let h : 9223372036854775809 < d = leb-false d 9223372036854775809 e in
-          ap (λ (o : Option ℤ). read_at o n) (pick_false _ _ _ (far (min d 9223372036854775809) (omega arith))) ∙ sym (ap (read_of (λ (y : ℤ). y)) (pick_false _ _ _ (far d (omega arith))))
+      go : (b : Bool) → Gave (λ (y : ℤ). y) (pick b (done z n) no) old (pick b (Some z) None) (moved old n)
+      go true = (refl, refl)
+      go false = refl
 
-  module _ (s : List ℕ) (i : ℕ) where
-    pub digits_some : {d : Digits} → is_digit (get_or s i 0) ≡ true → d ≡ digits_at s i → read_at (ranged (sign (pos d.value))) d.end ≡ read_of (λ (y : ℤ). y) (digits s sign i)
-    unfolding digits
-    digits_some {d} t f =
-        ap (λ (x : Digits). read_at (ranged (sign (pos x.value))) x.end) f
-        ∙ capped (decimal 0 (drop i s)) (i + run is_digit (drop i s))
-        ∙ sym (ap (read_of (λ (y : ℤ). y)) (pick_true _ _ _ t))
+  module _ (sign : ℤ → ℤ) (far : (m : ℕ) → 2 ^ 63 < m → within (sign (pos m)) ≡ false) where
+    -- a magnitude that is kept up to 2 ^ 63 + 1
+    capped : (d n : ℕ) → Gave (λ (y : ℤ). y) (pick (within (sign (pos d))) (done (sign (pos d)) n) no) old (ranged (sign (pos (min d 9223372036854775809)))) (moved old n)
+    capped d n = go (leb d 9223372036854775809) refl
+      where
+        go : (b : Bool) → leb d 9223372036854775809 ≡ b → Gave (λ (y : ℤ). y) (pick (within (sign (pos d))) (done (sign (pos d)) n) no) old (ranged (sign (pos (min d 9223372036854775809)))) (moved old n)
+        go true e =
+            let h : d ≤ 9223372036854775809 = leb-true d 9223372036854775809 e in
+            let q : d ≡ min d 9223372036854775809 = omega arith in
+            subst (λ (m : ℕ). Gave (λ (y : ℤ). y) (pick (within (sign (pos d))) (done (sign (pos d)) n) no) old (ranged (sign (pos m))) (moved old n)) q (ranged_gave (sign (pos d)) n)
+        go false e =
+            let h : 9223372036854775809 < d = leb-false d 9223372036854775809 e in
+            gave_none (λ (y : ℤ). y) old (moved old n) (pick_false _ _ _ (far d (omega arith))) (pick_false _ _ _ (far (min d 9223372036854775809) (omega arith)))
 
-    pub digits_none : is_digit (get_or s i 0) ≡ false → digits s sign i ≡ no
-    unfolding digits
-    digits_none d = pick_false _ _ _ d
+    module _ (s : List ℕ) (i : ℕ) where
+      pub digits_some : {d : Digits} {r : Option ℤ} → is_digit (get_or s i 0) ≡ true → d ≡ digits_at s i → r ≡ ranged (sign (pos d.value)) → Gave (λ (y : ℤ). y) (digits s sign i) old r (moved old d.end)
+      unfolding digits
+      digits_some {d} {r} t f e =
+          subst (λ (p : Parsed ℤ). Gave (λ (y : ℤ). y) p old r (moved old d.end)) (sym (pick_true _ _ _ t))
+          (subst (λ (o : Option ℤ). Gave (λ (y : ℤ). y) (pick (within (sign (pos (decimal 0 (drop i s))))) (done (sign (pos (decimal 0 (drop i s)))) (i + run is_digit (drop i s))) no) old o (moved old d.end)) (sym e)
+          (subst (λ (x : Digits). Gave (λ (y : ℤ). y) (pick (within (sign (pos (decimal 0 (drop i s))))) (done (sign (pos (decimal 0 (drop i s)))) (i + run is_digit (drop i s))) no) old (ranged (sign (pos x.value))) (moved old x.end)) (sym f)
+          (capped (decimal 0 (drop i s)) (i + run is_digit (drop i s)))))
+
+pub digits_none : (sign : ℤ → ℤ) (s : List ℕ) (i : ℕ) → is_digit (get_or s i 0) ≡ false → digits s sign i ≡ no
+unfolding digits
+digits_none sign s i d = pick_false _ _ _ d
 
 pub far_signed : (minus : Bool) (m : ℕ) → 2 ^ 63 < m → within (sign_of minus (pos m)) ≡ false
 far_signed false m h = le-ltb m (2 ^ 63) (omega arith)

@@ -2,12 +2,13 @@
 use mathlib.Core.Path.{◌≡◌, refl, subst}
 use mathlib.Core.Bool.{Bool, true, false}
 use mathlib.Core.List.{List, []}
+use Rattle.std.specs.Prelude.{None}
 use Prim.Native.Nat.{ℕ}
 use lib.IntN.{ℤ}
 use Rattle.laws.specs.Choice.{pick}
 use Rattle.laws.specs.Bytes.{bytes}
 use Rattle.lines.specs.Lines.{Asked, tick, jump, Parsed, done, and_then, give, is_next, mark, end, integer, word, closed, jump_end, tick_line}
-use Rattle.lines.specs.Answers.{parts_of}
+use Rattle.lines.specs.Answers.{agreement_in}
 use Rattle.lines.proofs.Ahead.{then_done}
 
 -- ---- what such a line asks for
@@ -16,9 +17,9 @@ pub data Timed : Asked → Type 0 where
   ticks : Timed tick
   jumps : (z : ℤ) → Timed (jump z)
 
-pub timed_parts : {a : Asked} → Timed a → parts_of a ≡ []
-timed_parts ticks = refl
-timed_parts (jumps z) = refl
+pub timed_agreement : {a : Asked} → Timed a → agreement_in a ≡ None
+timed_agreement ticks = refl
+timed_agreement (jumps z) = refl
 
 module _ (s : List ℕ) where
   closed_gives : {a b : Asked} {n : ℕ} (at : ℕ) → closed s a at ≡ done b n → a ≡ b

@@ -2,9 +2,9 @@
 use mathlib.Core.Path.{◌≡◌, refl, sym, ap, ◌∙◌}
 use mathlib.Core.Bool.{Bool, true, false}
 use mathlib.Core.List.{List, [], ◌∷◌, ◌++◌, append_assoc}
-use Prim.Native.Nat.{ℕ, zero, suc, ◌+◌, ◌<◌, ◌≤◌}
+use Prim.Native.Nat.{ℕ, zero, suc, ◌+◌, ◌<◌}
 use native.Mathlib.Omega.{arith}
-use lib.ListN.{length}
+use lib.ListN.{length, length-append}
 use Rattle.laws.specs.Choice.{pick}
 use Rattle.lines.specs.Lines.{Parsed, done, no, Parser, and_then, give, skipped, is_next, mark, items, list}
 use Rattle.lines.proofs.Ahead.{taken}
@@ -56,51 +56,46 @@ module _ {A : Type 0} (s : List ℕ) (item : Parser A) (between : List ℕ) (clo
     unfolding items pick
     items_unclosed b e = rw (got, b, e)
 
-  -- after n turns at i, with xs read from `at` on
-  pub record Reached (at n i : ℕ) (xs : List A) : Type 0 where
+  -- at i, with xs read from `at` on, one each turn
+  pub record Reached (at i : ℕ) (xs : List A) : Type 0 where
     pub turns : ℕ
-    pub left : n + turns ≡ length s
+    pub left : length xs + turns ≡ length s
     pub same : items s item between close (length s) at ≡ prepend xs (items s item between close turns i)
 
-  pub begin : (at : ℕ) → Reached at 0 at []
+  pub begin : (at : ℕ) → Reached at at []
   begin at = record { turns = length s; left = omega arith; same = prepend_none (items s item between close (length s) at) }
 
-  module _ {at n i : ℕ} {xs : List A} (r : Reached at n i xs) where
+  module _ {at i : ℕ} {xs : List A} (r : Reached at i xs) where
     pub missing : item i ≡ no → items s item between close (length s) at ≡ no
     missing e = r.same ∙ ap (prepend xs) (go r.turns)
       where
         go : (f : ℕ) → items s item between close f i ≡ no
         go f = items_missing f i e
 
-    -- no turn is left
-    pub over : length s ≤ n → items s item between close (length s) at ≡ no
-    unfolding items
-    over h = let e : r.turns ≡ 0 = omega (arith, r.left) in r.same ∙ ap (λ (t : ℕ). prepend xs (items s item between close t i)) e
-
-    module _ {x : A} {k : ℕ} (got : item i ≡ done x k) (before : n < length s) where
-      pub turn : {m : ℕ} → mark s between k ≡ done tt m → Reached at (n + 1) m (xs ++ (x ∷ []))
+    module _ {x : A} {k : ℕ} (got : item i ≡ done x k) (before : length xs < length s) where
+      pub turn : {m : ℕ} → mark s between k ≡ done tt m → Reached at m (xs ++ (x ∷ []))
       turn {m} e = go r.turns r.left r.same
         where
-          go : (t : ℕ) → n + t ≡ length s → items s item between close (length s) at ≡ prepend xs (items s item between close t i) → Reached at (n + 1) m (xs ++ (x ∷ []))
+          go : (t : ℕ) → length xs + t ≡ length s → items s item between close (length s) at ≡ prepend xs (items s item between close t i) → Reached at m (xs ++ (x ∷ []))
           go zero l q = absurd (omega arith)
           go (suc t) l q =
               record {
                 turns = t;
-                left = omega arith;
+                left = omega (arith, length-append xs (x ∷ []));
                 same = q ∙ ap (prepend xs) (items_more t got (next_yes s between k e) e) ∙ prepend_one xs x (items s item between close t m);
               }
 
       pub last : {m : ℕ} → mark s between k ≡ no → close k ≡ done tt m → items s item between close (length s) at ≡ done (xs ++ (x ∷ [])) m
       last {m} e f = go r.turns r.left r.same
         where
-          go : (t : ℕ) → n + t ≡ length s → items s item between close (length s) at ≡ prepend xs (items s item between close t i) → items s item between close (length s) at ≡ done (xs ++ (x ∷ [])) m
+          go : (t : ℕ) → length xs + t ≡ length s → items s item between close (length s) at ≡ prepend xs (items s item between close t i) → items s item between close (length s) at ≡ done (xs ++ (x ∷ [])) m
           go zero l q = absurd (omega arith)
           go (suc t) l q = q ∙ ap (prepend xs) (items_last t got (next_no s between k e) f)
 
       pub unclosed : mark s between k ≡ no → close k ≡ no → items s item between close (length s) at ≡ no
       unclosed e f = go r.turns r.left r.same
         where
-          go : (t : ℕ) → n + t ≡ length s → items s item between close (length s) at ≡ prepend xs (items s item between close t i) → items s item between close (length s) at ≡ no
+          go : (t : ℕ) → length xs + t ≡ length s → items s item between close (length s) at ≡ prepend xs (items s item between close t i) → items s item between close (length s) at ≡ no
           go zero l q = absurd (omega arith)
           go (suc t) l q = q ∙ ap (prepend xs) (items_unclosed t got (next_no s between k e) f)
 

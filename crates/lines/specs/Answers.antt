@@ -1,5 +1,5 @@
 -- What `read` and `agreement_of` answer for what a line asks.
-use Rattle.std.specs.Prelude.{ℕ, ◌-◌, List, [], ◌∷◌, ◌++◌, length, replicate, ℤ, pos, Result, Ok, Err}
+use Rattle.std.specs.Prelude.{ℕ, ◌-◌, List, [], ◌∷◌, ◌++◌, length, replicate, ℤ, pos, Option, Some, None, Result, Ok, Err}
 use Rattle.lines.specs.Lines.{Span, Verb, set, ok, Field, Part, Asked, refused, tick, jump, call, agreement}
 use Rattle.questions.specs.declared.Question.{Question}
 use Rattle.lines.specs.declared.Span as declared
@@ -41,13 +41,6 @@ numbers_of (call c) = c.lists.values ++ c.lists.assets
 
 -- ---- an agreement's parts
 
-abbrev pub parts_of : Asked → List Part
-parts_of (agreement ps) = ps
-parts_of (refused q) = []
-parts_of tick = []
-parts_of (jump T) = []
-parts_of (call c) = []
-
 -- the fields of all parts
 unfoldable pub fields_of : List Part → List Field
 fields_of [] = []
@@ -81,3 +74,11 @@ agreement_of ps =
       spans = padded 0 172 (spans_of (fields_of ps));
       values = padded (pos 0) 86 (values_of (fields_of ps));
     }
+
+-- the agreement that a line asks for; none for any other line
+abbrev pub agreement_in : Asked → Option Agreement
+agreement_in (agreement ps) = Some (agreement_of ps)
+agreement_in (refused q) = None
+agreement_in tick = None
+agreement_in (jump T) = None
+agreement_in (call c) = None

@@ -4,7 +4,7 @@ use Rattle.std.proofs.lemmas.List.Edits.{sets}
 use Rattle.laws.specs.Choice.{pick}
 use Rattle.numbers.specs.Numbers.{within}
 use Rattle.lines.specs.Lines as lines
-use Rattle.lines.specs.Lines.{Part, Asked, Parsed, done, no}
+use Rattle.lines.specs.Lines.{Part, Asked, Parsed, done, no, Parser, mark}
 use Rattle.questions.specs.declared.Question.{Question}
 use Rattle.lines.specs.Answers.{span_in, request_of, numbers_of, verb_number, spans_of, values_of}
 use Rattle.lines.specs.declared.Request.{Request}
@@ -12,12 +12,11 @@ use Rattle.lines.specs.declared.Request.TheVariants as request
 use Rattle.lines.specs.declared.Call.{Call}
 use Rattle.lines.specs.declared.Agreement.{Agreement}
 use Rattle.lines.specs.declared.Span.{Span}
-use Rattle.lines.specs.declared.Found.{Found}
-use Rattle.lines.specs.declared.Verb.{Verb}
-use Rattle.lines.specs.declared.Verb.TheVariants as verb
+use Rattle.contract.specs.declared.Verb.{Verb}
+use Rattle.contract.specs.declared.Verb.TheVariants as verb
 use Rattle.lines.specs.declared.Field.{Field}
-use Rattle.lines.specs.declared.Names.{Names}
 use Rattle.lines.specs.declared.Integers as declared
+use Rattle.lines.specs.declared.Reader.{Reader}
 
 -- ---- what a parser gave
 
@@ -26,25 +25,45 @@ abbrev pub is_done : {A : Type 0} → Parsed A → Bool
 is_done (done a n) = true
 is_done no = false
 
--- the place after what it read
-abbrev pub place_of : {A : Type 0} → Parsed A → Option ℕ
-place_of (done a n) = Some n
-place_of no = None
-
 -- what it read
 abbrev pub given : {A B : Type 0} → (A → B) → Parsed A → Option B
 given f (done a n) = Some (f a)
 given f no = None
 
--- both
-abbrev pub read_of : {A B : Type 0} → (A → B) → Parsed A → Option (Found B)
-read_of f (done a n) = Some (record { value = f a; next = n })
-read_of f no = None
+-- a line, and the place up to which it is read
+pub record Spot : Type 0 where
+  pub line : List ℕ
+  pub at : ℕ
 
--- what it read is added to what was lent, and the place after it answered; after a no what was lent is free
-abbrev pub Added : {A B : Type 0} → (A → B) → Parsed A → Option ℕ → B → Type 0
-Added add (done a n) r new = (r ≡ Some n) × (new ≡ add a)
-Added add no r new = r ≡ None
+abbrev pub spot : Reader → Spot
+spot x = record { line = x.line.now; at = x.at }
+
+abbrev pub moved : Spot → ℕ → Spot
+moved x n = record { line = x.line; at = n }
+
+-- a reader answers with what a parser read, and stands after it; after a no its place is free
+abbrev pub Gave : {A B : Type 0} → (A → B) → Parsed A → Spot → Option B → Spot → Type 0
+Gave f (done a n) old r new = (r ≡ Some (f a)) × (new ≡ moved old n)
+Gave f no old r new = r ≡ None
+
+abbrev pub Gives : {A B : Type 0} → (A → B) → (List ℕ → Parser A) → Spot → Option B → Spot → Type 0
+Gives f p old r new = Gave f (p old.line old.at) old r new
+
+-- a reader goes past a mark; after a no it stands where it was
+abbrev pub Went : Parsed Unit → Spot → Option Unit → Spot → Type 0
+Went (done u n) old r new = (r ≡ Some tt) × (new ≡ moved old n)
+Went no old r new = (r ≡ None) × (new ≡ old)
+
+abbrev pub Marked : List ℕ → Spot → Option Unit → Spot → Type 0
+Marked m old r new = Went (mark old.line m old.at) old r new
+
+-- what a reader reads is added to what was lent; after a no that is free too
+abbrev pub Stored : {A B : Type 0} → (A → B) → Parsed A → Spot → Option Unit → Spot → B → Type 0
+Stored add (done a n) old r new out = (r ≡ Some tt) × (new ≡ moved old n) × (out ≡ add a)
+Stored add no old r new out = r ≡ None
+
+abbrev pub Added : {A B : Type 0} → (A → B) → (List ℕ → Parser A) → Spot → Option Unit → Spot → B → Type 0
+Added add p old r new out = Stored add (p old.line old.at) old r new out
 
 -- ---- what is read, as code has it
 
@@ -55,6 +74,10 @@ abbrev pub verb_in : lines.Verb → Verb
 verb_in lines.set = verb.Set
 verb_in lines.ok = verb.Ok
 
+abbrev pub verb_from : Verb → lines.Verb
+verb_from verb.Set = lines.set
+verb_from verb.Ok = lines.ok
+
 abbrev pub verb_word : Verb → ℕ
 verb_word verb.Set = 0
 verb_word verb.Ok = 1
@@ -64,12 +87,6 @@ field_in f = record { name = span_in f.name; value = f.value }
 
 abbrev pub field_from : Field → lines.Field
 field_from f = record { name = span_from f.name; value = f.value }
-
-abbrev pub names_in : lines.Names → Names
-names_in n = record { party = span_in n.party; function = span_in n.function }
-
-abbrev pub names_from : Names → lines.Names
-names_from n = record { party = span_from n.party; function = span_from n.function }
 
 -- a request that no question refused
 abbrev pub asked_in : Option Request → Option (Result Request Question)

@@ -1,14 +1,15 @@
 // A reader of one session line, the bytes before its LF: an agreement, a call, a tick or a jump, or the question that refuses it.
 #![tactic(auto)]
 
-ghost use Rattle.std.specs.Prelude.{◌≡◌, [], ◌∷◌, ◌≤◌, ◌<◌, ◌^◌, length, take, set, pos, None};
+ghost use Rattle.std.specs.Prelude.{◌≡◌, [], ◌∷◌, MatchOption, ◌≤◌, ◌<◌, ◌^◌, ◌*◌, length, take, set, pos, None};
 ghost use Rattle.laws.specs.Bytes.{same_bytes};
 ghost use Rattle.words.specs.Words.{spelled};
 ghost use Rattle.tokens.specs.Tokens.{between};
-ghost use Rattle.lines.specs.Lines.{asked, skipped, mark, end, name, digits, integer, verb, field, list, items, names, part, parts, jump_end, tick_line, call_line};
-ghost use Rattle.lines.specs.Answers.{padded, span_in, request_of, numbers_of, agreement_of, parts_of};
-ghost use Rattle.lines.specs.Private.{place_of, is_done, given, read_of, sign_of, ranged, verb_in, verb_word, field_in, field_from, asked_in, count_of, names_in, Added, CallIs, integers_in, SameList, with_integers, with_fields, with_head, with_part};
+ghost use Rattle.lines.specs.Lines.{asked, skipped, mark, end, name, digits, integer, verb, field, list, items, part, parts, jump_end, tick_line, call_line};
+ghost use Rattle.lines.specs.Answers.{padded, span_in, request_of, numbers_of, agreement_of, agreement_in};
+ghost use Rattle.lines.specs.Private.{spot, Gives, Marked, Added, is_done, given, sign_of, ranged, verb_in, verb_word, field_in, field_from, asked_in, count_of, CallIs, integers_in, SameList, with_integers, with_fields, with_head, with_part};
 
+use contract::Verb;
 use questions::Question;
 
 // Where a name stands in the line: its first byte, and the place after its last.
@@ -50,9 +51,9 @@ impl Line {
     pub const NUMBERS: usize = Line::BYTES / 2;
 }
 
-// The parts of an agreement; nothing for any other line. A line has at most 64 parts and 85 fields.
-// Kept: (a) a library has no heap, so each list has room for the most that a line can hold, and a count says how much is taken; three lists
-// of numbers, since the public `agreements::agree_on` takes them as slices of numbers.
+// The parts of an agreement. A line has at most 64 parts and 84 fields.
+// Kept: (a) a library has no heap, so each list has room for the most that a line can hold, and a count says how much is taken. Document 01 has
+// the public step take slices of numbers, any numbers, which questions 23 and 24 judge; in lists of structs they would be copied for it.
 #[derive(Clone, Copy)]
 pub struct Agreement {
     pub parts: usize,
@@ -66,28 +67,42 @@ pub struct Agreement {
     pub values: [i64; Agreement::FIELDS],
 }
 
+// Kept: (d) no kinds but lengths and limits.
 impl Agreement {
-    // The parts and the fields that there is room for, and the numbers of both.
+    // The numbers of a part, and of a field's name.
+    pub const HEAD: usize = 4;
+
+    pub const SPAN: usize = 2;
+
+    // The parts and the fields that there is room for, and the numbers of both; a field with its comma takes six bytes.
     pub const PARTS: usize = 64;
 
     pub const FIELDS: usize = 86;
 
-    pub const HEADS: usize = 4 * Agreement::PARTS;
+    pub const HEADS: usize = Agreement::HEAD * Agreement::PARTS;
 
-    pub const SPANS: usize = 2 * Agreement::FIELDS;
-}
+    pub const SPANS: usize = Agreement::SPAN * Agreement::FIELDS;
 
-// What was read, and the place after it.
-#[derive(Clone, Copy)]
-struct Found<T> {
-    value: T,
-    next: usize,
-}
+    // The numbers of its parts.
+    pub fn heads(&self) -> &[usize]
+        ensures { result.now ≡ take (4 * self.now.parts) self.now.heads }
+    {
+        &self.heads[..Agreement::HEAD * self.parts.min(Agreement::PARTS)]
+    }
 
-#[derive(Clone, Copy)]
-enum Verb {
-    Set,
-    Ok,
+    // The numbers of its fields' names.
+    pub fn spans(&self) -> &[usize]
+        ensures { result.now ≡ take (2 * self.now.fields) self.now.spans }
+    {
+        &self.spans[..Agreement::SPAN * self.fields.min(Agreement::FIELDS)]
+    }
+
+    // Its fields' values.
+    pub fn values(&self) -> &[i64]
+        ensures { result.now ≡ take self.now.fields self.now.values }
+    {
+        &self.values[..self.fields.min(Agreement::FIELDS)]
+    }
 }
 
 #[derive(Clone, Copy)]
@@ -96,67 +111,145 @@ struct Field {
     value: i64,
 }
 
-// A call's names.
-#[derive(Clone, Copy)]
-struct Names {
-    party: Span,
-    function: Span,
-}
-
 // A call's integers, so many so far, in a lent list.
+// Kept: (a) a library has no heap, so the list is the caller's, with room for all that a line can hold, and a count says how many are in it.
 #[derive(Drop)]
 struct Integers<'a> {
     count: usize,
     all: &'a mut [i64; Line::NUMBERS],
 }
 
+// A line that is not too long.
+#[derive(Clone, Copy)]
+struct Short<'a> {
+    line: &'a [u8],
+    ghost short: { length line.now ≤ 512 },
+}
+
+// A line, and the place up to which it is read.
+#[derive(Drop)]
+struct Reader<'a> {
+    line: &'a [u8],
+    at: usize,
+}
+
+impl<'a> Short<'a> {
+    fn of(line: &'a [u8]) -> Option<Short<'a>>
+        ensures { MatchOption result (512 < length line.now) (λ x. x.line.now ≡ line.now) }
+    {
+        if Line::BYTES < line.len() {
+            None
+        } else {
+            Some(Short { line })
+        }
+    }
+}
+
 // ---- tokens
 
-// The place of the next byte that is no space.
-fn skip(line: &[u8], at: usize) -> usize
-    ensures { result ≡ skipped line.now at }
-{
-    let rest = line.get(at..).unwrap_or(&[]);
-    let spaces = rest.iter().position(|b| *b != b' ').unwrap_or(rest.len());
-    at + spaces
-}
-
-// The place after a mark.
-fn mark(line: &[u8], at: usize, m: &[u8]) -> Option<usize>
-    requires { 0 < length m.now }
-    ensures { result ≡ place_of (mark line.now m.now at) }
-{
-    let i = skip(line, at);
-    let rest = line.get(i..)?;
-    rest.starts_with(m).then_some(i + m.len())
-}
-
-// The place after a fixed word.
-fn word_mark(line: &[u8], at: usize, which: u8) -> Option<usize>
-    requires { 0 < length (spelled which) }
-    ensures { result ≡ place_of (mark line.now (spelled which) at) }
-{
-    mark(line, at, words::spelling(which))
-}
-
-// Whether nothing but spaces is left.
-fn ends(line: &[u8], at: usize) -> bool
-    ensures { result ≡ is_done (end line.now at) }
-{
-    line.len() <= skip(line, at)
-}
-
-fn name(line: &[u8], at: usize) -> Option<Span>
-    ensures { result ≡ given span_in (name line.now at) }
-{
-    let start = skip(line, at);
-    if tokens::is_letter(tokens::byte_at(line, start)) {
-        return Some(Span {
-            start,
-            end: tokens::name_end(line, start),
-        });
+impl Reader<'_> {
+    // The place of the next byte that is no space.
+    fn skip(&self) -> usize
+        ensures { result ≡ skipped self.now.line.now self.now.at }
+    {
+        let rest = self.line.get(self.at..).unwrap_or(&[]);
+        let spaces = rest.iter().position(|b| *b != b' ').unwrap_or(rest.len());
+        self.at + spaces
     }
-    None
+
+    // Past a mark; if another token is next, nothing is read.
+    fn mark(&mut self, m: &[u8]) -> Option<()>
+        requires { 0 < length m.now }
+        ensures { Marked m.now (spot self.old) result (spot self.new) }
+    {
+        let i = self.skip();
+        let rest = self.line.get(i..)?;
+        if !rest.starts_with(m) {
+            return None;
+        }
+        self.at = i + m.len();
+        Some(())
+    }
+
+    // Past a fixed word.
+    fn word_mark(&mut self, which: u8) -> Option<()>
+        requires { 0 < length (spelled which) }
+        ensures { Marked (spelled which) (spot self.old) result (spot self.new) }
+    {
+        self.mark(words::spelling(which))
+    }
+
+    // Whether nothing but spaces is left.
+    fn ends(&self) -> bool
+        ensures { result ≡ is_done (end self.now.line.now self.now.at) }
+    {
+        self.line.len() <= self.skip()
+    }
+
+    fn name(&mut self) -> Option<Span>
+        ensures { Gives span_in name (spot self.old) result (spot self.new) }
+    {
+        let start = self.skip();
+        if !tokens::is_letter(tokens::byte_at(self.line, start)) {
+            return None;
+        }
+        let end = tokens::name_end(self.line, start);
+        self.at = end;
+        Some(Span { start, end })
+    }
+
+    // The integer whose digits start at i.
+    fn digits(&mut self, i: usize, minus: bool) -> Option<i64>
+        ensures { Gives (λ z. z) (λ s at. digits s (sign_of minus) i) (spot self.old) result (spot self.new) }
+    {
+        if !tokens::is_digit(tokens::byte_at(self.line, i)) {
+            return None;
+        }
+        let run = tokens::read_digits(self.line, i);
+        self.at = run.end;
+        signed(minus, run.value)
+    }
+
+    fn integer(&mut self) -> Option<i64>
+        ensures { Gives (λ z. z) integer (spot self.old) result (spot self.new) }
+    {
+        let i = self.skip();
+        let minus = tokens::byte_at(self.line, i) == b'-';
+        if minus {
+            return self.digits(i + 1, true);
+        }
+        self.digits(i, false)
+    }
+
+    // Whether a name is this fixed word, byte by byte.
+    fn is_word(&self, name: Span, which: u8) -> bool
+        ensures { result ≡ same_bytes (between self.now.line.now name.start name.end) (spelled which) }
+    {
+        words::is_word(tokens::between(self.line, name.start, name.end), which)
+    }
+
+    // Any other verb is none.
+    fn verb(&mut self) -> Option<Verb>
+        ensures { Gives verb_in verb (spot self.old) result (spot self.new) }
+    {
+        let word = self.name()?;
+        if self.is_word(word, words::SET) {
+            return Some(Verb::Set);
+        }
+        if self.is_word(word, words::OK) {
+            return Some(Verb::Ok);
+        }
+        None
+    }
+
+    fn field(&mut self) -> Option<Field>
+        ensures { Gives field_in field (spot self.old) result (spot self.new) }
+    {
+        let name = self.name()?;
+        self.word_mark(words::MAPS_TO)?;
+        let value = self.integer()?;
+        Some(Field { name, value })
+    }
 }
 
 // A number with a minus sign or none before it, within 64 bits.
@@ -170,261 +263,191 @@ fn signed(minus: bool, n: u64) -> Option<i64>
     }
 }
 
-// The integer whose digits start at i.
-fn digits(line: &[u8], i: usize, minus: bool) -> Option<Found<i64>>
-    ensures { result ≡ read_of (λ z. z) (digits line.now (sign_of minus) i) }
-{
-    if tokens::is_digit(tokens::byte_at(line, i)) {
-        let run = tokens::read_digits(line, i);
-        let value = signed(minus, run.value)?;
-        return Some(Found {
-            value,
-            next: run.end,
-        });
-    }
-    None
-}
-
-fn integer(line: &[u8], at: usize) -> Option<Found<i64>>
-    ensures { result ≡ read_of (λ z. z) (integer line.now at) }
-{
-    let i = skip(line, at);
-    let minus = tokens::byte_at(line, i) == b'-';
-    if minus {
-        return digits(line, i + 1, true);
-    }
-    digits(line, i, false)
-}
-
-// Whether a name is this fixed word, byte by byte.
-fn is_word(line: &[u8], name: Span, which: u8) -> bool
-    ensures { result ≡ same_bytes (between line.now name.start name.end) (spelled which) }
-{
-    words::is_word(tokens::between(line, name.start, name.end), which)
-}
-
-// Any other verb is none.
-fn verb_at(line: &[u8], at: usize) -> Option<Found<Verb>>
-    ensures { result ≡ read_of verb_in (verb line.now at) }
-{
-    let word = name(line, at)?;
-    if is_word(line, word, words::SET) {
-        return Some(Found {
-            value: Verb::Set,
-            next: word.end,
-        });
-    }
-    if is_word(line, word, words::OK) {
-        return Some(Found {
-            value: Verb::Ok,
-            next: word.end,
-        });
-    }
-    None
-}
-
-fn field_at(line: &[u8], at: usize) -> Option<Found<Field>>
-    ensures { result ≡ read_of field_in (field line.now at) }
-{
-    let word = name(line, at)?;
-    let i = word_mark(line, word.end, words::MAPS_TO)?;
-    let read = integer(line, i)?;
-    Some(Found {
-        value: Field {
-            name: word,
-            value: read.value,
-        },
-        next: read.next,
-    })
-}
-
 // ---- a tick or a jump
 
-// `T]` and the line's end, after `[TICK`.
-fn jump_end(line: &[u8], at: usize) -> Option<Request>
-    ensures { asked_in result ≡ given request_of (jump_end line.now at) }
-{
-    let clock = integer(line, at)?;
-    let i = mark(line, clock.next, b"]")?;
-    if ends(line, i) {
-        return Some(Request::Jump(clock.value));
+impl Reader<'_> {
+    // `T]` and the line's end, after `[TICK`.
+    fn jump_end(&mut self) -> Option<Request>
+        ensures { asked_in result ≡ given request_of (jump_end self.old.line.now self.old.at) }
+    {
+        let clock = self.integer()?;
+        self.mark(b"]")?;
+        if self.ends() {
+            return Some(Request::Jump(clock));
+        }
+        None
     }
-    None
 }
 
-// `[TICK]` or `[TICK T]`
-fn time_line(line: &[u8]) -> Option<Request>
-    ensures { asked_in result ≡ given request_of (tick_line line.now 0) }
-{
-    let i = mark(line, 0, b"[")?;
-    let word = name(line, i)?;
-    if is_word(line, word, words::TICK) {
-        let Some(j) = mark(line, word.end, b"]") else {
-            return jump_end(line, word.end);
+impl Short<'_> {
+    // `[TICK]` or `[TICK T]`
+    fn time_line(&self) -> Option<Request>
+        ensures { asked_in result ≡ given request_of (tick_line self.now.line.now 0) }
+    {
+        let mut reader = Reader {
+            line: self.line,
+            at: 0,
         };
-        if ends(line, j) {
-            return Some(Request::Tick);
+        reader.mark(b"[")?;
+        let word = reader.name()?;
+        if reader.is_word(word, words::TICK) {
+            if reader.mark(b"]").is_none() {
+                return reader.jump_end();
+            }
+            if reader.ends() {
+                return Some(Request::Tick);
+            }
         }
+        None
     }
-    None
 }
 
 // ---- a call
 
-// `Party : function`
-fn call_names(line: &[u8]) -> Option<Names>
-    ensures { result ≡ given names_in (names line.now 0) }
-{
-    let party = name(line, 0)?;
-    let i = mark(line, party.end, b":")?;
-    let function = name(line, i)?;
-    Some(Names { party, function })
+impl Integers<'_> {
+    // One integer more; without room it is counted alone.
+    fn add(&mut self, z: i64)
+        requires { self.old.count < 2 ^ 63 }
+        ensures value { integers_in self.new ≡ with_integers (integers_in self.old) (z ∷ []) }
+        ensures same_list { SameList self.old self.new }
+    {
+        let at = self.count;
+        items::set(self.all, at, z);
+        self.count = at + 1;
+    }
 }
 
-// One integer more; without room it is counted alone.
-fn add_integer(out: &mut Integers, z: i64)
-    requires { out.old.count < 2 ^ 63 }
-    ensures value { integers_in out.new ≡ with_integers (integers_in out.old) (z ∷ []) }
-    ensures same_list { SameList out.old out.new }
-{
-    let at = out.count;
-    items::set(out.all, at, z);
-    out.count = at + 1;
+impl Reader<'_> {
+    // One integer or more with commas between them, then the closing mark.
+    // Kept: (d) a plain loop, here, in `fields` and in `parts`: an item is read before it is asked whether another follows, and what stands in
+    // place of another is the answer; what is no item ends it by `?`.
+    fn integers(&mut self, close: u8, out: &mut Integers) -> Option<()>
+        requires { out.old.count ≤ self.old.at }
+        ensures value { Added (with_integers (integers_in out.old)) (λ s. items s (integer s) (44 ∷ []) (mark s (close ∷ [])) (length s)) (spot self.old) result (spot self.new) (integers_in out.new) }
+        ensures same_list { SameList out.old out.new }
+    {
+        loop {
+            out.add(self.integer()?);
+            if self.mark(b",").is_none() {
+                return self.mark(&[close]);
+            }
+        }
+    }
+
+    // A list of integers between two marks, maybe empty.
+    fn integer_list(&mut self, opening: u8, close: u8, out: &mut Integers) -> Option<()>
+        requires { out.old.count ≤ self.old.at }
+        ensures value { Added (with_integers (integers_in out.old)) (λ s. list s (opening ∷ []) (integer s) (close ∷ [])) (spot self.old) result (spot self.new) (integers_in out.new) }
+        ensures same_list { SameList out.old out.new }
+    {
+        self.mark(&[opening])?;
+        if self.mark(&[close]).is_some() {
+            return Some(());
+        }
+        self.integers(close, out)
+    }
 }
 
-// One integer or more with commas between them, then the closing mark. Each takes a byte, so as many turns as the line has are enough.
-fn integers_from(line: &[u8], at: usize, close: &[u8], out: &mut Integers) -> Option<usize>
-    requires { (out.old.count ≤ at) × (0 < length close.now) }
-    ensures value { Added (with_integers (integers_in out.old)) (items line.now (integer line.now) (44 ∷ []) (mark line.now close.now) (length line.now) at) result (integers_in out.new) }
-    ensures same_list { SameList out.old out.new }
-{
-    let mut i = at;
-    // A bound on the turns, here and below: no turn uses its number.
-    for turn in 0..line.len() {
-        let read = integer(line, i)?;
-        add_integer(out, read.value);
-        let Some(after) = mark(line, read.next, b",") else {
-            return mark(line, read.next, close);
+impl Short<'_> {
+    // `Party : function`, its two lists, whose integers are stored into the lent list, and the line's end.
+    fn call_line(&self, numbers: &mut [i64; Line::NUMBERS]) -> Option<Call>
+        ensures { CallIs (call_line self.now.line.now 0) result numbers.new }
+    {
+        let mut reader = Reader {
+            line: self.line,
+            at: 0,
         };
-        i = after;
+        let party = reader.name()?;
+        reader.mark(b":")?;
+        let function = reader.name()?;
+        let mut read = Integers {
+            count: 0,
+            all: numbers,
+        };
+        reader.integer_list(b'(', b')', &mut read)?;
+        let values = read.count;
+        reader.integer_list(b'[', b']', &mut read)?;
+        if !reader.ends() {
+            return None;
+        }
+        Some(Call {
+            party,
+            function,
+            values,
+            assets: read.count - values,
+        })
     }
-    None
-}
-
-// A list of integers between two marks, maybe empty.
-fn integer_list(
-    line: &[u8],
-    at: usize,
-    opening: &[u8],
-    close: &[u8],
-    out: &mut Integers,
-) -> Option<usize>
-    requires { (out.old.count ≤ at) × (0 < length opening.now) × (0 < length close.now) }
-    ensures value { Added (with_integers (integers_in out.old)) (list line.now opening.now (integer line.now) close.now at) result (integers_in out.new) }
-    ensures same_list { SameList out.old out.new }
-{
-    let i = mark(line, at, opening)?;
-    match mark(line, i, close) {
-        None => integers_from(line, i, close, out),
-        end => end,
-    }
-}
-
-// A call: its names, its two lists, whose integers are stored into the lent list, and the line's end.
-// Kept: (d) this, `part`, `parts` and `other` require a short line, which `requested` and `agreement_of` test. A type for a short line would
-// be taken apart ten times in these, at each call of what reads any line.
-fn call_line(line: &[u8], numbers: &mut [i64; Line::NUMBERS]) -> Option<Call>
-    requires { length line.now ≤ 512 }
-    ensures { CallIs (call_line line.now 0) result numbers.new }
-{
-    let names = call_names(line)?;
-    let mut read = Integers {
-        count: 0,
-        all: numbers,
-    };
-    let i = integer_list(line, names.function.end, b"(", b")", &mut read)?;
-    let values = read.count;
-    let j = integer_list(line, i, b"[", b"]", &mut read)?;
-    if !ends(line, j) {
-        return None;
-    }
-    Some(Call {
-        party: names.party,
-        function: names.function,
-        values,
-        assets: read.count - values,
-    })
 }
 
 // ---- an agreement
 
-// One field more; without room it is counted alone.
-fn add_field(out: &mut Agreement, field: Field)
-    requires { out.old.fields < 2 ^ 63 }
-    ensures { out.new ≡ with_fields out.old (field_from field ∷ []) }
-{
-    let span = [field.name.start, field.name.end];
-    items::store_all(&mut out.spans, 2 * out.fields, &span);
-    items::set(&mut out.values, out.fields, field.value);
-    out.fields += 1;
-}
-
-// One field or more with commas between them, then `]`.
-// Kept: (d) this, `field_list` and `part` take a line, a place and what is filled: a struct of line and agreement would be taken apart at each
-// call of `name`, `mark` and `verb_at`, which fill nothing. This and `integers_from`, `field_list` and `integer_list` differ in the item's type
-// and in what is filled: one function would take a closure that reads an item, one that adds it, and a clause of what they do, for two callers.
-fn fields_from(line: &[u8], at: usize, out: &mut Agreement) -> Option<usize>
-    requires { out.old.fields ≤ at }
-    ensures { Added (with_fields out.old) (items line.now (field line.now) (44 ∷ []) (mark line.now (93 ∷ [])) (length line.now) at) result out.new }
-{
-    let mut i = at;
-    for turn in 0..line.len() {
-        let read = field_at(line, i)?;
-        add_field(out, read.value);
-        let Some(after) = mark(line, read.next, b",") else {
-            return mark(line, read.next, b"]");
-        };
-        i = after;
+impl Agreement {
+    // One field more; without room it is counted alone.
+    fn add_field(&mut self, field: Field)
+        requires { self.old.fields < 2 ^ 63 }
+        ensures { self.new ≡ with_fields self.old (field_from field ∷ []) }
+    {
+        let span = [field.name.start, field.name.end];
+        items::store_all(&mut self.spans, Agreement::SPAN * self.fields, &span);
+        items::set(&mut self.values, self.fields, field.value);
+        self.fields += 1;
     }
-    None
-}
 
-// A part's fields in brackets, maybe none.
-fn field_list(line: &[u8], at: usize, out: &mut Agreement) -> Option<usize>
-    requires { out.old.fields ≤ at }
-    ensures { Added (with_fields out.old) (list line.now (91 ∷ []) (field line.now) (93 ∷ []) at) result out.new }
-{
-    let i = mark(line, at, b"[")?;
-    match mark(line, i, b"]") {
-        None => fields_from(line, i, out),
-        end => end,
+    // The four numbers of one part more.
+    fn add_head(&mut self, party: Span, verb: Verb, count: usize)
+        requires { self.old.parts ≤ 512 }
+        ensures { self.new ≡ with_head self.old (party.start ∷ party.end ∷ verb_word verb ∷ count ∷ []) }
+    {
+        let head = [party.start, party.end, verb as usize, count];
+        items::store_all(&mut self.heads, Agreement::HEAD * self.parts, &head);
+        self.parts += 1;
     }
 }
 
-// The four numbers of one part more.
-fn add_head(out: &mut Agreement, party: Span, verb: Verb, count: usize)
-    requires { out.old.parts ≤ 512 }
-    ensures { out.new ≡ with_head out.old (party.start ∷ party.end ∷ verb_word verb ∷ count ∷ []) }
-{
-    let head = [party.start, party.end, verb as usize, count];
-    items::store_all(&mut out.heads, 4 * out.parts, &head);
-    out.parts += 1;
+impl Reader<'_> {
+    // One field or more with commas between them, then `]`.
+    // Kept: (d) this and `integers`, `field_list` and `integer_list` differ in the item's type and in what is filled: one function for two would
+    // take a closure that reads an item and adds it, and a clause of what that does, in place of the four lines here.
+    fn fields(&mut self, out: &mut Agreement) -> Option<()>
+        requires { out.old.fields ≤ self.old.at }
+        ensures { Added (with_fields out.old) (λ s. items s (field s) (44 ∷ []) (mark s (93 ∷ [])) (length s)) (spot self.old) result (spot self.new) out.new }
+    {
+        loop {
+            out.add_field(self.field()?);
+            if self.mark(b",").is_none() {
+                return self.mark(b"]");
+            }
+        }
+    }
+
+    // A part's fields in brackets, maybe none.
+    fn field_list(&mut self, out: &mut Agreement) -> Option<()>
+        requires { out.old.fields ≤ self.old.at }
+        ensures { Added (with_fields out.old) (λ s. list s (91 ∷ []) (field s) (93 ∷ [])) (spot self.old) result (spot self.new) out.new }
+    {
+        self.mark(b"[")?;
+        if self.mark(b"]").is_some() {
+            return Some(());
+        }
+        self.fields(out)
+    }
+
+    // One part more.
+    fn part(&mut self, out: &mut Agreement) -> Option<()>
+        requires { (length self.old.line.now ≤ 512) × (out.old.parts ≤ self.old.at) × (out.old.fields ≤ self.old.at) }
+        ensures { Added (with_part out.old) part (spot self.old) result (spot self.new) out.new }
+    {
+        let party = self.name()?;
+        let verb = self.verb()?;
+        let before = out.fields;
+        self.field_list(out)?;
+        let count = out.fields - before;
+        out.add_head(party, verb, count);
+        Some(())
+    }
 }
 
-// One part more.
-fn part(line: &[u8], at: usize, out: &mut Agreement) -> Option<usize>
-    requires { (length line.now ≤ 512) × (out.old.parts ≤ at) × (out.old.fields ≤ at) }
-    ensures { Added (with_part out.old) (part line.now at) result out.new }
-{
-    let party = name(line, at)?;
-    let verb = verb_at(line, party.end)?;
-    let before = out.fields;
-    let next = field_list(line, verb.next, out)?;
-    add_head(out, party, verb.value, out.fields - before);
-    Some(next)
-}
-
-// Nothing.
+// No parts yet.
 fn no_agreement() -> Agreement
     ensures { result ≡ agreement_of [] }
 {
@@ -437,48 +460,49 @@ fn no_agreement() -> Agreement
     }
 }
 
-// All parts, up to the line's end.
-fn parts(line: &[u8]) -> Option<Agreement>
-    requires { length line.now ≤ 512 }
-    ensures { result ≡ given agreement_of (parts line.now 0) }
-{
-    let mut read = no_agreement();
-    let mut i = 0;
-    for turn in 0..line.len() {
-        let next = part(line, i, &mut read)?;
-        let Some(after) = word_mark(line, next, words::OR) else {
-            return ends(line, next).then_some(read);
+impl Short<'_> {
+    // All parts, up to the line's end.
+    // Kept: (d) a plain loop, as in `integers`.
+    fn parts(&self) -> Option<Agreement>
+        ensures { result ≡ given agreement_of (parts self.now.line.now 0) }
+    {
+        let mut reader = Reader {
+            line: self.line,
+            at: 0,
         };
-        i = after;
+        let mut read = no_agreement();
+        loop {
+            reader.part(&mut read)?;
+            if reader.word_mark(words::OR).is_none() {
+                return reader.ends().then_some(read);
+            }
+        }
     }
-    None
 }
 
-// The parts of an agreement; nothing for any other line. A line that agrees is read twice, by `read` and by this: an answer of `read` has no
+// The parts of an agreement; none for any other line. A line that agrees is read twice, by `read` and by this: an answer of `read` has no
 // room for its parts, which would be cleared at each line, and a contract is agreed on once.
-pub fn agreement_of(line: &[u8]) -> Agreement
-    ensures { result ≡ agreement_of (parts_of (asked line.now)) }
+pub fn agreement_of(line: &[u8]) -> Option<Agreement>
+    ensures { result ≡ agreement_in (asked line.now) }
 {
-    if Line::BYTES < line.len() {
-        return no_agreement();
-    }
-    parts(line).unwrap_or_else(no_agreement)
+    Short::of(line)?.parts()
 }
 
 // ---- a line
 
-// A line that is no tick, no jump and no call.
-// Kept: (b) apart from `requested`, since the room for an agreement's parts is cleared at each call of the function that has it: with this in
-// there a desk takes twice the instructions for a session of calls and ticks (two builds without proof of one tree).
-fn other(line: &[u8]) -> Result<Request, Question>
-    requires few { length line.now ≤ 512 }
-    requires no_time { None ≡ given request_of (tick_line line.now 0) }
-    requires no_call { None ≡ given request_of (call_line line.now 0) }
-    ensures { result ≡ request_of (asked line.now) }
-{
-    parts(line)
-        .map(|_| Request::Agreement)
-        .ok_or(Question::LineForm)
+impl Short<'_> {
+    // A line that is no tick, no jump and no call.
+    // Kept: (b) apart from `requested`, since the room for an agreement's parts is cleared at each call of the function that has it: with this in
+    // there a desk takes twice the instructions for a session of calls and ticks (two builds without proof of one tree).
+    fn other(&self) -> Result<Request, Question>
+        requires no_time { None ≡ given request_of (tick_line self.now.line.now 0) }
+        requires no_call { None ≡ given request_of (call_line self.now.line.now 0) }
+        ensures { result ≡ request_of (asked self.now.line.now) }
+    {
+        self.parts()
+            .map(|_| Request::Agreement)
+            .ok_or(Question::LineForm)
+    }
 }
 
 // What a line asks for; a call's integers come first in the lent list.
@@ -486,16 +510,16 @@ fn requested(line: &[u8], numbers: &mut [i64; Line::NUMBERS]) -> Result<Request,
     ensures value { result ≡ request_of (asked line.now) }
     ensures numbers_first { take (length (numbers_of (asked line.now))) numbers.new ≡ numbers_of (asked line.now) }
 {
-    if Line::BYTES < line.len() {
+    let Some(short) = Short::of(line) else {
         return Err(Question::LineLength);
-    }
-    if let Some(request) = time_line(line) {
+    };
+    if let Some(request) = short.time_line() {
         return Ok(request);
     }
-    if let Some(call) = call_line(line, numbers) {
+    if let Some(call) = short.call_line(numbers) {
         return Ok(Request::Call(call));
     }
-    other(line)
+    short.other()
 }
 
 // How many integers it has.

@@ -1,14 +1,15 @@
 -- The loops that put the kept events in front: one turn, and the end. Assumes nothing.
 use mathlib.Core.Path.{◌≡◌, refl, sym, ap, subst, ◌∙◌}
 use mathlib.Core.Bool.{Bool, true, false}
-use mathlib.Core.List.{List, [], ◌∷◌, ◌++◌, append-nil, append_assoc}
+use mathlib.Core.List.{List, [], ◌∷◌, ◌++◌, append-nil}
 use Prim.Native.Nat.{ℕ, zero, suc, ◌+◌, ◌-◌, ◌<◌, ◌≤◌}
 use native.Mathlib.Numerals.{add-one}
 use native.Mathlib.Omega.{arith}
-use lib.ListN.{length, take, drop, get_or, set, length-append}
-use lib.Seq.{take-suc, set-append_seam, append_snoc}
+use lib.ListN.{length, take, drop, get_or, set, replicate, length-append, length-take, length-drop, drop_of_length-le}
+use lib.Seq.{take-suc, take-take, take_all, set-append_seam, append_snoc, paste, take-paste}
+use Rattle.std.proofs.lemmas.List.{drop-take}
 use Rattle.laws.specs.Choice.{pick}
-use Rattle.state.specs.States.{max_pending, blank, with_times}
+use Rattle.state.specs.States.{max_pending, blank, live, with_times, with_pending, removed}
 use Rattle.laws.specs.Lists.{repeated, keep}
 use Rattle.state.specs.declared.Pending.{Pending}
 use Rattle.state.specs.declared.State.{State}
@@ -45,21 +46,50 @@ pub held : {ps out : List Pending} {count : ℕ} (s : State) (clock : ℕ) → H
     → with_times s clock count out ≡ with_times s clock (length ps) (ps ++ repeated (max_pending - length ps) blank)
 held s clock h = λ i. with_times s clock (h.many i) (h.slots i)
 
--- ---- two lists put into blank slots, one behind the other
-drop_repeated : {A : Type 0} (k n : ℕ) (x : A) → drop k (repeated n x) ≡ repeated (n - k) x
+-- ---- the slots after the last pending event made blank
+replicated : {A : Type 0} (n : ℕ) (x : A) → replicate n x ≡ repeated n x
 unfolding repeated
-drop_repeated zero n x = let z : n ≡ n - 0 = omega arith in ap (λ (m : ℕ). repeated m x) z
-drop_repeated (suc k) zero x = let z : 0 ≡ 0 - suc k = omega arith in ap (λ (m : ℕ). repeated m x) z
-drop_repeated (suc k) (suc n) x = let z : n - k ≡ suc n - suc k = omega arith in drop_repeated k n x ∙ ap (λ (m : ℕ). repeated m x) z
+replicated zero x = refl
+replicated (suc n) x = ap (λ l. x ∷ l) (replicated n x)
 
--- two lists put, one after the other, over blank slots
-pub put_both : (n : ℕ) (a b x y : List Pending) → length a + length b ≤ n → x ≡ a → y ≡ b ++ drop (length b) (drop (length a) (repeated n blank))
-    → x ++ y ≡ (a ++ b) ++ repeated (n - length (a ++ b)) blank
-put_both n a b x y h e f =
-    let k : n - length a - length b ≡ n - length (a ++ b) = simp length-append (omega arith) in
-    let back : drop (length b) (drop (length a) (repeated n blank)) ≡ repeated (n - length (a ++ b)) blank =
-    ap (drop (length b)) (drop_repeated (length a) n blank) ∙ drop_repeated (length b) (n - length a) blank ∙ ap (λ (m : ℕ). repeated m blank) k in
-    (λ i. e i ++ (f ∙ ap (λ (l : List Pending). b ++ l) back) i) ∙ sym (append_assoc a b _)
+taken_again : {A : Type 0} (n : ℕ) (l : List A) → take (length (take n l)) l ≡ take n l
+taken_again zero l = refl
+taken_again (suc n) [] = refl
+taken_again (suc n) (x ∷ l) = ap (λ r. x ∷ r) (taken_again n l)
+
+pub rest_blank : (s : State) (n m : ℕ) (rest after : List Pending) → n ≡ length (live s) → m ≡ 64 - n → rest ≡ replicate m blank → after ≡ []
+    → with_times s s.clock n (take n s.events ++ (rest ++ after)) ≡ with_pending s (live s)
+unfolding with_pending
+rest_blank s n m rest after en em er ea =
+    let e : rest ++ after ≡ repeated (64 - n) blank = (λ i. er i ++ ea i) ∙ append-nil _ ∙ replicated m blank ∙ ap (λ (k : ℕ). repeated k blank) em in
+    (λ i. with_times s s.clock n (take n s.events ++ e i))
+    ∙ (λ i. with_times s s.clock (en i) (take (en i) s.events ++ repeated (64 - en i) blank))
+    ∙ ap (λ (l : List Pending). with_times s s.clock (length (live s)) (l ++ repeated (64 - length (live s)) blank)) (taken_again s.pending s.events)
+
+-- ---- all but the one at a place
+abbrev pub without : {A : Type 0} → ℕ → List A → List A
+without i l = take i l ++ drop (suc i) l
+
+pub copied_down : {A : Type 0} (l : List A) (i n : ℕ) → i < n → n ≤ length l → take (n - 1) (paste l i (drop (i + 1) l) (n - (i + 1))) ≡ without i (take n l)
+copied_down l i n h k =
+    let m : n - 1 ≡ i + (n - (i + 1)) = omega arith in
+    let e : n ≡ i + 1 + (n - (i + 1)) = omega arith in
+    ap (λ (j : ℕ). take j (paste l i (drop (i + 1) l) (n - (i + 1)))) m
+    ∙ take-paste l i (drop (i + 1) l) (n - (i + 1)) (omega arith) (simp length-drop (omega arith))
+    ∙ (λ j. sym (take-take i n l (omega arith)) j ++ sym (drop-take (i + 1) (n - (i + 1)) l) j)
+    ∙ (λ j. take i (take n l) ++ drop (add-one i j) (take (sym e j) l))
+
+-- of a state, its slots being moved one down from the event after it on
+pub taken_out : (s : State) (i n : ℕ) (slots : List Pending) → i < n → n ≡ length (live s) → length s.events ≡ 64
+    → slots ≡ paste s.events i (drop (i + 1) s.events) (n - (i + 1)) → with_pending (with_times s s.clock (n - 1) slots) (take (n - 1) slots) ≡ removed s i
+unfolding removed with_pending
+taken_out s i n slots h en el es =
+    let k : n ≤ length s.events = let f : length (live s) ≤ length s.events = simp length-take (omega arith) in omega (arith, f) in
+    ap (with_pending s) (ap (take (n - 1)) es ∙ copied_down s.events i n h k ∙ ap (λ (j : ℕ). without i (take j s.events)) en ∙ ap (without i) (taken_again s.pending s.events))
+
+pub past_last : (s : State) (i : ℕ) → length (live s) ≤ i → with_pending s (live s) ≡ removed s i
+unfolding removed
+past_last s i h = ap (with_pending s) (sym ((λ j. take_all i (live s) h j ++ drop_of_length-le (live s) {i = suc i} (omega (arith, h)) j) ∙ append-nil (live s)))
 
 -- ---- one more of a list's first elements
 pub one_more : {A : Type 0} (l : List A) (i : ℕ) (d : A) → i < length l → take (i + 1) l ≡ take i l ++ (get_or l i d ∷ [])
@@ -90,7 +120,3 @@ module _ {A : Type 0} (p : A → Bool) where
 
     pub more_no : p (get_or l i d) ≡ false → keep p (take i l) ≡ keep p (take (i + 1) l)
     more_no e = sym (ap (keep p) (one_more l i d h) ∙ keep_no (take i l) (get_or l i d) e)
-
--- ---- all but the one at a place
-abbrev pub without : {A : Type 0} → ℕ → List A → List A
-without i l = take i l ++ drop (suc i) l

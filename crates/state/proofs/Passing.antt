@@ -4,9 +4,10 @@ use mathlib.Core.Bool.{Bool, true, false, not, ◌&&◌}
 use mathlib.Core.List.{List, [], ◌∷◌, ◌++◌}
 use Prim.Native.Nat.{ℕ, zero, suc, ◌+◌, ◌-◌, ◌<◌, ◌≤◌}
 use native.Mathlib.Nat.{add-zero}
+use native.Mathlib.Numerals.{add-one}
 use native.Mathlib.Omega.{arith}
-use lib.ListN.{length, take, get_or, length-take}
-use lib.Seq.{take_all}
+use lib.ListN.{length, take, drop, get_or, length-take, drop_of_length-le}
+use lib.Seq.{take_all, drop-cons}
 use lib.Dec.{eqb, leb, ltb}
 use borrow.Author.Tests.{lt-ltb, le-ltb, le-leb, lt-leb, ltb-true, ltb-false, leb-true, leb-false, eqb-true, eqb-false, eq-eqb, ne_eqb}
 use Rattle.laws.specs.Choice.{pick}
@@ -18,7 +19,7 @@ use Rattle.contract.specs.Limits.{top}
 use Rattle.contract.specs.Tree.{Contract}
 use Rattle.state.specs.declared.State.{State}
 use Rattle.state.specs.declared.Pending.{Pending}
-use Rattle.std.specs.Prelude.{Option, Some, None}
+use Rattle.std.specs.Prelude.{Option, Some, None, fold}
 use Rattle.state.specs.States.{max_pending, blank, live, event_of, field_slot_ok, asset_slot_ok, pending_ok, state_ok, is_due, due_in, pending_at, with_pending, with_times, later, lapsed, time_passed, passed_times, unless_due, times_until_due, FirstStop}
 use Rattle.state.specs.Private.{not_dropped, comes_due, due_at}
 use Rattle.state.proofs.Kept.{one_more}
@@ -336,6 +337,24 @@ module _ (c : Contract) (state clock : ℕ) where
           let d : p.time ≡ t = eqb-true p.time t b.0 in
           true_false (sym (comes_so stop p (omega arith) (omega arith) (eqb-true (event_of c p).state state b.1)) ∙ e)
       go false q = refl
+
+-- one event after another
+abbrev pub soonest_yet : Contract → ℕ → ℕ → ℕ → Pending → ℕ
+soonest_yet c state clock stop p = pick (comes_due c state clock stop p) p.time stop
+
+module _ (c : Contract) (state clock to : ℕ) (l : List Pending) where
+  soonest_rest : (n i stop : ℕ) → i + n ≡ length l → Soonest c state clock to l i stop
+      → Soonest c state clock to l (length l) (fold (soonest_yet c state clock) stop (drop i l))
+  soonest_rest zero i stop e h =
+      let k : length l ≤ i = omega arith in
+      rw (drop_of_length-le l k) (subst (λ (j : ℕ). Soonest c state clock to l j stop) (omega arith) h)
+  soonest_rest (suc n) i stop e h =
+      let m : i < length l = omega arith in
+      rw (drop-cons l i blank m)
+      (rw (sym (add-one i)) (soonest_rest n (i + 1) (soonest_yet c state clock stop (get_or l i blank)) (omega arith) (soonest_more c state clock to l i stop h m)))
+
+  pub soonest_all : clock ≤ to → Soonest c state clock to l (length l) (fold (soonest_yet c state clock) to l)
+  soonest_all h = soonest_rest (length l) 0 to (omega arith) (soonest_none c state clock to l h)
 
 module _ (c : Contract) (s : State) (to i stop : ℕ) (h : Soonest c s.state s.clock to (live s) i stop) (k : length (live s) ≤ i) where
   there : s.clock + (stop - s.clock) ≡ stop

@@ -1,13 +1,8 @@
 -- Which pending event is due, which takes another's place, and which of them time passing drops or meets.
-use Rattle.std.specs.Prelude.{Bool, true, ◌&&◌, ◌||◌, ℕ, ◌-◌, List, ◌++◌, length, eqb, leb, ltb, Option, Some, None}
-use Rattle.laws.specs.Lists.{repeated}
+use Rattle.std.specs.Prelude.{Bool, true, ◌&&◌, ◌||◌, ℕ, eqb, leb, ltb, Option, Some, None}
 use Rattle.contract.specs.Tree.{Contract}
-use Rattle.state.specs.States.{max_pending, blank, event_of, stands_before}
+use Rattle.state.specs.States.{event_of, stands_before}
 use Rattle.state.specs.declared.Pending.{Pending}
-
--- these pending events, blank slots after them
-abbrev pub slots_with : List Pending → List Pending
-slots_with ps = ps ++ repeated (max_pending - length ps) blank
 
 -- an event of this time is not dropped while the clock rises from one value to another
 unfoldable pub not_dropped : ℕ → ℕ → ℕ → Bool

@@ -1,13 +1,13 @@
-// The state of a contract, handed on by value.
+// The state of a contract: the public steps take one and give one, and below them it is lent.
 #![tactic(auto)]
 
-ghost use Rattle.std.specs.Prelude.{◌≡◌, true, ◌&&◌, ◌+◌, ◌-◌, ◌≤◌, ◌++◌, eqb, leb, ltb, length, take, drop};
+ghost use Rattle.std.specs.Prelude.{◌≡◌, true, ◌&&◌, ◌+◌, ◌-◌, ◌≤◌, eqb, leb, ltb, length};
 ghost use Rattle.laws.specs.Choice.{pick};
 ghost use Rattle.contract.specs.Limits.{top, max_fields, max_assets};
 ghost use Rattle.laws.specs.Lists.{all_below};
 ghost use Rattle.contract.specs.Decode.{contract_of};
-ghost use Rattle.state.specs.States.{fresh_at, event_of, row_of, field_ok, field_slot_ok, asset_slot_ok, max_pending, pending_ok, is_blank, pending_slot_ok, state_ok, stands_before, due_in, live, removed, joined_by, passed_times, times_until_due};
-ghost use Rattle.state.specs.Private.{slots_with, not_dropped, comes_due, due_at, takes_over};
+ghost use Rattle.state.specs.States.{fresh_at, event_of, row_of, field_ok, field_slot_ok, asset_slot_ok, max_pending, pending_ok, is_blank, pending_slot_ok, state_ok, stands_before, due_in, live, with_pending, removed, joined_by, passed_times, times_until_due};
+ghost use Rattle.state.specs.Private.{not_dropped, comes_due, due_at, takes_over};
 
 use contract::{Contract, Event};
 use evaluation::FieldKind;
@@ -27,7 +27,9 @@ const BLANK: Pending = Pending {
     time: 0,
 };
 
-// Kept: (a) a state goes by value in fixed memory without heap: arrays by column in the narrowest types, and how many slots are in use.
+// Kept: (a) a state goes by value in fixed memory without heap: arrays by column in the narrowest types (docs/DECISIONS.md 20), and how many slots
+// are in use. Its fields are public: callers fill them, and the definitions of agreements, steps, history and the published rules name them, so
+// that a struct of the three columns, some twenty lines less in machine, holdings and statements, would be another state for all of these.
 // Callers hand in any such struct and question 4 judges it, so that `agreed` and the counts are no `Option` and no type that says less.
 #[derive(Clone, Copy)]
 pub struct State {
@@ -52,6 +54,7 @@ impl State {
     pub const TOP: u64 = Contract::TOP;
 
     // The fresh state at a clock.
+    #[tactic(auto, unfolding(crate::specs::States::fresh_at, laws::specs::Lists::repeated))]
     pub fn fresh(clock: u64) -> State
         ensures { result ≡ fresh_at clock }
     {
@@ -77,31 +80,95 @@ impl State {
     }
 }
 
-// ---- Rows.
+// ---- A pending event.
 
-// The row of a pending event; none where the contract has no such event. A row past the table's end holds zeros.
-pub fn event_row(table: &[u64], p: Pending) -> Option<Event>
-    ensures { result ≡ row_of table.now p }
-{
-    let function = p.function as usize;
-    let event = p.event as usize;
-    let c = contract::head(table);
-    if c.functions <= function {
-        return None;
+impl Pending {
+    // Its row; none where the contract has no such event. A row past the table's end holds zeros, and no table is so long that the greatest place is
+    // in it.
+    #[tactic(auto, using(crate::proofs::Rows::row_at_most), unfolding(crate::specs::States::row_of, laws::specs::Choice::pick))]
+    pub fn row(self, table: &[u64]) -> Option<Event>
+        ensures { result ≡ row_of table.now self }
+    {
+        let function = self.function as usize;
+        let event = self.event as usize;
+        if contract::head(table).functions <= function {
+            return None;
+        }
+        let row = contract::function_at(table, function);
+        if row.events <= event {
+            return None;
+        }
+        Some(contract::event_at(table, row.event.saturating_add(event)))
     }
-    let row = contract::function_at(table, function);
-    if row.events <= event {
-        return None;
+
+    // Its state; 0 where the contract has no such event.
+    // Kept: (a) `first_due` and `next_stop` are public, of any state, and by their definition an event that is not there has state 0 (`no_event`):
+    // with `is_some_and` none such would be due in state 0, where the definition says that it is.
+    fn state(self, table: &[u64]) -> usize
+        ensures { result ≡ (event_of (contract_of table.now) self).state }
+    {
+        self.row(table).map_or(0, |e| e.state)
     }
-    let first = row.event;
-    if table.len() <= first {
-        return Some(Event {
-            state: 0,
-            last: 0,
-            node: 0,
-        });
+
+    // Whether it is of the contract, and its time not before the clock.
+    #[tactic(auto, using(crate::proofs::Rows::timely, crate::proofs::Rows::untimely), unfolding(crate::specs::States::pending_ok))]
+    fn is_ok(self, table: &[u64], clock: u64) -> bool
+        ensures { result ≡ pending_ok (contract_of table.now) clock self }
+    {
+        clock <= self.time && self.time <= State::TOP && self.row(table).is_some()
     }
-    Some(contract::event_at(table, first + event))
+
+    // Whether its slot is as it should be, in use or not.
+    #[tactic(auto, unfolding(laws::specs::Choice::pick, crate::specs::States::is_blank))]
+    fn slot_ok(self, table: &[u64], has: bool, clock: u64) -> bool
+        ensures { result ≡ pick has (pending_ok (contract_of table.now) clock self) (is_blank self) }
+    {
+        if has {
+            self.is_ok(table, clock)
+        } else {
+            self == BLANK
+        }
+    }
+
+    // Whether it stands before another in the contract's text.
+    #[tactic(auto, unfolding(crate::specs::States::stands_before, laws::specs::Choice::pick))]
+    fn stands_before(self, q: Pending) -> bool
+        ensures { result ≡ stands_before self q }
+    {
+        (self.function, self.event) < (q.function, q.event)
+    }
+
+    // Whether it takes the place of what was found so far: of nothing, or of an event that it stands before.
+    fn takes_over(self, found: Option<(usize, Pending)>) -> bool
+        ensures { result ≡ takes_over found self }
+    {
+        found.is_none_or(|(_, first)| self.stands_before(first))
+    }
+
+    // Whether it is due at a clock and in a state.
+    #[tactic(auto, unfolding(crate::specs::Private::due_at))]
+    fn due_at(self, table: &[u64], clock: u64, state: usize) -> bool
+        ensures { result ≡ due_at (contract_of table.now) clock state self }
+    {
+        self.time == clock && self.state(table) == state
+    }
+
+    // Its time where it comes due in this state, from `from` on and before `stop`; else `stop`.
+    #[tactic(auto, unfolding(crate::specs::Private::comes_due, laws::specs::Choice::pick))]
+    fn sooner(self, table: &[u64], state: usize, from: u64, stop: u64) -> u64
+        ensures { result ≡ pick (comes_due (contract_of table.now) state from stop self) self.time stop }
+    {
+        let comes = from <= self.time && self.time < stop && self.state(table) == state;
+        if comes { self.time } else { stop }
+    }
+
+    // Whether it is not dropped while the clock rises from one value to another.
+    #[tactic(auto, unfolding(crate::specs::Private::not_dropped))]
+    fn stays(self, from: u64, to: u64) -> bool
+        ensures { result ≡ not_dropped from to self.time }
+    {
+        self.time < from || to <= self.time
+    }
 }
 
 // ---- Question 4.
@@ -127,20 +194,6 @@ fn field_slot_ok(strings: usize, has: bool, kind: u8, number: i64, text: u8) -> 
     field_ok(strings, kind, number, text) && (has || kind == FieldKind::NOTHING)
 }
 
-// Kept: (d) a range over the slots, here and for the assets and the events below: a slot is tested by its number, and a field stands in three
-// lists.
-fn fields_ok(s: &State, strings: usize, used: usize) -> bool
-    ensures { result ≡ all_below max_fields (field_slot_ok strings used s.now) }
-{
-    (0..Contract::FIELDS).all(|i| field_slot_ok(
-        strings,
-        i < used,
-        s.kinds[i],
-        s.numbers[i],
-        s.texts[i],
-    ))
-}
-
 // The amount of an asset that the contract has, or of a slot beyond its assets.
 #[tactic(auto, unfolding(laws::specs::Choice::pick))]
 fn asset_slot_ok(has: bool, amount: u64) -> bool
@@ -153,239 +206,154 @@ fn asset_slot_ok(has: bool, amount: u64) -> bool
     }
 }
 
-fn assets_ok(s: &State, used: usize) -> bool
-    ensures { result ≡ all_below max_assets (asset_slot_ok used s.now) }
-{
-    (0..Contract::ASSETS).all(|i| asset_slot_ok(i < used, s.assets[i]))
-}
-
-// A pending event: of the contract, its time not before the clock.
-fn pending_ok(table: &[u64], clock: u64, p: Pending) -> bool
-    ensures { result ≡ pending_ok (contract_of table.now) clock p }
-{
-    if event_row(table, p).is_none() {
-        return false;
+impl State {
+    // Kept: (d) a range over the slots, here and for the assets and the events below: a slot is tested by its number, and a field stands in three
+    // lists.
+    fn fields_ok(&self, strings: usize, used: usize) -> bool
+        ensures { result ≡ all_below max_fields (field_slot_ok strings used self.now) }
+    {
+        (0..Contract::FIELDS).all(|i| field_slot_ok(
+            strings,
+            i < used,
+            self.kinds[i],
+            self.numbers[i],
+            self.texts[i],
+        ))
     }
-    clock <= p.time && p.time <= State::TOP
-}
 
-// A slot for a pending event, in use or not.
-#[tactic(auto, unfolding(laws::specs::Choice::pick, crate::specs::States::is_blank))]
-fn pending_slot_ok(table: &[u64], has: bool, clock: u64, p: Pending) -> bool
-    ensures { result ≡ pick has (pending_ok (contract_of table.now) clock p) (is_blank p) }
-{
-    if has {
-        pending_ok(table, clock, p)
-    } else {
-        p == BLANK
+    fn assets_ok(&self, used: usize) -> bool
+        ensures { result ≡ all_below max_assets (asset_slot_ok used self.now) }
+    {
+        (0..Contract::ASSETS).all(|i| asset_slot_ok(i < used, self.assets[i]))
     }
-}
 
-fn events_ok(table: &[u64], s: &State) -> bool
-    ensures { result ≡ all_below max_pending (pending_slot_ok (contract_of table.now) s.now) }
-{
-    (0..State::PENDING).all(|i| pending_slot_ok(table, i < s.pending, s.clock, s.events[i]))
-}
-
-// The state's number; unagreed, 0 and nothing pending.
-#[tactic(auto, unfolding(laws::specs::Choice::pick))]
-fn name_ok(states: usize, agreed: bool, state: usize, pending: usize) -> bool
-    ensures { result ≡ pick agreed (ltb state states) (eqb state 0 && eqb pending 0) }
-{
-    if agreed {
-        state < states
-    } else {
-        state == 0 && pending == 0
+    fn events_ok(&self, table: &[u64]) -> bool
+        ensures { result ≡ all_below max_pending (pending_slot_ok (contract_of table.now) self.now) }
+    {
+        (0..State::PENDING).all(|i| self.events[i].slot_ok(table, i < self.pending, self.clock))
     }
-}
 
-// How many slots a state may use: an unagreed one uses none.
-#[tactic(auto, unfolding(laws::specs::Choice::pick))]
-fn used_of(agreed: bool, n: usize) -> usize
-    ensures { result ≡ pick agreed n 0 }
-{
-    if agreed { n } else { 0 }
-}
-
-// Question 4: whether a state is within its ranges and, unagreed, fresh.
-// Kept: (d) a function of the crate, as are those below, named as the documents' definitions are: as methods of `State` they would read no plainer.
-// Kept: (c) tried as one `&&` of the six tests; the check found no proof of it.
-pub fn state_ok(table: &[u64], s: &State) -> bool
-    ensures { result ≡ state_ok (contract_of table.now) s.now }
-{
-    let c = contract::head(table);
-    if State::TOP < s.clock {
-        return false;
-    }
-    if !name_ok(c.states, s.agreed, s.state, s.pending) {
-        return false;
-    }
-    let too_many = State::PENDING < s.pending;
-    if too_many {
-        return false;
-    }
-    if !fields_ok(s, c.strings, used_of(s.agreed, c.fields)) {
-        return false;
-    }
-    if !assets_ok(s, used_of(s.agreed, c.assets)) {
-        return false;
-    }
-    events_ok(table, s)
-}
-
-// ---- Due.
-
-// The state of a pending event; 0 where the contract has no such event, which question 4 has refused before.
-fn event_state(table: &[u64], p: Pending) -> usize
-    ensures { result ≡ (event_of (contract_of table.now) p).state }
-{
-    event_row(table, p).map_or(0, |e| e.state)
-}
-
-// Whether an event stands before another in the contract's text.
-#[tactic(auto, unfolding(crate::specs::States::stands_before, laws::specs::Choice::pick))]
-fn stands_before(p: Pending, q: Pending) -> bool
-    ensures { result ≡ stands_before p q }
-{
-    (p.function, p.event) < (q.function, q.event)
-}
-
-// Whether an event takes the place of what was found so far: of nothing, or of an event that it stands before.
-fn takes_over(found: Option<(usize, Pending)>, p: Pending) -> bool
-    ensures { result ≡ takes_over found p }
-{
-    found.is_none_or(|(_, first)| stands_before(p, first))
-}
-
-// Whether an event is due at a clock and in a state.
-#[tactic(auto, unfolding(crate::specs::Private::due_at))]
-fn due_at(table: &[u64], clock: u64, state: usize, p: Pending) -> bool
-    ensures { result ≡ due_at (contract_of table.now) clock state p }
-{
-    p.time == clock && event_state(table, p) == state
-}
-
-// The place of the due event that stands first in the contract's text; of several that are the same event, the oldest's.
-// Kept: (c) tried by `filter` and `min_by_key` on the event's place in the text; the check found no proof of it.
-pub fn first_due(table: &[u64], s: &State) -> Option<usize>
-    ensures { result ≡ due_in (contract_of table.now) s.now }
-{
-    let live = s.live();
-    let mut found: Option<(usize, Pending)> = None;
-    for (i, p) in live.iter().enumerate() {
-        if due_at(table, s.clock, s.state, *p) && takes_over(found, *p) {
-            found = Some((i, *p));
+    // Its number; unagreed, 0 and nothing pending.
+    #[tactic(auto, unfolding(laws::specs::Choice::pick))]
+    fn name_ok(&self, states: usize) -> bool
+        ensures { result ≡ pick self.now.agreed (ltb self.now.state states) (eqb self.now.state 0 && eqb self.now.pending 0) }
+    {
+        if self.agreed {
+            self.state < states
+        } else {
+            self.state == 0 && self.pending == 0
         }
     }
-    found.map(|(i, _)| i)
+
+    // How many of n slots it may use: an unagreed one uses none.
+    #[tactic(auto, unfolding(laws::specs::Choice::pick))]
+    fn used(&self, n: usize) -> usize
+        ensures { result ≡ pick self.now.agreed n 0 }
+    {
+        if self.agreed { n } else { 0 }
+    }
+
+    // Question 4: whether it is within its ranges and, unagreed, fresh.
+    pub fn in_range(&self, table: &[u64]) -> bool
+        ensures { result ≡ state_ok (contract_of table.now) self.now }
+    {
+        let c = contract::head(table);
+        let few = self.pending <= State::PENDING;
+        self.clock <= State::TOP
+            && self.name_ok(c.states)
+            && few
+            && self.fields_ok(c.strings, self.used(c.fields))
+            && self.assets_ok(self.used(c.assets))
+            && self.events_ok(table)
+    }
+}
+
+// ---- Due, and time passes.
+
+impl State {
+    // The place of the due event that stands first in the contract's text; of several that are the same event, the oldest's.
+    // Kept: (c) tried by `filter` and `min_by_key` on the event's place in the text: which of two with one key is taken the library's contract tells
+    // by the turns that it makes alone, so that the check found no proof, and one by hand would be this loop's.
+    pub fn first_due(&self, table: &[u64]) -> Option<usize>
+        ensures { result ≡ due_in (contract_of table.now) self.now }
+    {
+        let live = self.live();
+        let mut found: Option<(usize, Pending)> = None;
+        for (i, p) in live.iter().enumerate() {
+            if p.due_at(table, self.clock, self.state) && p.takes_over(found) {
+                found = Some((i, *p));
+            }
+        }
+        found.map(|(i, _)| i)
+    }
+
+    // The first clock value, from its own on, at which an event is due, and `to` if none is due before it; its own where `to` is before that.
+    pub fn next_stop(&self, table: &[u64], to: u64) -> u64
+        ensures { result ≡ self.now.clock + times_until_due (contract_of table.now) (to - self.now.clock) self.now }
+    {
+        if to < self.clock {
+            return self.clock;
+        }
+        self.live().iter().fold(to, |stop, p| p.sooner(table, self.state, self.clock, stop))
+    }
+
+    // Time passes until the clock is `to`; a state at or past it stays as it is.
+    // Kept: (a) a library has no heap, so that the events that stay fill the slots of an array; (d) their count is the state's own word, which a
+    // `filter` zipped with the slots would have to count too.
+    pub fn pass(&mut self, to: u64)
+        ensures { self.new ≡ passed_times (to - self.old.clock) self.old }
+    {
+        let clock = self.clock;
+        if to <= clock {
+            return;
+        }
+        let live = self.live();
+        let mut kept = [BLANK; State::PENDING];
+        let mut count = 0;
+        for p in live {
+            if p.stays(clock, to) {
+                kept[count] = *p;
+                count += 1;
+            }
+        }
+        self.clock = to;
+        self.pending = count;
+        self.events = kept;
+    }
 }
 
 // ---- The pending events change.
 
-// Writes these pending events into the first slots.
-fn put(slots: &mut [Pending], events: &[Pending])
-    requires { length events.now ≤ length slots.old }
-    ensures { slots.new ≡ events.now ++ drop (length events.now) slots.old }
-{
-    slots[..events.len()].copy_from_slice(events);
-}
-
-// The pending events, blank slots after them.
-fn slots_with(first: &[Pending], then: &[Pending]) -> [Pending; State::PENDING]
-    requires { length first.now + length then.now ≤ max_pending }
-    ensures { result ≡ slots_with (first.now ++ then.now) }
-{
-    let mut events = [BLANK; State::PENDING];
-    let (front, rest) = events.split_at_mut(first.len());
-    front.copy_from_slice(first);
-    put(rest, then);
-    events
-}
-
-// The state without the pending event at place i.
-#[tactic(auto, unfolding(crate::specs::States::removed, crate::specs::States::with_pending))]
-pub fn remove(s: &mut State, i: usize)
-    ensures { s.new ≡ removed s.old i }
-{
-    let live = s.live();
-    let n = live.len();
-    if i < n {
-        let events = slots_with(&live[..i], &live[i + 1..]);
-        s.events = events;
-        s.pending = n - 1;
-    } else {
-        let events = slots_with(live, &[]);
-        s.events = events;
-        s.pending = n;
+impl State {
+    // The slots after the last pending event become blank.
+    pub fn clear_rest(&mut self)
+        ensures { self.new ≡ with_pending self.old (live self.old) }
+    {
+        let n = self.live().len();
+        self.events[n..].fill(BLANK);
+        self.pending = n;
     }
-}
 
-// The state with one more pending event, as the youngest, if there is room.
-#[tactic(auto, unfolding(crate::specs::States::joined_by, laws::specs::Choice::pick))]
-pub fn join(s: &mut State, p: Pending)
-    ensures { s.new ≡ joined_by s.old p }
-{
-    if s.pending < State::PENDING {
-        s.events[s.pending] = p;
-        s.pending += 1;
+    // The pending event at place i is taken out; the slots after the last one become blank.
+    pub fn remove(&mut self, i: usize)
+        ensures { self.new ≡ removed self.old i }
+    {
+        let n = self.live().len();
+        if i < n {
+            self.events.copy_within(i + 1..n, i);
+            self.pending = n - 1;
+        }
+        self.clear_rest();
     }
-}
 
-// ---- Time passes.
-
-// Whether an event of this time is not dropped while the clock rises from one value to another.
-#[tactic(auto, unfolding(crate::specs::Private::not_dropped))]
-fn stays(time: u64, from: u64, to: u64) -> bool
-    ensures { result ≡ not_dropped from to time }
-{
-    time < from || to <= time
-}
-
-// The time of an event that comes due in this state, from `from` on and before `stop`; else `stop`.
-#[tactic(auto, unfolding(crate::specs::Private::comes_due, laws::specs::Choice::pick))]
-fn sooner(table: &[u64], p: Pending, state: usize, from: u64, stop: u64) -> u64
-    ensures { result ≡ pick (comes_due (contract_of table.now) state from stop p) p.time stop }
-{
-    let comes = from <= p.time && p.time < stop && event_state(table, p) == state;
-    if comes { p.time } else { stop }
-}
-
-// The first clock value, from the state's on, at which an event is due, and `to` if none is due before it; the state's clock where `to` is before that.
-// Kept: (c) tried by `fold`; the check found no proof of it.
-pub fn next_stop(table: &[u64], s: &State, to: u64) -> u64
-    ensures { result ≡ s.now.clock + times_until_due (contract_of table.now) (to - s.now.clock) s.now }
-{
-    if to < s.clock {
-        return s.clock;
-    }
-    let live = s.live();
-    let mut stop = to;
-    for p in live {
-        stop = sooner(table, *p, s.state, s.clock, stop);
-    }
-    stop
-}
-
-// Time passes until the clock is `to`; a state at or past it stays as it is.
-// Kept: (a) a library has no heap, so that the events that stay fill the slots of an array; (d) their count is the state's own word, which a
-// `filter` zipped with the slots would have to count too.
-pub fn pass(s: &mut State, to: u64)
-    ensures { s.new ≡ passed_times (to - s.old.clock) s.old }
-{
-    let clock = s.clock;
-    if to <= clock {
-        return;
-    }
-    let live = s.live();
-    let mut kept = [BLANK; State::PENDING];
-    let mut count = 0;
-    for p in live {
-        if stays(p.time, clock, to) {
-            kept[count] = *p;
-            count += 1;
+    // One more pending event, as the youngest, if there is room.
+    #[tactic(auto, unfolding(crate::specs::States::joined_by, laws::specs::Choice::pick))]
+    pub fn join(&mut self, p: Pending)
+        ensures { self.new ≡ joined_by self.old p }
+    {
+        if self.pending < State::PENDING {
+            self.events[self.pending] = p;
+            self.pending += 1;
         }
     }
-    s.clock = to;
-    s.pending = count;
-    s.events = kept;
 }

@@ -20,8 +20,7 @@ use Rattle.contract.specs.declared.Node.{Node}
 use Rattle.contract.specs.Tree.{Action, assign, send, move, pay, move_all, pay_all, held}
 use Rattle.contract.specs.Decode.{holder_of, holder_at, expression_at, value_move_at, asset_move_at, whole_move_at}
 use Rattle.evaluation.specs.Meaning.{value_of}
-use Rattle.statements.specs.declared.Work.{Work}
-use Rattle.statements.specs.Running.{memory_in, stopped, stored, sent, receiver, place, moved, paid, with_amount, performed}
+use Rattle.statements.specs.Running.{Work, memory_in, stopped, stored, sent, receiver, place, moved, paid, with_amount, performed}
 use Rattle.statements.specs.Private.{action_at, amount_in, value_given, amount_given, answer_at}
 
 -- ---- the amount

@@ -20,8 +20,7 @@ use Rattle.contract.specs.declared.Node.{Node}
 use Rattle.contract.specs.Decode.{block_between, condition_at}
 use Rattle.contract_laws.proofs.Levels.{block_step}
 use Rattle.evaluation.specs.Meaning.{truth_of}
-use Rattle.statements.specs.declared.Work.{Work}
-use Rattle.statements.specs.Running.{memory_in, stopped, onward, performed, by_truth, ran, work_from}
+use Rattle.statements.specs.Running.{Work, memory_in, stopped, onward, performed, by_truth, ran, work_from}
 use Rattle.statements.specs.Private.{end_before, action_at, statement_at, branched, performed_at}
 
 -- the block before the statement at node k ends there or before

@@ -16,8 +16,7 @@ use Rattle.numbers.specs.Numbers.{Answer, Truth}
 use Rattle.contract.specs.Limits.{top}
 use Rattle.contract.specs.Tree.{Action, held, assign, send, move, pay, move_all, pay_all, Block, none, perform, conditional, broken_block}
 use Rattle.evaluation.specs.Meaning.{value_of, truth_of}
-use Rattle.statements.specs.declared.Work.{Work}
-use Rattle.statements.specs.Running.{memory_in, stopped, onward, stored, with_holdings, labelled, sent, receiver, place, amount_at, moved, paid, with_value, with_amount, performed, by_truth, ran}
+use Rattle.statements.specs.Running.{Work, memory_in, stopped, onward, stored, with_holdings, labelled, sent, receiver, place, amount_at, moved, paid, with_value, with_amount, performed, by_truth, ran}
 
 -- where r has no label, w had none, and the labels are the same
 abbrev pub Silent : Work → Work → Type 0

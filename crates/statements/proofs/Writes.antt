@@ -9,8 +9,7 @@ use borrow.Author.Tests.{lt-ltb, le-ltb}
 use Rattle.std.specs.Prelude.{None}
 use Rattle.laws.proofs.Choice.{pick_true, pick_false}
 use Rattle.statements.specs.declared.Label.{Label}
-use Rattle.statements.specs.declared.Work.{Work}
-use Rattle.statements.specs.Running.{labelled, labels_from, work_from, work_in}
+use Rattle.statements.specs.Running.{Work, labelled, labels_from, work_from, work_in}
 
 -- words k, p and v in the place of label i are a store of that label
 pub words_set : (ws : List ℤ) (i k p : ℕ) (v : ℤ)

@@ -11,8 +11,7 @@ use Rattle.contract.specs.Table.{kind_at, argument_at, size_at, party_kind, valu
 use Rattle.contract.specs.Decode.{holder_at, expression_at, condition_at, value_move_at, asset_move_at, whole_move_at, block_between}
 use Rattle.evaluation.specs.Memory.{Memory}
 use Rattle.evaluation.specs.Meaning.{value_of, truth_of}
-use Rattle.statements.specs.declared.Work.{Work}
-use Rattle.statements.specs.Running.{memory_in, stored, sent, moved, paid, receiver, place, with_value, with_amount, performed, by_truth, ran}
+use Rattle.statements.specs.Running.{Work, memory_in, stored, sent, moved, paid, receiver, place, with_value, with_amount, performed, by_truth, ran}
 
 -- where the block before the statement at node k ends
 unfoldable pub end_before : List ℕ → ℕ → ℕ

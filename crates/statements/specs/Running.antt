@@ -1,5 +1,5 @@
 -- Statements at work: memory, the labels sent so far, and the refusal met, if any.
-use Rattle.std.specs.Prelude.{ℕ, suc, ◌+◌, ◌-◌, min, true, false, List, [], ◌∷◌, get_or, set, eqb, leb, ltb, ℤ, pos, negsuc, nat_abs, Option, None, Some, is_none, Ok, Err, ◌≡◌}
+use Rattle.std.specs.Prelude.{ℕ, suc, ◌+◌, ◌-◌, min, true, false, List, [], ◌∷◌, get_or, set, eqb, leb, ltb, ℤ, pos, negsuc, nat_abs, Option, Some, is_none, Ok, Err}
 use Rattle.laws.specs.Choice.{pick}
 use Rattle.questions.specs.declared.Question.{Question}
 use Rattle.questions.specs.declared.Question.TheVariants as ask
@@ -11,8 +11,17 @@ use Rattle.contract.specs.Tree.{Holder, held, Action, assign, send, move, pay, m
 use Rattle.evaluation.specs.Memory.{Memory, memory_of, place_of}
 use Rattle.evaluation.specs.Meaning.{value_of, truth_of}
 use Rattle.statements.specs.declared.Label.{Label}
-use Rattle.statements.specs.declared.Work.{Work}
-use Rattle.statements.specs.declared.Runner.{Runner}
+
+-- a memory that statements work on, with the labels that they have sent and the question that refused, if one did
+pub record Work : Type 0 where
+  pub kinds : List ℕ
+  pub numbers : List ℤ
+  pub texts : List ℕ
+  -- the amounts of the assets, then of the asset parameters
+  pub holdings : List ℕ
+  pub labels : List Label
+  pub count : ℕ
+  pub refusal : Option Question
 
 -- the kinds of labels
 abbrev pub integer_label : ℕ
@@ -168,27 +177,3 @@ work_from kinds numbers texts holdings labels count refusal =
 -- the same, the labels standing in a list of words
 abbrev pub work_in : List ℕ → List ℤ → List ℕ → List ℕ → List ℤ → ℕ → Option Question → Work
 work_in kinds numbers texts holdings words count refusal = work_from kinds numbers texts holdings (labels_from words) count refusal
-
--- ---- a runner
-
--- what a runner has reached, with the question that refuses, if one does
-abbrev pub work_by : Runner → Option Question → Work
-work_by r o = work_in r.kinds.now r.numbers.now r.texts.now r.holdings.now r.labels.now r.count o
-
-abbrev pub work_of : Runner → Work
-work_of r = work_by r None
-
--- what its expressions and conditions are worked out in
-abbrev pub memory_by : Runner → Memory
-memory_by r = memory_in r.values.now r.clock (work_of r)
-
--- it has the same table and lists
-pub record SameLists (a b : Runner) : Type 0 where
-  pub table : b.table ≡ a.table
-  pub kinds : b.kinds.ghost_name ≡ a.kinds.ghost_name
-  pub numbers : b.numbers.ghost_name ≡ a.numbers.ghost_name
-  pub texts : b.texts.ghost_name ≡ a.texts.ghost_name
-  pub holdings : b.holdings.ghost_name ≡ a.holdings.ghost_name
-  pub labels : b.labels.ghost_name ≡ a.labels.ghost_name
-  pub values : b.values ≡ a.values
-  pub clock : b.clock ≡ a.clock

@@ -9,7 +9,8 @@ ghost use Rattle.contract.specs.Table.{argument_at, size_at};
 ghost use Rattle.contract.specs.Decode.{holder_of, block_between, condition_at};
 ghost use Rattle.evaluation.specs.Memory.{lent, place_of};
 ghost use Rattle.evaluation.specs.Meaning.{truth_of};
-ghost use Rattle.statements.specs.Running.{receiver, place, filled, stored, labelled, sent, moved, paid, performed, ran, work_by, work_of, memory_by, SameLists};
+ghost use Rattle.statements.specs.Running.{receiver, place, filled, stored, labelled, sent, moved, paid, performed, ran};
+ghost use Rattle.statements.specs.Lending.{work_by, work_of, memory_by, SameLists};
 ghost use Rattle.statements.specs.Private.{end_before, action_at, amount_in, left_of, value_given, amount_given, answer_at, statement_at, branched, performed_at};
 
 use contract::{Contract, Node};
@@ -25,8 +26,9 @@ pub struct Label {
     pub value: i64,
 }
 
-// Kept: (a) document 01 wants an array of labels filled by value, and it is made of the words of one lent array (`outcomes::labels_of`,
-// docs/DECISIONS.md 54). Any three words are a label, so that this fails for none; an enum of kinds would have no variant for most words.
+// Kept: (a) a caller lends `Runner`, `outcomes::labels_of` and `step_reports::report` labels as one list of integers, three words each
+// (docs/DECISIONS.md 54), and these promise what they do of its words: an array of labels would ask for another list. The kind is a number, since
+// any three words are a label: an enum of kinds would have no variant for most words.
 impl Label {
     pub const INTEGER: u64 = 1;
 
@@ -42,23 +44,9 @@ impl Label {
     pub const ROOM: usize = Label::MOST * Label::WORDS;
 }
 
-// A memory that statements work on, with the labels that they have sent and the question that refused, if one did.
-// Kept: (a) it is public, and theorems of crates above are said of it. Definitions alone use it: `Runner` has the parts by reference.
-#[derive(Clone, Copy)]
-pub struct Work {
-    pub kinds: [u8; Contract::FIELDS],
-    pub numbers: [i64; Contract::FIELDS],
-    pub texts: [u8; Contract::FIELDS],
-    // The amounts of the assets, then of the asset parameters.
-    pub holdings: [u64; Holdings::MOST],
-    pub labels: [Label; Label::MOST],
-    pub count: usize,
-    pub refusal: Option<Question>,
-}
-
 // What runs statements: the table, the lists that they read and write, how many labels they have sent, and what they only read.
 // Where a question refuses, the lists hold what was reached by then: the caller drops them.
-// Kept: (a) a library has no heap: the lists are copies of the state's columns, which are public, and the labels are words of one lent array
+// Kept: (a) a library has no heap: the lists are copies of the state's columns, as `State` has them, and the labels are words of one lent array
 // with room for all (docs/DECISIONS.md 54), so that a count says how many are sent.
 #[derive(Drop)]
 pub struct Runner<'a> {
@@ -82,22 +70,24 @@ fn receiver_of(argument: u64) -> u8
 
 // The place of the holder that a node names: the assets, then the asset parameters.
 #[tactic(auto, unfolding(laws::specs::Choice::pick))]
-fn place_of(kind: u64, argument: u64) -> usize
-    ensures { result ≡ place (holder_of kind argument) }
+fn place_of(node: Node) -> usize
+    ensures { result ≡ place (holder_of node.kind node.argument) }
 {
-    let first = if kind == Node::ASSET {
+    let first = if node.kind == Node::ASSET {
         0
     } else {
         Contract::ASSETS as u64
     };
-    argument.saturating_add(first).min(Holdings::MOST as u64) as usize
+    node.argument
+        .saturating_add(first)
+        .min(Holdings::MOST as u64) as usize
 }
 
 // All that the holder that a node names holds.
-fn held_amount(holdings: &[u64; Holdings::MOST], kind: u64, argument: u64) -> u64
-    ensures { result ≡ get_or holdings.now (place_of (holder_of kind argument)) 0 }
+fn held_amount(holdings: &[u64; Holdings::MOST], node: Node) -> u64
+    ensures { result ≡ get_or holdings.now (place_of (holder_of node.kind node.argument)) 0 }
 {
-    items::get_or(holdings, place_of(kind, argument), 0)
+    items::get_or(holdings, place_of(node), 0)
 }
 
 // What place i holds once n is taken from it, unless a question refuses it.
@@ -116,28 +106,24 @@ fn amount(value: Value) -> Result<u64, Question>
     let Value::Integer(z) = value else {
         return Err(Question::OperandKind);
     };
-    if z < 0 {
-        return Err(Question::AmountSign);
-    }
-    Ok(numbers::magnitude(z))
+    u64::try_from(z).map_err(|_| Question::AmountSign)
 }
 
 // The size of node k.
 fn size_at(table: &[u64], k: usize) -> usize
     ensures { result ≡ size_at table.now k }
 {
-    let node = contract::node_at(table, k);
-    node.size
+    contract::node_at(table, k).size
 }
 
 // The argument of node k.
-// Kept: (b) by `node.argument` in `end_before` and `perform`, which have the node, its argument is read for every kind of statement, and a desk
-// takes 5 per cent more instructions for a session of calls that send 64 labels each (two builds without proof of one tree).
+// Kept: (b) by `node.argument` in `end_before` and `perform`, which have the node, its argument is read for every kind of statement: a desk takes
+// 1.0 per cent more instructions for a mixed session, which takes 2.05 times the plain desk's already, where 2.0 are wanted (docs/TIMES.md), and 4.1
+// for one of calls that send 64 labels each (71,697,557 and 72,425,557, 17,764,648 and 18,500,669 in two builds without proof of one tree).
 fn argument_at(table: &[u64], k: usize) -> usize
     ensures { result ≡ argument_at table.now k }
 {
-    let node = contract::node_at(table, k);
-    node.argument as usize
+    contract::node_at(table, k).argument as usize
 }
 
 // Where the block before the statement at node k ends.
@@ -250,12 +236,12 @@ impl Runner<'_> {
         if itself {
             return Ok(());
         }
-        let target = holdings[j];
-        if Contract::TOP < target || Contract::TOP - target < n {
+        let sum = holdings[j].saturating_add(n);
+        if Contract::TOP < sum {
             return Err(Question::SumFits);
         }
         items::set(holdings, i, left);
-        holdings[j] = target + n;
+        holdings[j] = sum;
         Ok(())
     }
 
@@ -307,18 +293,20 @@ impl Runner<'_> {
         let n = amount(value)?;
         let source = contract::node_at(self.table, k.saturating_sub(2));
         let target = contract::node_at(self.table, k.saturating_sub(1));
-        let i = place_of(source.kind, source.argument);
+        let i = place_of(source);
         if target.kind == Node::PARTY {
             return self.pay(i, receiver_of(target.argument), n);
         }
-        self.transfer(i, place_of(target.kind, target.argument), n)
+        self.transfer(i, place_of(target), n)
     }
 
     // What expressions and conditions are worked out in.
-    fn memory(&self) -> Memory<'_>
-        ensures { lent result ≡ memory_by self.now }
+    pub fn memory(&self) -> Memory<'_>
+        ensures value { lent result ≡ memory_by self.now }
+        ensures same_table { result.table ≡ self.now.table }
     {
         Memory {
+            table: self.table,
             kinds: &*self.kinds,
             numbers: &*self.numbers,
             texts: &*self.texts,
@@ -333,16 +321,14 @@ impl Runner<'_> {
     fn answer_of(&self, k: usize, kind: u64) -> Result<Value, Question>
         ensures { result ≡ answer_at (memory_by self.now) self.now.table.now k kind }
     {
-        let table = self.table;
-        let memory = self.memory();
         if kind == Node::VALUE_MOVE {
-            return evaluation::value(table, &memory, k.saturating_sub(2));
+            return self.memory().value(k.saturating_sub(2));
         }
         if kind == Node::ASSET_MOVE {
-            return evaluation::value(table, &memory, k.saturating_sub(3));
+            return self.memory().value(k.saturating_sub(3));
         }
-        let source = contract::node_at(table, k.saturating_sub(2));
-        numbers::natural(held_amount(memory.holdings, source.kind, source.argument))
+        let source = contract::node_at(self.table, k.saturating_sub(2));
+        numbers::natural(held_amount(self.holdings, source))
     }
 
     // The statement at node k, not a conditional.
@@ -362,8 +348,7 @@ impl Runner<'_> {
     fn truth(&self, k: usize) -> Result<bool, Question>
         ensures { result ≡ truth_of (memory_by self.now) (condition_at self.now.table.now k) }
     {
-        let memory = self.memory();
-        evaluation::truth(self.table, &memory, k)
+        self.memory().truth(k)
     }
 
     // The conditional at node k whose block starts at node `first`: the block is run where the condition before it holds.

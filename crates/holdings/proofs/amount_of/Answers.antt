@@ -10,4 +10,4 @@ use Rattle.holdings.proofs.amount_of.Goals as goal
 pub returns : goal.returns
 returns c =
     let f : SFits w64 c.get_or.result = record { sfits = c.get_or.type_inv } in
-    c.magnitude.ensures ∙ ap nat_abs (to_z-of_z f ∙ c.get_or.ensures) ∙ amount_at _ _
+    c.unsigned_abs.ensures.value ∙ ap nat_abs (to_z-of_z f ∙ c.get_or.ensures) ∙ amount_at _ _

@@ -21,10 +21,10 @@ loop-i-init c =
 pub loop-i-preserved : goal.loop-i-preserved
 loop-i-preserved c =
     let l = c.loop-i in
-    let k : SFits w64 (get_or c.args.words.now (3 * l.i) (pos 0)) = record { sfits = c.magnitude-arg-1.given } in
-    let p : SFits w64 (get_or c.args.words.now (3 * l.i + 1) (pos 0)) = record { sfits = c.magnitude-arg-in-loop-i-1.given } in
+    let k : SFits w64 (get_or c.args.words.now (3 * l.i) (pos 0)) = record { sfits = c.unsigned_abs-arg-1.given } in
+    let p : SFits w64 (get_or c.args.words.now (3 * l.i + 1) (pos 0)) = record { sfits = c.unsigned_abs-arg-in-loop-i-1.given } in
     let v : SFits w64 (get_or c.args.words.now (3 * l.i + 2) (pos 0)) = record { sfits = c.out-1.given } in
-    (drawn_more c.args.words.now 64 c.told-words _ _ _ (c.magnitude.ensures ∙ ap nat_abs (to_z-of_z k)) (c.magnitude-in-loop-i.ensures ∙ ap nat_abs (to_z-of_z p)) (to_z-of_z v) l.invariant (omega arith))
+    (drawn_more c.args.words.now 64 c.told-words _ _ _ (c.unsigned_abs.ensures.value ∙ ap nat_abs (to_z-of_z k)) (c.unsigned_abs-in-loop-i.ensures.value ∙ ap nat_abs (to_z-of_z p)) (to_z-of_z v) l.invariant (omega arith))
 
 pub returns : goal.returns
 returns c =

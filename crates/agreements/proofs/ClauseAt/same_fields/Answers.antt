@@ -14,11 +14,11 @@ pub returns : goal.returns
 returns c =
     let a = c.args.self.now in
     let h = a.heard in
-    let w = h.table.now in
+    let w = h.terms.table.now in
     let line = h.line.now in
     let spans = h.spans.now in
     let fs = (clause_at w a.i).fields in
-    let p = placed w h.whole a.i a.room.0 in
+    let p = placed w h.terms.whole a.i a.room.0 in
     let said : ℕ → Bool = λ j. field_named (contract_of w) line (get_or spans ((a.at + j) * 2) 0) (get_or spans ((a.at + j) * 2 + 1) 0) (clause_word w a.i (3 + j)) in
     let there : ℕ → Bool = λ j. field_named (contract_of w) line (get_or (drop (a.at * 2) spans) (j * 2) 0) (get_or (drop (a.at * 2) spans) (j * 2 + 1) 0) (get_or fs j 0) in
     let start : (j : ℕ) → get_or spans ((a.at + j) * 2) 0 ≡ get_or (drop (a.at * 2) spans) (j * 2) 0 = λ j. ap (λ (k : ℕ). get_or spans k 0) (omega arith) ∙ sym (get_or-drop (a.at * 2) spans (j * 2) 0) in

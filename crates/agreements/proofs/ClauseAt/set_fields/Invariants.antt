@@ -7,4 +7,4 @@ use Rattle.agreements.proofs.ClauseAt.set_fields.Given as goal
 
 abbrev pub invariant-loop-j : goal.invariant-loop-j
 invariant-loop-j l =
-    set_fields l.initial.next (clause_at l.self.heard.table.now l.self.i).fields (drop l.self.at l.self.heard.values.now) ≡ set_fields l.next (drop l.j (clause_at l.self.heard.table.now l.self.i).fields) (drop l.j (drop l.self.at l.self.heard.values.now))
+    set_fields l.initial.s (clause_at l.self.heard.terms.table.now l.self.i).fields (drop l.self.at l.self.heard.values.now) ≡ set_fields l.s (drop l.j (clause_at l.self.heard.terms.table.now l.self.i).fields) (drop l.j (drop l.self.at l.self.heard.values.now))

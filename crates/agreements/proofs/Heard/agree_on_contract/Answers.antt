@@ -14,12 +14,12 @@ use Rattle.agreements.proofs.Heard.agree_on_contract.Goals as goal
 pub returns-then-s : goal.returns-then-s
 returns-then-s c =
     let a = c.args.self.now in
-    c.refuse.ensures ∙ agree_twice (contract_of a.table.now) c.args.s (parts_in a.line.now (length a.parts.now / 4) a.parts.now a.spans.now a.values.now) c.if-s.true
+    agree_twice (contract_of a.terms.table.now) c.args.s.now (parts_in a.line.now (length a.parts.now / 4) a.parts.now a.spans.now a.values.now) c.if-s.true
 
 pub returns-then-not-same_clauses : goal.returns-then-not-same_clauses
 returns-then-not-same_clauses c =
     let a = c.args.self.now in
-    c.refuse-then-not-same_clauses.ensures ∙ agree_others (contract_of a.table.now) c.args.s (parts_in a.line.now (length a.parts.now / 4) a.parts.now a.spans.now a.values.now) c.if-s.false (sym c.same_clauses.ensures ∙ c.if-not-same_clauses.true)
+    agree_others (contract_of a.terms.table.now) c.args.s.now (parts_in a.line.now (length a.parts.now / 4) a.parts.now a.spans.now a.values.now) c.if-s.false (sym c.same_clauses.ensures ∙ c.if-not-same_clauses.true)
 
 pub returns-then-not-same_map : goal.returns-then-not-same_map
 returns-then-not-same_map c =
@@ -27,12 +27,11 @@ returns-then-not-same_map c =
     let line = a.line.now in
     let parts = a.parts.now in
     let spans = a.spans.now in
-    let table = a.table.now in
+    let table = a.terms.table.now in
     let values = a.values.now in
-    c.refuse-then-not-same_map.ensures
-    ∙ agree_differ (contract_of table) c.args.s (parts_in line (length parts / 4) parts spans values) c.if-s.false (sym c.same_clauses.ensures ∙ c.if-not-same_clauses.false) _
-    (c.set_clauses-set.ensures ∙ sym (set_in_row (contract_of table) (contract_of table).clauses line (length parts / 4) parts spans values c.args.s (sym c.same_clauses.ensures ∙ c.if-not-same_clauses.false)))
-    values (agreed_in_row (contract_of table) (contract_of table).clauses line (length parts / 4) parts spans values c.set_clauses-set.result (sym c.same_clauses.ensures ∙ c.if-not-same_clauses.false))
+    agree_differ (contract_of table) c.args.s.now (parts_in line (length parts / 4) parts spans values) c.if-s.false (sym c.same_clauses.ensures ∙ c.if-not-same_clauses.false) _
+    (c.set_clauses.ensures ∙ sym (set_in_row (contract_of table) (contract_of table).clauses line (length parts / 4) parts spans values c.args.s.now (sym c.same_clauses.ensures ∙ c.if-not-same_clauses.false)))
+    values (agreed_in_row (contract_of table) (contract_of table).clauses line (length parts / 4) parts spans values c.set_clauses.new.s (sym c.same_clauses.ensures ∙ c.if-not-same_clauses.false))
     (sym c.same_map.ensures ∙ c.if-not-same_map.true)
 
 pub returns : goal.returns
@@ -41,10 +40,9 @@ returns c =
     let line = a.line.now in
     let parts = a.parts.now in
     let spans = a.spans.now in
-    let table = a.table.now in
+    let table = a.terms.table.now in
     let values = a.values.now in
-    c.answer.ensures
-    ∙ ap (λ (x : State). answered (Accepted Agree) x) (opened_at table c.set_clauses-set.result _ c.head-h.ensures)
-    ∙ agree_done (contract_of table) c.args.s (parts_in line (length parts / 4) parts spans values) c.if-s.false (sym c.same_clauses.ensures ∙ c.if-not-same_clauses.false) _ (c.set_clauses-set.ensures ∙ sym (set_in_row (contract_of table) (contract_of table).clauses line (length parts / 4) parts spans values c.args.s (sym c.same_clauses.ensures ∙ c.if-not-same_clauses.false)))
-    values (agreed_in_row (contract_of table) (contract_of table).clauses line (length parts / 4) parts spans values c.set_clauses-set.result (sym c.same_clauses.ensures ∙ c.if-not-same_clauses.false))
+    ap (λ (x : State). answered (Accepted Agree) x) (opened_at table c.set_clauses.new.s _ c.head.ensures)
+    ∙ agree_done (contract_of table) c.args.s.now (parts_in line (length parts / 4) parts spans values) c.if-s.false (sym c.same_clauses.ensures ∙ c.if-not-same_clauses.false) _ (c.set_clauses.ensures ∙ sym (set_in_row (contract_of table) (contract_of table).clauses line (length parts / 4) parts spans values c.args.s.now (sym c.same_clauses.ensures ∙ c.if-not-same_clauses.false)))
+    values (agreed_in_row (contract_of table) (contract_of table).clauses line (length parts / 4) parts spans values c.set_clauses.new.s (sym c.same_clauses.ensures ∙ c.if-not-same_clauses.false))
     (sym c.same_map.ensures ∙ c.if-not-same_map.false)

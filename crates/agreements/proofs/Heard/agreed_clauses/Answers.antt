@@ -14,18 +14,18 @@ pub of-clause-requires : goal.of-clause-requires
 of-clause-requires c =
     let a = c.args.self.now in
     let l = c.loop-i in
-    let p = placed a.table.now a.whole l.i (omega (arith, l.invariant.0)) in
+    let p = placed a.terms.table.now a.terms.whole l.i (omega (arith, l.invariant.0)) in
     (omega (arith, l.invariant.0), omega (arith, l.invariant.1, p.number))
 
 pub loop-i-preserved : goal.loop-i-preserved
 loop-i-preserved c =
     let a = c.args.self.now in
-    let table = a.table.now in
+    let table = a.terms.table.now in
     let l = c.loop-i in
-    let p = placed table a.whole l.i (omega (arith, l.invariant.0)) in
+    let p = placed table a.terms.whole l.i (omega (arith, l.invariant.0)) in
     let h = c.of-clause.ensures in
-    let read : c.of-clause.result.row ≡ clause_row_of table l.i = c.of-clause.result.read ∙ λ t. clause_row_of (h.same_heard t).table.now (h.same_i t) in
-    let agreed : c.agreed_clause.result ≡ agreed_part c.args.s (clause_at table l.i).fields (drop l.at a.values.now) (clause_at table l.i).verb =
+    let read : c.of-clause.result.row ≡ clause_row_of table l.i = c.of-clause.result.read ∙ λ t. clause_row_of (h.same_heard t).terms.table.now (h.same_i t) in
+    let agreed : c.agreed_clause.result ≡ agreed_part c.args.s.now (clause_at table l.i).fields (drop l.at a.values.now) (clause_at table l.i).verb =
     c.agreed_clause.ensures
-    ∙ λ t. agreed_part c.args.s (clause_at (h.same_heard t).table.now (h.same_i t)).fields (drop (h.same_at t) (h.same_heard t).values.now) (clause_at (h.same_heard t).table.now (h.same_i t)).verb in
-    (l.invariant.0, (omega (arith, l.invariant.1, row_few table l.i _ read p)), l.invariant.2 ∙ agreed_by_more (clause_at table) a.values.now (word_at table 5) l.i l.at c.args.s _ (omega (arith, l.invariant.0)) (row_count table l.i _ read p) (sym agreed ∙ c.if-not-agreed_clause.false))
+    ∙ λ t. agreed_part c.args.s.now (clause_at (h.same_heard t).terms.table.now (h.same_i t)).fields (drop (h.same_at t) (h.same_heard t).values.now) (clause_at (h.same_heard t).terms.table.now (h.same_i t)).verb in
+    (l.invariant.0, (omega (arith, l.invariant.1, row_few table l.i _ read p)), l.invariant.2 ∙ agreed_by_more (clause_at table) a.values.now (word_at table 5) l.i l.at c.args.s.now _ (omega (arith, l.invariant.0)) (row_count table l.i _ read p) (sym agreed ∙ c.if-not-agreed_clause.false))

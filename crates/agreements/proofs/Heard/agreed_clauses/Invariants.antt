@@ -9,4 +9,4 @@ use Rattle.agreements.proofs.Heard.agreed_clauses.Given as goal
 
 abbrev pub invariant-loop-i : goal.invariant-loop-i
 invariant-loop-i l =
-    (l.count ≡ word_at l.self.table.now 5) × (l.at ≤ l.i * 32) × (agreed_by l.s (contract_of l.self.table.now).clauses l.self.values.now ≡ agreed_by l.s (each_from l.i (word_at l.self.table.now 5 - l.i) (clause_at l.self.table.now)) (drop l.at l.self.values.now))
+    (l.count ≡ word_at l.self.terms.table.now 5) × (l.at ≤ l.i * 32) × (agreed_by l.s (contract_of l.self.terms.table.now).clauses l.self.values.now ≡ agreed_by l.s (each_from l.i (word_at l.self.terms.table.now 5 - l.i) (clause_at l.self.terms.table.now)) (drop l.at l.self.values.now))

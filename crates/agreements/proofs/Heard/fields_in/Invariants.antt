@@ -9,4 +9,4 @@ use Rattle.agreements.proofs.Heard.fields_in.Given as goal
 
 abbrev pub invariant-loop-j : goal.invariant-loop-j
 invariant-loop-j l =
-    (l.j ≤ clause_word l.self.table.now l.i 2) × (l.mask ≡ fields_in (drop l.j (clause_at l.self.table.now l.i).fields))
+    (l.j ≤ clause_word l.self.terms.table.now l.i 2) × (l.mask ≡ fields_in (drop l.j (clause_at l.self.terms.table.now l.i).fields))

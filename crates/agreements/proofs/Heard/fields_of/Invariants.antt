@@ -9,4 +9,4 @@ use Rattle.agreements.proofs.Heard.fields_of.Given as goal
 
 abbrev pub invariant-loop-i : goal.invariant-loop-i
 invariant-loop-i l =
-    (l.i ≤ word_at l.self.table.now 5) × (l.mask ≡ fields_of (said l.verb) (each_from l.i (word_at l.self.table.now 5 - l.i) (clause_at l.self.table.now)))
+    (l.i ≤ word_at l.self.terms.table.now 5) × (l.mask ≡ fields_of (said l.verb) (each_from l.i (word_at l.self.terms.table.now 5 - l.i) (clause_at l.self.terms.table.now)))

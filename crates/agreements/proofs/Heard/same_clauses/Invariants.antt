@@ -11,7 +11,7 @@ use Rattle.agreements.proofs.Heard.same_clauses.Given as goal
 abbrev pub invariant-loop-i : goal.invariant-loop-i
 invariant-loop-i l =
     let h = l.self in
-    let w = h.table.now in
+    let w = h.terms.table.now in
     let c = contract_of w in
     let n = word_at w 5 in
     (l.count ≡ n)

@@ -6,7 +6,7 @@ use Rattle.std.specs.Prelude.{Err}
 use Rattle.std.specs.Result.{result_err}
 use Rattle.std.proofs.lemmas.Result.{err_from_is_err_and}
 use Rattle.statements.specs.Private.{performed_at}
-use Rattle.statements.specs.Running.{work_by, work_of}
+use Rattle.statements.specs.Lending.{work_by, work_of}
 use Rattle.statements.proofs.Blocks.{before_falls, ran_none, ran_broken, ran_refused, ran_on, one_action, one_branch, branch_stopped, branch_held, branch_skipped}
 use Rattle.statements.proofs.Runner.+run.Goals as goal
 

@@ -1,5 +1,5 @@
 -- `statements::Runner::act` meets its contract. Assumes nothing.
-use Rattle.statements.specs.Running.{work_of}
+use Rattle.statements.specs.Lending.{work_of}
 use Rattle.statements.proofs.Actions.{acts_value, acts_amount}
 use Rattle.statements.proofs.Runner.act.Goals as goal
 

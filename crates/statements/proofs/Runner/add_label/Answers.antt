@@ -2,7 +2,7 @@
 use native.Mathlib.Omega.{arith}
 use mir.Syntax.{w64}
 use mir.Facts.{to_z-of_z, to_z_pos}
-use Rattle.statements.specs.Running.{work_of}
+use Rattle.statements.specs.Lending.{work_of}
 use Rattle.statements.proofs.Writes.{label_added, label_full}
 use Rattle.statements.proofs.Runner.add_label.Goals as goal
 

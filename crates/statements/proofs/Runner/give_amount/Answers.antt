@@ -4,7 +4,7 @@ use Rattle.std.proofs.lemmas.Result.{err_from_is_err_and}
 use Rattle.std.specs.Prelude.{Err}
 use Rattle.std.specs.Result.{result_err}
 use Rattle.contract.specs.Rows.{node_of}
-use Rattle.statements.specs.Running.{work_by, work_of}
+use Rattle.statements.specs.Lending.{work_by, work_of}
 use Rattle.statements.proofs.Actions.{amount_refused, amount_unfit, amount_paid, amount_moved}
 use Rattle.statements.proofs.Runner.give_amount.Goals as goal
 

@@ -1,7 +1,7 @@
 -- `statements::Runner::give_value` meets its contract. Assumes nothing.
 use mathlib.Core.Path.{ap, ◌∙◌}
 use Rattle.contract.specs.Rows.{node_of}
-use Rattle.statements.specs.Running.{work_of}
+use Rattle.statements.specs.Lending.{work_of}
 use Rattle.statements.proofs.Actions.{value_refused, value_sent, value_stored}
 use Rattle.statements.proofs.Runner.give_value.Goals as goal
 

@@ -1,8 +1,0 @@
--- `lines::add_field` meets its contract. Assumes nothing.
-use Rattle.std.proofs.Common.{rules}
-use Rattle.lines.specs.Answers.{spans_of, values_of}
-use Rattle.lines.proofs.add_field.Goals as goal
-
-pub returns : goal.returns
-unfolding spans_of values_of
-returns c = search rules

@@ -1,0 +1,12 @@
+use Rattle.std.proofs.Common.{rules, refl, ◌∙◌}
+use Rattle.std.proofs.lemmas.Iterator.{YieldsList-from_range}
+use Rattle.std.proofs.lemmas.Iterator.Search.{all_from_yields_List}
+use Rattle.state.specs.States.{field_slot_ok}
+use Rattle.state.proofs.Ranges.{all_in_range}
+use Rattle.state.proofs.State.fields_ok.Goals as goal
+
+pub returns : goal.returns
+unfolding field_slot_ok
+returns c =
+    all_from_yields_List (field_slot_ok c.args.strings c.args.used c.args.self.now) _ _ c.all.result c.all.ensures.ran (YieldsList-from_range 0 32 32 refl refl) (λ x b q k. search rules)
+    ∙ all_in_range (field_slot_ok c.args.strings c.args.used c.args.self.now) 32
