@@ -13,7 +13,7 @@ use lib.ListN.{length, take, drop, get_or, length-take, length-drop, drop_of_len
 use lib.Seq.{take_all, take-take, sets, sets-eq, paste, length-sets, drop-cons, get_or-take, take-nil}
 use Rattle.laws.specs.Choice.{pick}
 use Rattle.tokens.specs.Tokens.{between}
-use Rattle.std.specs.Prelude.{Some, None}
+use Rattle.std.specs.Prelude.{Option, Some, None, option_and_then}
 use Rattle.std.specs.Bool.{then_some}
 use Rattle.laws.proofs.Choice.{pick_true, pick_false}
 use Rattle.results.specs.Coded.{coded, coded_all, report_from}
@@ -117,28 +117,32 @@ holds_all {old} {assets} {new} {n} {i} b m e h =
 -- ---- the question of a report
 
 -- by the four words read
-pub question_read : (ns : List ℕ) (i : ℕ) {r : Report} {a b c d : ℕ} → a ≡ get_or ns (4 * i) 0 → b ≡ get_or ns (4 * i + 1) 0 → c ≡ get_or ns (4 * i + 2) 0 → d ≡ get_or ns (4 * i + 3) 0
-    → r ≡ report_from a b c d (pos 0) → question_of r ≡ question_at ns i
+pub question_read : (ns : List ℕ) (i : ℕ) {r : Option Report} {a b c d : ℕ} → a ≡ get_or ns (4 * i) 0 → b ≡ get_or ns (4 * i + 1) 0 → c ≡ get_or ns (4 * i + 2) 0 → d ≡ get_or ns (4 * i + 3) 0
+    → r ≡ report_from a b c d (pos 0) → option_and_then question_of r ≡ question_at ns i
 unfolding question_at
-question_read ns i p q s t e = ap question_of (e ∙ λ k. report_from (p k) (q k) (s k) (t k) (pos 0))
+question_read ns i p q s t e = ap (option_and_then question_of) (e ∙ λ k. report_from (p k) (q k) (s k) (t k) (pos 0))
 
 -- past the numbers all four are 0
 pub question_past : (ns : List ℕ) (i : ℕ) → length ns < i → None ≡ question_at ns i
-unfolding question_of report_from pick
+unfolding report_from pick
 question_past ns i h =
     let none : (k : ℕ) → 4 * i ≤ k → 0 ≡ get_or ns k 0 = λ k l. let beyond : length ns ≤ k = omega arith in sym (get_or-eq_default ns 0 beyond) in
-    question_read ns i {r = Refused 0} (none _ (omega arith)) (none _ (omega arith)) (none _ (omega arith)) (none _ (omega arith)) refl
+    question_read ns i {r = None} (none _ (omega arith)) (none _ (omega arith)) (none _ (omega arith)) (none _ (omega arith)) refl
 
-pub question_told : {r : Report} (n : ℕ) → (r ≡ Refused n) ⊎ (r ≡ Failed n) → then_some (not (eqb n 0)) n ≡ question_of r
-unfolding question_of pick
-question_told n e =
-    elim (eqb n 0) as (λ t. then_some (not t) n ≡ pick t None (Some n)) [ true ↦ refl | false ↦ refl ]
-    ∙ elim e [ inl p ↦ sym (ap question_of p) | inr p ↦ sym (ap question_of p) ]
-
-pub question_none : (r : Report) → ((n : ℕ) → r ≡ Refused n → ⊥) → ((n : ℕ) → r ≡ Failed n → ⊥) → None ≡ question_of r
+no_question : (r : Report) → ((n : ℕ) → r ≡ Refused n → ⊥) → ((n : ℕ) → r ≡ Failed n → ⊥) → None ≡ question_of r
 unfolding question_of
-question_none (Ruled a b c) f g = refl
-question_none (Sent a b c) f g = refl
-question_none (Held a b) f g = refl
-question_none (Refused n) f g = absurd (f n refl)
-question_none (Failed n) f g = absurd (g n refl)
+no_question (Ruled a b c) f g = refl
+no_question (Sent a b c) f g = refl
+no_question (Held a b) f g = refl
+no_question (Refused n) f g = absurd (f n refl)
+no_question (Failed n) f g = absurd (g n refl)
+
+module _ {o : Option Report} {r : Report} (e : o ≡ Some r) where
+  pub question_told : (n : ℕ) → (r ≡ Refused n) ⊎ (r ≡ Failed n) → then_some (not (eqb n 0)) n ≡ option_and_then question_of o
+  unfolding question_of pick
+  question_told n h =
+      elim (eqb n 0) as (λ t. then_some (not t) n ≡ pick t None (Some n)) [ true ↦ refl | false ↦ refl ]
+      ∙ sym (ap (option_and_then question_of) e ∙ elim h [ inl p ↦ ap question_of p | inr p ↦ ap question_of p ])
+
+  pub question_none : ((n : ℕ) → r ≡ Refused n → ⊥) → ((n : ℕ) → r ≡ Failed n → ⊥) → None ≡ option_and_then question_of o
+  question_none f g = no_question r f g ∙ sym (ap (option_and_then question_of) e)

@@ -1,6 +1,6 @@
 -- A session's bytes in a buffer: what is kept of a line that has not ended, the last line; the question of a result line, and what each
 -- asset holds at the end.
-use Rattle.std.specs.Prelude.{ℕ, suc, ◌+◌, ◌*◌, List, [], ◌∷◌, get_or, take, set, eqb, ltb, pos, Option, Some, None}
+use Rattle.std.specs.Prelude.{ℕ, suc, ◌+◌, ◌*◌, List, [], ◌∷◌, get_or, take, set, eqb, ltb, pos, Option, Some, None, option_and_then}
 use Rattle.laws.specs.Choice.{pick}
 use Rattle.tokens.specs.Tokens.{between}
 use Rattle.contract.specs.Rows.{head_of}
@@ -40,7 +40,8 @@ question_of (Failed n) = numbered n
 -- the question of report i of those in a row, by its four numbers; its integer says nothing of it
 unfoldable pub question_at : List ℕ → ℕ → Option ℕ
 question_at numbers i =
-    question_of (report_from (get_or numbers (4 * i) 0) (get_or numbers (4 * i + 1) 0) (get_or numbers (4 * i + 2) 0) (get_or numbers (4 * i + 3) 0) (pos 0))
+    option_and_then question_of
+    (report_from (get_or numbers (4 * i) 0) (get_or numbers (4 * i + 1) 0) (get_or numbers (4 * i + 2) 0) (get_or numbers (4 * i + 3) 0) (pos 0))
 
 -- what assets hold, the first with number i
 unfoldable pub held_from : ℕ → List ℕ → List Report

@@ -50,8 +50,7 @@ pub fn close(bytes: &mut [u8], size: usize) -> usize
     0
 }
 
-// The number of the question of report i of those in a row: of the one that refused a line, or that a failed firing met. A report that names no
-// question (`Report::NONE`) has the number 0, and there is none.
+// The number of the question of report i of those in a row: of the one that refused a line, or that a failed firing met; 0 is no question's number.
 // Kept: (a) any place may be asked, also that of a report of which only some words are there: those past the end are 0, while `report_at` takes
 // such a one for no report; it needs the integers too.
 pub fn question_of(numbers: &[u64], i: usize) -> Option<u8>
@@ -62,14 +61,13 @@ pub fn question_of(numbers: &[u64], i: usize) -> Option<u8>
         return None;
     }
     let at = Report::WORDS * i;
-    let report = Report::from_numbers(
+    let numbers = [
         contract::word(numbers, at),
         contract::word(numbers, at + 1),
         contract::word(numbers, at + 2),
         contract::word(numbers, at + 3),
-        0,
-    );
-    match report {
+    ];
+    match Report::from_numbers(numbers, 0)? {
         Report::Refused(question) | Report::Failed(question) => {
             (question != 0).then_some(question)
         }

@@ -7,7 +7,7 @@ use crate::Diagnosis;
 use printing::Writer;
 
 // A byte as it is shown: the tokens' printable ones as they are.
-// Kept: (d) they are one range of bytes, and `tokens` has no public function of it.
+// Kept: (d) one range of bytes, as `tokens` has it in a private function: to ask that one it would have to be public, with edits of its own.
 #[tactic(auto, unfolding(crate::specs::Diagnoses::shown, tokens::specs::Classes::is_printable, tokens::specs::Classes::within, laws::specs::Choice::pick))]
 fn show(b: u8) -> u8
     ensures { result ≡ shown b }

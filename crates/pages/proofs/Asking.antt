@@ -1,6 +1,5 @@
 -- Question 61 as the code asks it. Assumes nothing.
 use Rattle.std.specs.List.{list_all, range_with_len}
-use mathlib.Core.Logic.{◌⊎◌, inl, inr}
 use mathlib.Core.Path.{◌≡◌, refl, sym, ap, ◌∙◌}
 use mathlib.Core.Bool.{Bool, true, false, ◌&&◌, ◌||◌}
 use mathlib.Core.List.{List}
@@ -49,15 +48,6 @@ payout_asked w kind party rule clock {x} {z} {q} {n} e f r p =
     let amount : le_z (pos 0) x ≡ (le_z (pos 0) z && leb (nat_abs z) top) = ap (le_z (pos 0)) e ∙ amount_asked z f in
     λ i. eqb kind 3 && (r i && (ltb party (parties i) && (leb clock top && amount i)))
 
--- of entry i
-pub entry_asked : (c : Contract) (ns : List ℕ) (zs : List ℤ) (i : ℕ) {x : ℤ} {r : Bool} → 5 * i + 5 ≤ length ns → i < length zs → x ≡ get_or zs i (pos 0)
-    → r ≡ is_payout c (record { kind = get_or ns (5 * i) 0; party = get_or ns (5 * i + 1) 0; rule = get_or ns (5 * i + 2) 0; clock = get_or ns (5 * i + 3) 0; value = x })
-    → r ≡ is_payout c (entry_at ns zs i)
-entry_asked c ns zs i h l e p =
-    p
-    ∙ (λ j. is_payout c (record { kind = get_or ns (5 * i) 0; party = get_or ns (5 * i + 1) 0; rule = get_or ns (5 * i + 2) 0; clock = get_or ns (5 * i + 3) 0; value = e j }))
-    ∙ ap (is_payout c) (sym (entry_whole ns zs i h l))
-
 -- ---- of all entries
 
 none_pays : (c : Contract) → is_payout c no_entry ≡ false
@@ -93,9 +83,8 @@ not_whole c ns zs h =
     λ e. sym e
 
 -- one that does not stand there whole does not pass
-pub broken_fails : {p : Type 0} (c : Contract) (ns : List ℕ) (zs : List ℤ) (i : ℕ) → (length ns / 5 ≤ i) ⊎ (p × (length zs ≤ i)) → false ≡ is_payout c (entry_at ns zs i)
-broken_fails c ns zs i (inl h) = sym (ap (is_payout c) (entry_broken ns zs i (λ k l. omega arith)) ∙ none_pays c)
-broken_fails c ns zs i (inr h) = let e = h.1 in sym (ap (is_payout c) (entry_broken ns zs i (λ k l. omega arith)) ∙ none_pays c)
+pub broken_fails : (c : Contract) (ns : List ℕ) (zs : List ℤ) (i : ℕ) → (i < length ns / 5 → i < length zs → ⊥) → false ≡ is_payout c (entry_at ns zs i)
+broken_fails c ns zs i h = sym (ap (is_payout c) (entry_broken ns zs i (λ k l. h (omega arith) l)) ∙ none_pays c)
 
 -- a test of n entries, as `all` asks it
 all_each : {A : Type 0} (p : A → Bool) (f : ℕ → A) (n i : ℕ) → list_all (λ j. p (f j)) (range_with_len i n) ≡ every p (each_from i n f)

@@ -1,10 +1,10 @@
 -- Lines of a page put together from their pieces. Assumes nothing.
 use mathlib.Core.Path.{◌≡◌, refl, sym, ap, subst, ◌∙◌}
 use mathlib.Core.List.{List, [], ◌∷◌, ◌++◌, append_assoc}
-use Prim.Native.Nat.{ℕ, ◌+◌, ◌-◌, ◌*◌, ◌/◌, ◌%◌, ◌<◌, ◌≤◌}
+use Prim.Native.Nat.{ℕ, ◌+◌, ◌-◌, ◌/◌, ◌%◌, ◌≤◌}
 use native.Mathlib.Omega.{arith}
 use lib.ListN.{length, get_or, length-append}
-use lib.IntN.{ℤ, pos, nat_abs}
+use lib.IntN.{nat_abs}
 use Rattle.laws.specs.Bytes.{bytes}
 use Rattle.words.specs.Words.{spelled, line_end}
 use Rattle.contract.specs.Tree.{Contract}
@@ -13,10 +13,9 @@ use Rattle.printing.specs.Pieces.{spaces}
 use Rattle.printing.specs.Pieces.{Put}
 use Rattle.printing.proofs.Puts.{Puts, kept, puts_same, put_of, same, then, part, piece}
 use Rattle.results.specs.Lines.{rule_name}
-use Rattle.pages.specs.Entries.{entry_at}
+use Rattle.pages.specs.Entries.{Entry}
 use Rattle.pages.specs.Page.{right, left, line_of, blank_line, foot}
 use Rattle.pages.specs.Private.{step_text, payee_text}
-use Rattle.pages.proofs.Given.{entry_whole}
 
 -- ---- room for a whole is room for its parts
 
@@ -68,38 +67,24 @@ module _ {s2 : Type 0} {old l1 l2 : List ℕ} {at a1 a2 : ℕ} (a b c d : List �
 halves : (a b c d e f g h : List ℕ) → (a ++ (b ++ (c ++ d))) ++ (e ++ (f ++ (g ++ h))) ≡ a ++ (b ++ (c ++ (d ++ (e ++ (f ++ (g ++ h))))))
 halves a b c d e f g h = simp append_assoc
 
-pub line_halves : (c : Contract) (ns : List ℕ) (zs : List ℤ) (i : ℕ) → 5 * i + 5 ≤ length ns → i < length zs → {amount : ℕ} → amount ≡ nat_abs (get_or zs i (pos 0))
-    → step_text (get_or ns (5 * i + 3) 0) (get_or ns (5 * i + 2) 0) ++ payee_text c (get_or ns (5 * i + 1) 0) amount ≡ line_of c (entry_at ns zs i)
-unfolding line_of
-line_halves c ns zs i h l {amount} e =
-    ap (λ (k : ℕ). step_text (get_or ns (5 * i + 3) 0) (get_or ns (5 * i + 2) 0) ++ payee_text c (get_or ns (5 * i + 1) 0) k) e
-    ∙ halves
-    (right 19 (decimal (get_or ns (5 * i + 3) 0)))
-    (bytes " ")
-    (left 11 (rule_name (get_or ns (5 * i + 2) 0)))
-    (bytes " ")
-    (left 32 (get_or c.parties (get_or ns (5 * i + 1) 0) []))
-    (bytes " ")
-    (right 19 (decimal (nat_abs (get_or zs i (pos 0)))))
-    (spelled line_end)
-    ∙ ap (line_of c) (sym (entry_whole ns zs i h l))
+module _ (c : Contract) (e : Entry) where
+  line_halves : {amount : ℕ} → amount ≡ nat_abs e.value → step_text e.clock e.rule ++ payee_text c e.party amount ≡ line_of c e
+  unfolding line_of
+  line_halves {amount} d =
+      ap (λ (k : ℕ). step_text e.clock e.rule ++ payee_text c e.party k) d
+      ∙ halves (right 19 (decimal e.clock)) (bytes " ") (left 11 (rule_name e.rule)) (bytes " ") (left 32 (get_or c.parties e.party [])) (bytes " ") (right 19 (decimal (nat_abs e.value)))
+      (spelled line_end)
 
-module _ (c : Contract) (ns : List ℕ) (zs : List ℤ) (i : ℕ) (h : 5 * i + 5 ≤ length ns) (l : i < length zs) where
-  pub step_room : (old : List ℕ) (at : ℕ) → at + length (line_of c (entry_at ns zs i)) ≤ length old → at + length (step_text (get_or ns (5 * i + 3) 0) (get_or ns (5 * i + 2) 0)) ≤ length old
+  pub step_room : (old : List ℕ) (at : ℕ) → at + length (line_of c e) ≤ length old → at + length (step_text e.clock e.rule) ≤ length old
   step_room old at r =
-      room_first _ _ (step_text (get_or ns (5 * i + 3) 0) (get_or ns (5 * i + 2) 0)) (payee_text c (get_or ns (5 * i + 1) 0) (nat_abs (get_or zs i (pos 0))))
-      (subst (λ (k : List ℕ). at + length k ≤ length old) (sym (line_halves c ns zs i h l refl)) r)
+      room_first _ _ (step_text e.clock e.rule) (payee_text c e.party (nat_abs e.value)) (subst (λ (k : List ℕ). at + length k ≤ length old) (sym (line_halves refl)) r)
 
-  module _ {old mid : List ℕ} {at m : ℕ} {amount : ℕ} (e : amount ≡ nat_abs (get_or zs i (pos 0))) where
-    pub payee_room : at + length (line_of c (entry_at ns zs i)) ≤ length old → Put old at (step_text (get_or ns (5 * i + 3) 0) (get_or ns (5 * i + 2) 0)) m mid
-        → m + length (payee_text c (get_or ns (5 * i + 1) 0) amount) ≤ length mid
-    payee_room r p =
-        room_next (step_text (get_or ns (5 * i + 3) 0) (get_or ns (5 * i + 2) 0)) (payee_text c (get_or ns (5 * i + 1) 0) amount)
-        (subst (λ (k : List ℕ). at + length k ≤ length old) (sym (line_halves c ns zs i h l e)) r) p
+  module _ {old mid : List ℕ} {at m : ℕ} {amount : ℕ} (d : amount ≡ nat_abs e.value) where
+    pub payee_room : at + length (line_of c e) ≤ length old → Put old at (step_text e.clock e.rule) m mid → m + length (payee_text c e.party amount) ≤ length mid
+    payee_room r p = room_next (step_text e.clock e.rule) (payee_text c e.party amount) (subst (λ (k : List ℕ). at + length k ≤ length old) (sym (line_halves d)) r) p
 
-    pub whole_line : {new : List ℕ} {end : ℕ} → Put old at (step_text (get_or ns (5 * i + 3) 0) (get_or ns (5 * i + 2) 0)) m mid
-        → Put mid m (payee_text c (get_or ns (5 * i + 1) 0) amount) end new → Put old at (line_of c (entry_at ns zs i)) end new
-    whole_line p q = same (line_halves c ns zs i h l e) (then p q)
+    pub whole_line : {new : List ℕ} {end : ℕ} → Put old at (step_text e.clock e.rule) m mid → Put mid m (payee_text c e.party amount) end new → Put old at (line_of c e) end new
+    whole_line p q = same (line_halves d) (then p q)
 
 -- ---- lines without a payout
 

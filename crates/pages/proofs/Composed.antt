@@ -21,7 +21,7 @@ use Rattle.printing.proofs.Puts.{kept, over, line_end_lem, same, put_nothing, th
 use Rattle.pages.specs.Entries.{Entry, is_payout, entry_at, entries_of}
 use Rattle.pages.specs.Page.{line_of, blank_line, blank_lines, foot, sheet, sixty, page_of}
 use Rattle.pages.specs.Answers.{paged, after, buffer_after}
-use Rattle.pages.specs.Private.{Payable, AllPayable}
+use Rattle.tables.specs.declared.Passed.{Passed}
 use Rattle.std.specs.Prelude.{Result, Ok, Err}
 use Rattle.questions.specs.declared.Question.{Question}
 use Rattle.questions.specs.declared.Question.TheVariants as ask
@@ -32,22 +32,31 @@ use Rattle.pages.proofs.Asking.{all_whole, pays_at}
 
 -- ---- the lines of entries
 
+-- a table and all entries given, as questions 3 and 61 passed them
+pub record AllPayable (w ns : List ℕ) (zs : List ℤ) : Type 0 where
+  pub table : passes w ≡ true
+  pub payouts : every (is_payout (contract_of w)) (entries_of ns zs) ≡ true
+
+pub all_payable : (terms : Passed) (ns : List ℕ) (zs : List ℤ) → every (is_payout (contract_of terms.table.now)) (entries_of ns zs) ≡ true
+    → AllPayable terms.table.now ns zs
+all_payable terms ns zs p = record { table = terms.whole; payouts = p }
+
 module _ {w ns : List ℕ} {zs : List ℤ} (a : AllPayable w ns zs) where
-  pub each_payable : (i : ℕ) → i < length zs → Payable w (entry_at ns zs i)
-  each_payable i l = record { table = a.table; payout = pays_at (contract_of w) ns zs a.payouts i l }
+  pub each_payable : (i : ℕ) → i < length zs → is_payout (contract_of w) (entry_at ns zs i) ≡ true
+  each_payable i l = pays_at (contract_of w) ns zs a.payouts i l
 
   pub each_whole : (i : ℕ) → i < length zs → (5 * i + 5 ≤ length ns) × (i < length zs)
   each_whole i l = (omega (arith, all_whole (contract_of w) ns zs a.payouts), l)
 
   each_long : (i : ℕ) → i < length zs → length (line_of (contract_of w) (entry_at ns zs i)) ≡ 85
-  each_long i l = line_long (contract_of w) (sound w a.table) (entry_at ns zs i) (each_payable i l).payout
+  each_long i l = line_long (contract_of w) (sound w a.table) (entry_at ns zs i) (each_payable i l)
 
   -- the lines before entry i stand first in the buffer
   part_long : (from n : ℕ) → from + n ≤ length zs → length (joined (line_of (contract_of w)) (each_from from n (entry_at ns zs))) ≡ 85 * n
   part_long from n h =
       let es = each_from from n (entry_at ns zs) in
       let p : every (is_payout (contract_of w)) es ≡ true =
-      every_each (is_payout (contract_of w)) from n (entry_at ns zs) (λ j l. (each_payable (from + j) (omega arith)).payout) in
+      every_each (is_payout (contract_of w)) from n (entry_at ns zs) (λ j l. each_payable (from + j) (omega arith)) in
       lines_long (contract_of w) (sound w a.table) es p ∙ ap (λ (k : ℕ). 85 * k) (length_each from n (entry_at ns zs))
 
 pub record Going (w ns : List ℕ) (zs : List ℤ) (from to : ℕ) (old : List ℕ) (at : ℕ) (i : ℕ) (new : List ℕ) (end : ℕ) : Type 0 where

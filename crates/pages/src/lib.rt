@@ -2,7 +2,9 @@
 #![tactic(auto)]
 
 ghost use Rattle.std.specs.Prelude.{◌≡◌, length};
+ghost use Rattle.std.specs.Option.{option_map_or};
 ghost use Rattle.results.specs.Coded.{report_at};
+ghost use Rattle.results.specs.declared.Report.TheVariants.{Sent};
 ghost use Rattle.pages.specs.Entries.{entries_of};
 ghost use Rattle.pages.specs.Answers.{paged, buffer_after};
 ghost use Rattle.pages.specs.Gathering.{gathered, numbers_after, values_after};
@@ -11,9 +13,9 @@ use contract::Contract;
 use payouts::Entries;
 use questions::Question;
 use results::Report;
+use tables::Passed;
 
 mod lines;
-mod notes;
 mod payouts;
 mod sheets;
 
@@ -45,7 +47,7 @@ impl Sheet {
 
 // What is gathered of a session: the rule and the clock of its last accepted step, and how many payouts wait for their page.
 // Kept: (a) the rule by its number, as a line has it and an entry that question 61 judges; before the first step 0, by which nothing is sent.
-#[derive(Clone, Copy)]
+#[derive(Clone, Copy, Default)]
 pub struct Gathered {
     pub rule: u64,
     pub clock: u64,
@@ -57,16 +59,67 @@ impl Gathered {
     pub fn nothing() -> Gathered
         ensures { result ≡ record { rule = 0; clock = 0; count = 0 } }
     {
+        Gathered::default()
+    }
+
+    // Result line i of those in a row, by their numbers and integers: the last accepted step's rule and clock are kept, and a payout joins the
+    // lent entries and values after those that are counted, where the page has room.
+    // Kept: (a) lists of numbers, here and in `note`: result lines are handed on so (docs/DECISIONS.md, 53), and the entries go to `page`, where
+    // question 61 judges any (63).
+    pub fn gather(
+        self,
+        numbers: &[u64],
+        integers: &[i64],
+        i: usize,
+        entries: &mut [u64],
+        values: &mut [i64],
+    ) -> Gathered
+        ensures value { result ≡ option_map_or (gathered self) (report_at numbers.now integers.now i) self }
+        ensures entries_after { entries.new ≡ option_map_or (λ r. numbers_after self r entries.old) (report_at numbers.now integers.now i) entries.old }
+        ensures values_after { values.new ≡ option_map_or (λ r. values_after self r values.old) (report_at numbers.now integers.now i) values.old }
+    {
+        let Some(report) = results::report_at(numbers, integers, i) else {
+            return self;
+        };
+        match report {
+            Report::Ruled(rule, _, clock) => Gathered {
+                rule: rule as u64,
+                clock,
+                ..self
+            },
+            Report::Sent(kind, party, value) => self.note(kind, party, value, entries, values),
+            Report::Held(_, _) | Report::Refused(_) | Report::Failed(_) => self,
+        }
+    }
+
+    // A label: a payout joins the others, where the page has room.
+    fn note(
+        self,
+        kind: u8,
+        party: usize,
+        value: i64,
+        entries: &mut [u64],
+        values: &mut [i64],
+    ) -> Gathered
+        ensures value { result ≡ gathered self (Sent kind party value) }
+        ensures entries_after { entries.new ≡ numbers_after self (Sent kind party value) entries.old }
+        ensures values_after { values.new ≡ values_after self (Sent kind party value) values.old }
+    {
+        if kind != Report::ASSET || Sheet::LINES <= self.count {
+            return self;
+        }
+        let entry = [Report::ASSET as u64, party as u64, self.rule, self.clock, 0];
+        items::store_all(entries, Sheet::NUMBERS * self.count, &entry);
+        items::set(values, self.count, value);
         Gathered {
-            rule: 0,
-            clock: 0,
-            count: 0,
+            count: self.count + 1,
+            ..self
         }
     }
 }
 
 // Page `number` of the entries given, five numbers and a value each, on the contract in a table. A refusal leaves the buffer as it was.
-// Kept: (a) the two lists are the public form, any numbers, and question 61 judges what they say; no heap to put the entries in.
+// Kept: (a) the entries come as two lists of numbers, any numbers, and question 61 judges what they say (docs/DECISIONS.md, 63).
 pub fn page(
     table: &[u64],
     numbers: &[u64],
@@ -80,11 +133,11 @@ pub fn page(
     if buffer.len() < Sheet::BYTES {
         return Err(Question::PageRoom);
     }
-    if !tables::table_passes(table) {
+    let Some(terms) = Passed::of(table) else {
         return Err(Question::TableCheck);
-    }
+    };
     let entries = Entries {
-        table,
+        terms,
         numbers,
         values,
     };
@@ -93,30 +146,4 @@ pub fn page(
     }
     entries.write_sheet(number, buffer);
     Ok(())
-}
-
-// Kept: (a) the two lists that a batch of result lines is handed on in, and the two that a page is made of, are the public form.
-// Result line i of those in a row, by their numbers and integers: the last accepted step's rule and clock are kept, and a payout joins the
-// lent entries and values after those that are counted, where the page has room.
-pub fn gather(
-    g: Gathered,
-    numbers: &[u64],
-    integers: &[i64],
-    i: usize,
-    entries: &mut [u64],
-    values: &mut [i64],
-) -> Gathered
-    ensures value { result ≡ gathered g (report_at numbers.now integers.now i) }
-    ensures entries_after { entries.new ≡ numbers_after g (report_at numbers.now integers.now i) entries.old }
-    ensures values_after { values.new ≡ values_after g (report_at numbers.now integers.now i) values.old }
-{
-    match results::report_at(numbers, integers, i) {
-        Report::Ruled(rule, _, clock) => Gathered {
-            rule: rule as u64,
-            clock,
-            ..g
-        },
-        Report::Sent(kind, party, value) => notes::note(g, kind, party, value, entries, values),
-        Report::Held(_, _) | Report::Refused(_) | Report::Failed(_) => g,
-    }
 }

@@ -1,19 +1,19 @@
 // The lines of a page.
-ghost use Rattle.std.specs.Prelude.{◌≡◌, true, ◌||◌, [], ◌++◌, ◌+◌, ◌-◌, ◌*◌, ◌≤◌, ◌<◌, length, get_or, eqb};
+ghost use Rattle.std.specs.Prelude.{◌≡◌, true, ◌||◌, [], ◌++◌, ◌+◌, ◌-◌, ◌≤◌, ◌<◌, length, get_or, eqb};
 ghost use Rattle.laws.specs.Bytes.{bytes};
 ghost use Rattle.words.specs.Words.{spelled, line_end};
 ghost use Rattle.contract.specs.Decode.{contract_of};
-ghost use Rattle.contract.specs.Check.{passes};
 ghost use Rattle.printing.specs.Decimal.{decimal};
 ghost use Rattle.printing.proofs.Writers.{Wrote, HasRoom};
 ghost use Rattle.results.specs.Lines.{rule_name};
-ghost use Rattle.pages.specs.Entries.{entry_at};
+ghost use Rattle.pages.specs.Entries.{is_payout};
 ghost use Rattle.pages.specs.Page.{right, left, line_of, blank_line, foot};
-ghost use Rattle.pages.specs.Private.{Payable, step_text, payee_text};
+ghost use Rattle.pages.specs.Private.{entry_of, step_text, payee_text};
 
 use crate::Sheet;
-use crate::payouts::Entries;
+use crate::payouts::Entry;
 use printing::Writer;
+use tables::Passed;
 
 // A number at the right of 19 bytes.
 fn put_right(out: &mut Writer, n: u64)
@@ -40,14 +40,17 @@ fn put_rule(out: &mut Writer, rule: u64)
 
 // A party's name at the left of 32 bytes.
 // Kept: (d) it ends as `put_rule` does: a function of the two lines would take the start and the piece put since, in its clauses too.
-fn put_party(out: &mut Writer, table: &[u64], party: usize)
-    requires table { (passes table.now ≡ true) × (party < length (contract_of table.now).parties) }
-    requires room { HasRoom (length (left 32 (get_or (contract_of table.now).parties party []))) out.old }
-    ensures written { Wrote out.old (left 32 (get_or (contract_of table.now).parties party [])) out.new }
+fn put_party(out: &mut Writer, terms: &Passed, party: usize)
+    requires party { party < length (contract_of terms.now.table.now).parties }
+    requires room { HasRoom (length (left 32 (get_or (contract_of terms.now.table.now).parties party []))) out.old }
+    ensures written { Wrote out.old (left 32 (get_or (contract_of terms.now.table.now).parties party [])) out.new }
     ensures same_buffer { out.new.buffer.ghost_name ≡ out.old.buffer.ghost_name }
 {
     let start = out.at;
-    out.put_name(table, contract::PARTIES + party * contract::NAME_WORDS);
+    out.put_name(
+        terms.table,
+        contract::PARTIES + party * contract::NAME_WORDS,
+    );
     let width = out.at - start;
     out.put_spaces(Sheet::PARTY.saturating_sub(width));
 }
@@ -66,33 +69,29 @@ fn put_step(out: &mut Writer, clock: u64, rule: u64)
 }
 
 // Party, a space, the amount and LF.
-fn put_payee(out: &mut Writer, table: &[u64], party: usize, amount: u64)
-    requires table { (passes table.now ≡ true) × (party < length (contract_of table.now).parties) }
-    requires room { HasRoom (length (payee_text (contract_of table.now) party amount)) out.old }
-    ensures written { Wrote out.old (payee_text (contract_of table.now) party amount) out.new }
+fn put_payee(out: &mut Writer, terms: &Passed, party: usize, amount: u64)
+    requires party { party < length (contract_of terms.now.table.now).parties }
+    requires room { HasRoom (length (payee_text (contract_of terms.now.table.now) party amount)) out.old }
+    ensures written { Wrote out.old (payee_text (contract_of terms.now.table.now) party amount) out.new }
     ensures same_buffer { out.new.buffer.ghost_name ≡ out.old.buffer.ghost_name }
 {
-    put_party(out, table, party);
+    put_party(out, terms, party);
     out.put_byte(b' ');
     put_right(out, amount);
     out.put_byte(b'\n');
 }
 
-impl Entries<'_> {
-    // The line of entry i, which stands there whole.
-    // Kept: (d) its numbers by their places, as in `entry_passes`: this is the only line that takes them from there once they are judged.
-    pub(crate) fn put_line(&self, out: &mut Writer, i: usize)
-        requires whole { (5 * i + 5 ≤ length self.now.numbers.now) × (i < length self.now.values.now) }
-        requires payable { Payable self.now.table.now (entry_at self.now.numbers.now self.now.values.now i) }
-        requires room { HasRoom (length (line_of (contract_of self.now.table.now) (entry_at self.now.numbers.now self.now.values.now i))) out.old }
-        ensures written { Wrote out.old (line_of (contract_of self.now.table.now) (entry_at self.now.numbers.now self.now.values.now i)) out.new }
+impl Entry {
+    // Its line.
+    pub(crate) fn put_line(self, out: &mut Writer, terms: &Passed)
+        requires payout { is_payout (contract_of terms.now.table.now) (entry_of self) ≡ true }
+        requires room { HasRoom (length (line_of (contract_of terms.now.table.now) (entry_of self))) out.old }
+        ensures written { Wrote out.old (line_of (contract_of terms.now.table.now) (entry_of self)) out.new }
         ensures same_buffer { out.new.buffer.ghost_name ≡ out.old.buffer.ghost_name }
     {
-        let k = Sheet::NUMBERS * i;
-        let numbers = self.numbers;
-        put_step(out, numbers[k + 3], numbers[k + 2]);
-        let party = numbers[k + 1] as usize;
-        put_payee(out, self.table, party, numbers::magnitude(self.values[i]));
+        put_step(out, self.clock, self.rule);
+        let amount = self.value.unsigned_abs();
+        put_payee(out, terms, self.party as usize, amount);
     }
 }
 

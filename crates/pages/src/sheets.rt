@@ -1,12 +1,12 @@
 // The lines of a page one after the other, and the page.
-ghost use Rattle.std.specs.Prelude.{◌≡◌, ◌++◌, ◌+◌, ◌-◌, ◌*◌, ◌≤◌, min, length, drop};
+ghost use Rattle.std.specs.Prelude.{◌≡◌, true, ◌++◌, ◌+◌, ◌-◌, ◌*◌, ◌≤◌, min, length, drop};
+ghost use Rattle.laws.specs.Lists.{every};
 ghost use Rattle.contract.specs.Decode.{contract_of, each_from};
 ghost use Rattle.contract.specs.Encode.{joined};
 ghost use Rattle.printing.proofs.Writers.{Wrote, HasRoom};
-ghost use Rattle.pages.specs.Entries.{entry_at, entries_of};
+ghost use Rattle.pages.specs.Entries.{is_payout, entry_at, entries_of};
 ghost use Rattle.pages.specs.Page.{line_of, blank_lines, page_of};
 ghost use Rattle.pages.specs.Answers.{page_bytes};
-ghost use Rattle.pages.specs.Private.{AllPayable};
 
 use crate::Sheet;
 use crate::lines::{put_blank, put_foot};
@@ -43,21 +43,21 @@ fn put_blanks(out: &mut Writer, n: usize)
 impl Entries<'_> {
     // The lines of the entries numbered from `from` up to, not including, `to`.
     fn put_lines(&self, out: &mut Writer, from: usize, to: usize)
-        requires all_payable { AllPayable self.now.table.now self.now.numbers.now self.now.values.now }
+        requires payouts { every (is_payout (contract_of self.now.terms.table.now)) (entries_of self.now.numbers.now self.now.values.now) ≡ true }
         requires to_in_bounds { (to ≤ length self.now.values.now) × (HasRoom (85 * (to - from)) out.old) }
-        ensures written { Wrote out.old (joined (line_of (contract_of self.now.table.now)) (each_from from (to - from) (entry_at self.now.numbers.now self.now.values.now))) out.new }
+        ensures written { Wrote out.old (joined (line_of (contract_of self.now.terms.table.now)) (each_from from (to - from) (entry_at self.now.numbers.now self.now.values.now))) out.new }
         ensures same_buffer { out.new.buffer.ghost_name ≡ out.old.buffer.ghost_name }
     {
         for i in from..to {
-            self.put_line(out, i);
+            self.entry(i).put_line(out, &self.terms);
         }
     }
 
     // A page by its number: the lines of its entries, blank lines, the foot.
     pub(crate) fn write_sheet(&self, number: usize, buffer: &mut [u8])
-        requires all_payable { AllPayable self.now.table.now self.now.numbers.now self.now.values.now }
+        requires payouts { every (is_payout (contract_of self.now.terms.table.now)) (entries_of self.now.numbers.now self.now.values.now) ≡ true }
         requires room { page_bytes ≤ length buffer.old }
-        ensures { buffer.new ≡ page_of (contract_of self.now.table.now) (entries_of self.now.numbers.now self.now.values.now) number ++ drop page_bytes buffer.old }
+        ensures { buffer.new ≡ page_of (contract_of self.now.terms.table.now) (entries_of self.now.numbers.now self.now.values.now) number ++ drop page_bytes buffer.old }
     {
         let first = first_of(number, self.values.len());
         let end = end_of(first, self.values.len());

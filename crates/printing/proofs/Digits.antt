@@ -1,6 +1,5 @@
 -- The digits of a number. Assumes nothing.
 use mathlib.Core.Path.{◌≡◌, refl, sym, ap, ◌∙◌}
-use mathlib.Core.Bool.{true, false}
 use mathlib.Core.List.{List, [], ◌∷◌, ◌++◌}
 use Prim.Native.Nat.{ℕ, zero, suc, ◌+◌, ◌*◌, max, ◌/◌, ◌%◌, ◌^◌, ◌<◌, ◌≤◌}
 use native.Mathlib.Omega.{arith}
@@ -8,13 +7,12 @@ use lib.ListN.{length, set, length-append}
 use lib.Seq.{sets}
 use lib.Dec.{ltb}
 use lib.IntN.{ℤ, pos, negsuc, nat_abs}
-use lib.Signed.{lt_z}
 use mir.Syntax.{w64}
 use mir.Val.{SFits}
 use borrow.Author.Tests.{ltb-true, ltb-false, lt-ltb, le-ltb}
+use Rattle.std.specs.Int.{FitsUnsignedBits}
 use Rattle.laws.specs.Bytes.{bytes}
-use Rattle.laws.proofs.Choice.{pick_true, pick_false, by_cases, true_false}
-use Rattle.numbers.proofs.Whole.{lt_true}
+use Rattle.laws.proofs.Choice.{pick_true, pick_false, by_cases}
 use Rattle.printing.specs.Decimal.{digit, decimal_within, decimal, signed}
 use Rattle.printing.proofs.Puts.{sets_last}
 
@@ -115,23 +113,23 @@ store_last buffer at k n =
 
 -- ---- whole numbers
 
-negative : (z : ℤ) → lt_z z (pos 0) ≡ true → signed z ≡ bytes "-" ++ decimal (nat_abs z)
+natural : (z : ℤ) → FitsUnsignedBits 64 z → signed z ≡ decimal (nat_abs z)
 unfolding signed
-negative (pos n) e = absurd (omega (arith, lt_true (pos n) (pos 0) e))
-negative (negsuc n) e = refl
+natural (pos n) f = refl
+natural (negsuc n) f = absurd f
 
-positive : (z : ℤ) → lt_z z (pos 0) ≡ false → signed z ≡ decimal (nat_abs z)
+negative : (z : ℤ) → SFits w64 z → (FitsUnsignedBits 64 z → ⊥) → signed z ≡ bytes "-" ++ decimal (nat_abs z)
 unfolding signed
-positive (pos n) e = refl
-positive (negsuc n) e = true_false e
+negative (pos n) f h = absurd (h (omega (arith, f.sfits)))
+negative (negsuc n) f h = refl
 
 -- by the bits x of z and its distance m from zero
 module _ {x z : ℤ} {m : ℕ} (q : x ≡ z) (d : m ≡ nat_abs x) where
-  pub signed_negative : lt_z x (pos 0) ≡ true → signed z ≡ bytes "-" ++ decimal m
-  signed_negative h = sym (ap signed q) ∙ negative x h ∙ ap (λ (k : ℕ). bytes "-" ++ decimal k) (sym d)
+  pub signed_natural : FitsUnsignedBits 64 x → decimal m ≡ signed z
+  signed_natural f = ap decimal d ∙ sym (natural x f) ∙ ap signed q
 
-  pub signed_positive : lt_z x (pos 0) ≡ false → signed z ≡ decimal m
-  signed_positive h = sym (ap signed q) ∙ positive x h ∙ ap decimal (sym d)
+  pub signed_negative : SFits w64 x → (FitsUnsignedBits 64 x → ⊥) → bytes "-" ++ decimal m ≡ signed z
+  signed_negative f h = ap (λ (k : ℕ). bytes "-" ++ decimal k) d ∙ sym (negative x f h) ∙ ap signed q
 
 pub signed_short : (z : ℤ) → SFits w64 z → length (signed z) ≤ 21
 unfolding signed

@@ -134,10 +134,6 @@ module _ {old : List ℕ} {at : ℕ} where
   pub same : {u v new : List ℕ} {n : ℕ} → u ≡ v → Put old at u n new → Put old at v n new
   same {u} {v} {new} {n} e p = subst (λ (w : List ℕ). Put old at w n new) e p
 
-  -- three pieces stored as one
-  pub apart : (a b c rest : List ℕ) {new : List ℕ} {n : ℕ} → Put old at ((a ++ (b ++ c)) ++ rest) n new → Put old at (a ++ (b ++ (c ++ rest))) n new
-  apart a b c rest p = same (append_assoc a (b ++ c) rest ∙ ap (λ (l : List ℕ). a ++ l) (append_assoc b c rest)) p
-
 -- a line with room for all of it: its first piece, then the rest, which has room too
 module _ {old mid new : List ℕ} {at m n : ℕ} {v : List ℕ} where
   pub part : {u : List ℕ} → at + length (u ++ v) ≤ length old → Put old at u m mid → (m + length v ≤ length mid → Put mid m v n new)

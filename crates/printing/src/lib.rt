@@ -86,20 +86,19 @@ impl Writer<'_> {
     }
 
     // The name or string of a table whose length stands at word o, of each of its words the last eight bits.
-    // Kept: (b) the words one by one, and `name_length` below: by `contract::bytes_at` a session of 20,002 lines takes 83,238,411
-    // instructions for 83,058,301, with `iter_mut` and `zip` over them 83,862,116 (desks built without their proofs).
+    // Kept: (c) the bytes by their places: std's contract of an adapter of `iter_mut`, as `zip`, leaves out what is written through it.
     pub fn put_name(&mut self, table: &[u64], o: usize)
         ensures place { self.new.at ≡ place_after self.old.buffer.now self.old.at (name_bytes table.now o) }
         ensures bytes { self.new.buffer.now ≡ put self.old.buffer.now self.old.at (name_bytes table.now o) }
         ensures same_buffer { self.new.buffer.ghost_name ≡ self.old.buffer.ghost_name }
     {
-        let n = name_length(table, o);
-        if self.has_room(n) {
+        let name = contract::bytes_at(table, o);
+        if self.has_room(name.len()) {
             let at = self.at;
-            for i in 0..n {
-                self.buffer[at + i] = (table[o + 1 + i] % 256) as u8;
+            for (i, b) in name.iter().enumerate() {
+                self.buffer[at + i] = (*b % 256) as u8;
             }
-            self.at = at + n;
+            self.at = at + name.len();
         }
     }
 
@@ -121,20 +120,15 @@ impl Writer<'_> {
     }
 
     // The digits of a number.
-    // Kept: (a) no Display: a lent buffer takes a piece as a whole or nothing of it. (b) One digit has its own way: without it the session
-    // above takes 83,281,115 instructions for 83,058,301.
+    // Kept: (a) no Display: a lent buffer takes a piece as a whole or nothing of it.
     pub fn put_number(&mut self, n: u64)
         ensures place { self.new.at ≡ place_after self.old.buffer.now self.old.at (decimal n) }
         ensures bytes { self.new.buffer.now ≡ put self.old.buffer.now self.old.at (decimal n) }
         ensures same_buffer { self.new.buffer.ghost_name ≡ self.old.buffer.ghost_name }
     {
-        if n < 10 {
-            self.put_byte(b'0' + n as u8);
-        } else {
-            let count = digit_count(n);
-            if self.has_room(count) {
-                self.store_digits(count, n);
-            }
+        let count = digit_count(n);
+        if self.has_room(count) {
+            self.store_digits(count, n);
         }
     }
 
@@ -152,32 +146,16 @@ impl Writer<'_> {
     }
 
     // A whole number.
-    // Kept: (b) the magnitude in each arm: taken before the test it costs 65,673 instructions of 82,992,628, as above.
     pub fn put_integer(&mut self, z: i64)
         ensures place { self.new.at ≡ place_after self.old.buffer.now self.old.at (signed z) }
         ensures bytes { self.new.buffer.now ≡ put self.old.buffer.now self.old.at (signed z) }
         ensures same_buffer { self.new.buffer.ghost_name ≡ self.old.buffer.ghost_name }
     {
-        if z < 0 {
-            self.put_negative(numbers::magnitude(z));
-        } else {
-            self.put_number(numbers::magnitude(z));
+        match u64::try_from(z) {
+            Ok(n) => self.put_number(n),
+            Err(_) => self.put_negative(z.unsigned_abs()),
         }
     }
-}
-
-// How many bytes the name or string has whose length stands at word o: as many as the table has words for.
-fn name_length(table: &[u64], o: usize) -> usize
-    ensures { result ≡ length (name_bytes table.now o) }
-{
-    if table.len() <= o {
-        return 0;
-    }
-    let left = table.len() - o - 1;
-    if table[o] < left as u64 {
-        return table[o] as usize;
-    }
-    left
 }
 
 // How many digits a number has.

@@ -12,21 +12,24 @@ use mir.Val.{SFits, to_z, of_z}
 use mir.Facts.{to_z-of_z}
 use Rattle.laws.specs.Bytes.{bytes}
 use Rattle.laws.specs.Choice.{pick}
-use Rattle.laws.proofs.Choice.{pick_true, pick_false, by_cases}
+use Rattle.laws.proofs.Choice.{pick_true, pick_false, by_cases, true_false}
 use Rattle.words.specs.Words.{spelled, event_match, refused, line_end}
 use Rattle.contract.specs.Decode.{contract_of}
 use Rattle.contract.specs.Check.{passes}
 use Rattle.printing.specs.Decimal.{decimal, signed}
 use Rattle.printing.specs.Pieces.{Put, name_bytes}
-use Rattle.printing.proofs.Puts.{Puts, put_of, part, piece, same, apart, over, line_end_lem}
+use Rattle.printing.proofs.Puts.{Puts, put_of, part, piece, same, over, line_end_lem}
 use Rattle.printing.proofs.Digits.{word_short, signed_short}
 use Rattle.results.specs.Lines.{value_ok, report_ok, rule_name, value_text, arrow, refused_text, line_of, text_refusal, text_line}
 use Rattle.results.specs.Results.{written, text_written, after, buffer_after, text_buffer_after}
-use Rattle.results.specs.Private.{Ready, ReadyValue}
+use Rattle.results.specs.Private.{Ready, ReadyValue, PutLine}
 use Rattle.results.specs.declared.Report.{Report}
 use Rattle.results.specs.declared.Report.TheVariants.{Ruled, Sent, Held}
 use Rattle.results.specs.declared.Report.TheVariants as report
-use Rattle.std.specs.Prelude.{Result, Ok, Err}
+use Rattle.std.specs.Prelude.{Result, Ok, Err, Option, Some, None, is_some, unwrap_or}
+use Rattle.tables.specs.declared.Passed.{Passed}
+use Rattle.tables.specs.Passing.{passing, held}
+use Rattle.contract_laws.proofs.Inversions.{by_test}
 use Rattle.questions.specs.declared.Question.{Question}
 use Rattle.questions.specs.declared.Question.TheVariants as ask
 use Rattle.results.proofs.Rows.{Row, party_row, asset_row, state_row, string_row}
@@ -34,40 +37,29 @@ use Rattle.results.proofs.Ranges.{state_below, party_below, asset_below, value_b
 
 -- ---- what a report that is ready names
 
-module _ {w : List ℕ} {old : List ℕ} {at : ℕ} where
+module _ {w : List ℕ} {old : List ℕ} {at : ℕ} (t : passes w ≡ true) where
   pub ready_state : {rule state clock : ℕ} → Ready w (Ruled rule state clock) old at → Row w (contract_of w).states state (1891 + state * 33) 32
-  ready_state {rule} {state} {clock} r = state_row w r.table state (state_below (contract_of w) rule state clock r.range)
+  ready_state {rule} {state} {clock} r = state_row w t state (state_below (contract_of w) rule state clock r.range)
 
   pub ready_party : {kind party : ℕ} {z : ℤ} → Ready w (Sent kind party z) old at → Row w (contract_of w).parties party (43 + party * 33) 32
-  ready_party {kind} {party} {z} r = party_row w r.table party (party_below (contract_of w) kind party z r.range)
+  ready_party {kind} {party} {z} r = party_row w t party (party_below (contract_of w) kind party z r.range)
 
   pub ready_asset : {asset amount : ℕ} → Ready w (Held asset amount) old at → Row w (contract_of w).assets asset (307 + asset * 33) 32
-  ready_asset {asset} {amount} r = asset_row w r.table asset (asset_below (contract_of w) asset amount r.range)
+  ready_asset {asset} {amount} r = asset_row w t asset (asset_below (contract_of w) asset amount r.range)
 
   pub ready_value : {kind party : ℕ} {z : ℤ} → SFits w64 z → Ready w (Sent kind party z) old at → ReadyValue w kind (to_z w64 (of_z w64 z)) old at
   ready_value {kind} {party} {z} f r =
       record {
         room = r.room;
-        table = r.table;
         range = ap (value_ok (contract_of w) kind) (to_z-of_z f) ∙ value_below (contract_of w) kind party z r.range;
       }
 
   ready_whole : {kind party : ℕ} {z : ℤ} → Ready w (Sent kind party z) old at → ReadyValue w kind z old at
-  ready_whole {kind} {party} {z} r = record { room = r.room; table = r.table; range = value_below (contract_of w) kind party z r.range }
+  ready_whole {kind} {party} {z} r = record { room = r.room; range = value_below (contract_of w) kind party z r.range }
 
   pub ready_string : {kind : ℕ} {z : ℤ} → ReadyValue w kind z old at → kind ≡ 2 → (m : ℕ) → m ≡ nat_abs z → Row w (contract_of w).strings m (2947 + m * 65) 64
   ready_string {kind} {z} r k m e =
-      string_row w r.table m (subst (λ (i : ℕ). i < length (contract_of w).strings) (sym e) (string_below (contract_of w) kind z r.range k))
-
-  pub ready_as : {a b : Report} → a ≡ b → Ready w a old at → Ready w b old at
-  ready_as {a} {b} e r = subst (λ (x : Report). Ready w x old at) e r
-
--- a label and the bits of its value
-pub sent_bits : (kind party : ℕ) {z : ℤ} → SFits w64 z → Sent kind party z ≡ Sent kind party (to_z w64 (of_z w64 z))
-sent_bits kind party f = ap (Sent kind party) (sym (to_z-of_z f))
-
-pub line_as : {old new : List ℕ} {at end : ℕ} (w : List ℕ) {a b : Report} → a ≡ b → Put old at (line_of (contract_of w) a) end new → Put old at (line_of (contract_of w) b) end new
-line_as w e p = same (ap (line_of (contract_of w)) e) p
+      string_row w t m (subst (λ (i : ℕ). i < length (contract_of w).strings) (sym e) (string_below (contract_of w) kind z r.range k))
 
 -- ---- lengths
 
@@ -85,12 +77,12 @@ arrow_short kind =
     let P : List ℕ → Type 0 = λ l. length (bytes " " ++ (l ++ bytes " ")) ≤ 4 in
     by_cases P _ _ _ (λ _. omega arith) λ _. omega arith
 
-pub value_short : {w : List ℕ} {kind : ℕ} {old : List ℕ} {at : ℕ} {z : ℤ} → SFits w64 z → ReadyValue w kind z old at → length (value_text (contract_of w) kind z) ≤ 66
+pub value_short : {w : List ℕ} {kind : ℕ} {old : List ℕ} {at : ℕ} {z : ℤ} → passes w ≡ true → SFits w64 z → ReadyValue w kind z old at → length (value_text (contract_of w) kind z) ≤ 66
 unfolding value_text spelled
-value_short {w} {kind} {z = z} f r =
+value_short {w} {kind} {z = z} p f r =
     by_cases (λ (l : List ℕ). length l ≤ 66) _ _ _
     (λ t.
-    let row = ready_string r (eqb-true kind 2 t) (nat_abs z) refl in
+    let row = ready_string p r (eqb-true kind 2 t) (nat_abs z) refl in
     omega (arith, row.short, ap length row.name, length-append (get_or (contract_of w).strings (nat_abs z) []) (bytes "\"")))
     λ _. omega (arith, signed_short z f)
 
@@ -100,18 +92,28 @@ refused_short n h = omega (arith, word_short n (omega arith))
 
 -- ---- lines
 
+in_three : (a b c rest : List ℕ) → (a ++ (b ++ c)) ++ rest ≡ a ++ (b ++ (c ++ rest))
+in_three a b c rest = append_assoc a (b ++ c) rest ∙ ap (λ (l : List ℕ). a ++ l) (append_assoc b c rest)
+
 module _ {old new : List ℕ} {at end : ℕ} where
-  pub ruled_line : {s1 s2 s3 s4 : Type 0} {w : List ℕ} {rule state clock : ℕ} {l1 l2 l3 l4 : List ℕ} {a1 a2 a3 a4 : ℕ} → Ready w (Ruled rule state clock) old at → clock < 2 ^ 64
+  -- a line of at most 128 bytes, which have room
+  line_put : {u : List ℕ} → length u ≤ 128 → at + 128 ≤ length old → (at + length u ≤ length old → Put old at u end new) → PutLine old at u end new
+  line_put l r p = record { put = p (omega (arith, l, r)); short = l }
+
+  line_same : {u v : List ℕ} → u ≡ v → PutLine old at u end new → PutLine old at v end new
+  line_same {u} {v} e p = subst (λ (l : List ℕ). PutLine old at l end new) e p
+
+  pub ruled_line : {s1 s2 s3 s4 : Type 0} {w : List ℕ} {rule state clock : ℕ} {l1 l2 l3 l4 : List ℕ} {a1 a2 a3 a4 : ℕ} → passes w ≡ true → Ready w (Ruled rule state clock) old at → clock < 2 ^ 64
       → Put old at (bytes "[" ++ (rule_name rule ++ bytes "] ")) a1 l1 → Puts l1 a1 (name_bytes w (1891 + state * 33)) a2 l2 s1 → Puts l2 a2 (bytes ", ") a3 l3 s2
-      → Puts l3 a3 (decimal clock) a4 l4 s3 → Puts l4 a4 (bytes "\n") end new s4 → Put old at (line_of (contract_of w) (Ruled rule state clock)) end new
+      → Puts l3 a3 (decimal clock) a4 l4 s3 → Puts l4 a4 (bytes "\n") end new s4 → PutLine old at (line_of (contract_of w) (Ruled rule state clock)) end new
   unfolding line_of spelled
-  ruled_line {w} {rule} {state} {clock} r k p1 p2 p3 p4 p5 =
-      let row = ready_state r in
+  ruled_line {w} {rule} {state} {clock} t r k p1 p2 p3 p4 p5 =
+      let row = ready_state t r in
       let head : List ℕ = bytes "[" ++ (rule_name rule ++ bytes "] ") in
       let tail : List ℕ = decimal clock ++ bytes "\n" in
       let name : List ℕ = name_bytes w (1891 + state * 33) in
       let rest : List ℕ = name ++ (bytes ", " ++ tail) in
-      let h : at + length (head ++ rest) ≤ length old =
+      let h : length (head ++ rest) ≤ 128 =
       omega (
         arith,
         length-append head rest,
@@ -120,76 +122,72 @@ module _ {old new : List ℕ} {at end : ℕ} where
         rule_short rule,
         row.short,
         word_short clock k,
-        r.room,
       ) in
-      same (ap (λ (l : List ℕ). bytes "[" ++ (rule_name rule ++ (bytes "] " ++ (l ++ (bytes ", " ++ tail))))) (sym row.name))
-      (apart (bytes "[") (rule_name rule) (bytes "] ") rest
-      (part h p1 λ h. piece name h p2 λ h. piece (bytes ", ") h p3 λ h. piece (decimal clock) h p4 λ h. put_of (bytes "\n") p5 h))
+      line_same (in_three (bytes "[") (rule_name rule) (bytes "] ") rest ∙ ap (λ (l : List ℕ). bytes "[" ++ (rule_name rule ++ (bytes "] " ++ (l ++ (bytes ", " ++ tail))))) (sym row.name))
+      (line_put h r.room λ h. part h p1 λ h. piece name h p2 λ h. piece (bytes ", ") h p3 λ h. piece (decimal clock) h p4 λ h. put_of (bytes "\n") p5 h)
 
   -- x is the value as its bits give it
-  pub sent_line : {s1 s2 : Type 0} {w : List ℕ} {kind party : ℕ} {x z : ℤ} {l1 l2 l3 : List ℕ} {a1 a2 a3 : ℕ} → x ≡ z → SFits w64 z → Ready w (Sent kind party z) old at
+  pub sent_line : {s1 s2 : Type 0} {w : List ℕ} {kind party : ℕ} {x z : ℤ} {l1 l2 l3 : List ℕ} {a1 a2 a3 : ℕ} → passes w ≡ true → x ≡ z → SFits w64 z → Ready w (Sent kind party z) old at
       → Put old at (value_text (contract_of w) kind x) a1 l1 → Put l1 a1 (bytes " " ++ (arrow kind ++ bytes " ")) a2 l2
-      → Puts l2 a2 (name_bytes w (43 + party * 33)) a3 l3 s1 → Puts l3 a3 (bytes "\n") end new s2 → Put old at (line_of (contract_of w) (Sent kind party z)) end new
+      → Puts l2 a2 (name_bytes w (43 + party * 33)) a3 l3 s1 → Puts l3 a3 (bytes "\n") end new s2 → PutLine old at (line_of (contract_of w) (Sent kind party z)) end new
   unfolding line_of spelled
-  sent_line {w} {kind} {party} {x} {z} q f r p1 p2 p3 p4 =
-      let row = ready_party r in
+  sent_line {w} {kind} {party} {x} {z} t q f r p1 p2 p3 p4 =
+      let row = ready_party t r in
       let value : List ℕ = value_text (contract_of w) kind z in
       let mark : List ℕ = bytes " " ++ (arrow kind ++ bytes " ") in
       let name : List ℕ = name_bytes w (43 + party * 33) in
-      let h : at + length (value ++ (mark ++ (name ++ bytes "\n"))) ≤ length old =
+      let h : length (value ++ (mark ++ (name ++ bytes "\n"))) ≤ 128 =
       omega (
         arith,
         length-append value (mark ++ (name ++ bytes "\n")),
         length-append mark (name ++ bytes "\n"),
         length-append name (bytes "\n"),
-        value_short f (ready_whole r),
+        value_short t f (ready_whole t r),
         arrow_short kind,
         row.short,
-        r.room,
       ) in
-      same
+      line_same
       (ap (λ (l : List ℕ). value ++ l) (append_assoc (bytes " ") (arrow kind ++ bytes " ") (name ++ bytes "\n") ∙ ap (λ (l : List ℕ). bytes " " ++ l) (append_assoc (arrow kind) (bytes " ") (name ++ bytes "\n")))
       ∙ ap (λ (l : List ℕ). value ++ (bytes " " ++ (arrow kind ++ (bytes " " ++ (l ++ bytes "\n"))))) (sym row.name))
-      (part h (same (ap (value_text (contract_of w) kind) q) p1) λ h. part h p2 λ h. piece name h p3 λ h. put_of (bytes "\n") p4 h)
+      (line_put h r.room λ h. part h (same (ap (value_text (contract_of w) kind) q) p1) λ h. part h p2 λ h. piece name h p3 λ h. put_of (bytes "\n") p4 h)
 
-  pub held_line : {s1 s2 s3 s4 : Type 0} {w : List ℕ} {asset amount : ℕ} {l1 l2 l3 : List ℕ} {a1 a2 a3 : ℕ} → Ready w (Held asset amount) old at → amount < 2 ^ 64
+  pub held_line : {s1 s2 s3 s4 : Type 0} {w : List ℕ} {asset amount : ℕ} {l1 l2 l3 : List ℕ} {a1 a2 a3 : ℕ} → passes w ≡ true → Ready w (Held asset amount) old at → amount < 2 ^ 64
       → Puts old at (name_bytes w (307 + asset * 33)) a1 l1 s1 → Puts l1 a1 (bytes " = ") a2 l2 s2 → Puts l2 a2 (decimal amount) a3 l3 s3 → Puts l3 a3 (bytes "\n") end new s4
-      → Put old at (line_of (contract_of w) (Held asset amount)) end new
+      → PutLine old at (line_of (contract_of w) (Held asset amount)) end new
   unfolding line_of spelled
-  held_line {w} {asset} {amount} r k p1 p2 p3 p4 =
-      let row = ready_asset r in
+  held_line {w} {asset} {amount} t r k p1 p2 p3 p4 =
+      let row = ready_asset t r in
       let tail : List ℕ = decimal amount ++ bytes "\n" in
       let name : List ℕ = name_bytes w (307 + asset * 33) in
-      let h : at + length (name ++ (bytes " = " ++ tail)) ≤ length old =
-      omega (arith, length-append name (bytes " = " ++ tail), length-append (decimal amount) (bytes "\n"), row.short, word_short amount k, r.room) in
-      same (ap (λ (l : List ℕ). l ++ (bytes " = " ++ tail)) (sym row.name))
-      (piece name h p1 λ h. piece (bytes " = ") h p2 λ h. piece (decimal amount) h p3 λ h. put_of (bytes "\n") p4 h)
+      let h : length (name ++ (bytes " = " ++ tail)) ≤ 128 =
+      omega (arith, length-append name (bytes " = " ++ tail), length-append (decimal amount) (bytes "\n"), row.short, word_short amount k) in
+      line_same (ap (λ (l : List ℕ). l ++ (bytes " = " ++ tail)) (sym row.name))
+      (line_put h r.room λ h. piece name h p1 λ h. piece (bytes " = ") h p2 λ h. piece (decimal amount) h p3 λ h. put_of (bytes "\n") p4 h)
 
-  pub refused_line : {s1 : Type 0} {k : ℕ} {l1 : List ℕ} {a1 : ℕ} → k < 256 → at + 29 ≤ length old → Put old at (refused_text k) a1 l1 → Puts l1 a1 (bytes "\n") end new s1
-      → Put old at (refused_text k ++ spelled line_end) end new
+  pub refused_line : {s1 : Type 0} {k : ℕ} {l1 : List ℕ} {a1 : ℕ} → k < 256 → at + 128 ≤ length old → Put old at (refused_text k) a1 l1 → Puts l1 a1 (bytes "\n") end new s1
+      → PutLine old at (refused_text k ++ spelled line_end) end new
   unfolding spelled
   refused_line {k} f r p1 p2 =
-      let h : at + length (refused_text k ++ bytes "\n") ≤ length old = omega (arith, length-append (refused_text k) (bytes "\n"), refused_short k f, r) in
-      part h p1 λ h. put_of (bytes "\n") p2 h
+      let h : length (refused_text k ++ bytes "\n") ≤ 128 = omega (arith, length-append (refused_text k) (bytes "\n"), refused_short k f) in
+      line_put h r λ h. part h p1 λ h. put_of (bytes "\n") p2 h
 
-  pub failed_line : {k : ℕ} {l1 : List ℕ} {a1 : ℕ} → k < 256 → at + 43 ≤ length old → Put old at (bytes "[" ++ (rule_name 2 ++ bytes "] ")) a1 l1
-      → Put l1 a1 (refused_text k ++ spelled line_end) end new
-      → Put old at (bytes "[" ++ (spelled event_match ++ (bytes "] " ++ (refused_text k ++ spelled line_end)))) end new
+  pub failed_line : {s1 : Type 0} {k : ℕ} {l1 l2 : List ℕ} {a1 a2 : ℕ} → k < 256 → at + 128 ≤ length old → Put old at (bytes "[" ++ (rule_name 2 ++ bytes "] ")) a1 l1
+      → Put l1 a1 (refused_text k) a2 l2 → Puts l2 a2 (bytes "\n") end new s1
+      → PutLine old at (bytes "[" ++ (spelled event_match ++ (bytes "] " ++ (refused_text k ++ spelled line_end)))) end new
   unfolding rule_name spelled pick
-  failed_line {k} f r p1 p2 =
+  failed_line {k} f r p1 p2 p3 =
       let rest : List ℕ = refused_text k ++ bytes "\n" in
-      let h : at + length ((bytes "[" ++ (rule_name 2 ++ bytes "] ")) ++ rest) ≤ length old =
-      omega (arith, length-append (refused_text k) (bytes "\n"), refused_short k f, r) in
-      apart (bytes "[") (rule_name 2) (bytes "] ") rest (part h p1 λ _. p2)
+      let h : length ((bytes "[" ++ (rule_name 2 ++ bytes "] ")) ++ rest) ≤ 128 = omega (arith, length-append (refused_text k) (bytes "\n"), refused_short k f) in
+      line_same (in_three (bytes "[") (rule_name 2) (bytes "] ") rest) (line_put h r λ h. part h p1 λ h. part h p2 λ h. put_of (bytes "\n") p3 h)
 
-  pub refused_as : (w : List ℕ) (k : ℕ) {r : Report} → r ≡ report.Refused k → Put old at (refused_text k ++ spelled line_end) end new → Put old at (line_of (contract_of w) r) end new
+  pub refused_as : (w : List ℕ) (k : ℕ) {r : Report} → r ≡ report.Refused k → PutLine old at (refused_text k ++ spelled line_end) end new → PutLine old at (line_of (contract_of w) r) end new
   unfolding line_of
-  refused_as w k e p = same (sym (ap (line_of (contract_of w)) e)) p
+  refused_as w k e p = line_same (sym (ap (line_of (contract_of w)) e)) p
 
-  pub failed_as : (w : List ℕ) (k : ℕ) {r : Report} → r ≡ report.Failed k → Put old at (bytes "[" ++ (spelled event_match ++ (bytes "] " ++ (refused_text k ++ spelled line_end)))) end new
-      → Put old at (line_of (contract_of w) r) end new
+  pub failed_as : (w : List ℕ) (k : ℕ) {r : Report} → r ≡ report.Failed k → PutLine old at (bytes "[" ++ (spelled event_match ++ (bytes "] " ++ (refused_text k ++ spelled line_end)))) end new
+      → PutLine old at (line_of (contract_of w) r) end new
   unfolding line_of
-  failed_as w k e p = same (sym (ap (line_of (contract_of w)) e)) p
+  failed_as w k e p = line_same (sym (ap (line_of (contract_of w)) e)) p
 
   pub text_line_lem : {s1 s2 s3 : Type 0} {k place : ℕ} {l1 l2 l3 : List ℕ} {a1 a2 a3 : ℕ} → k < 256 → place < 2 ^ 64 → at + 128 ≤ length old → Put old at (refused_text k) a1 l1
       → Puts l1 a1 (bytes " ") a2 l2 s1 → Puts l2 a2 (decimal place) a3 l3 s2 → Puts l3 a3 (bytes "\n") end new s3 → Put old at (text_line k place) end new
@@ -200,11 +198,11 @@ module _ {old new : List ℕ} {at end : ℕ} where
       omega (arith, length-append (refused_text k) (bytes " " ++ tail), length-append (decimal place) (bytes "\n"), refused_short k f, word_short place g, r) in
       part h p1 λ h. piece (bytes " ") h p2 λ h. piece (decimal place) h p3 λ h. put_of (bytes "\n") p4 h
 
-  pub string_value : {s1 s2 s3 : Type 0} {w : List ℕ} {kind m : ℕ} {z : ℤ} {l1 l2 : List ℕ} {a1 a2 : ℕ} → kind ≡ 2 → m ≡ nat_abs z → ReadyValue w kind z old at
+  pub string_value : {s1 s2 s3 : Type 0} {w : List ℕ} {kind m : ℕ} {z : ℤ} {l1 l2 : List ℕ} {a1 a2 : ℕ} → passes w ≡ true → kind ≡ 2 → m ≡ nat_abs z → ReadyValue w kind z old at
       → Puts old at (bytes "\"") a1 l1 s1 → Puts l1 a1 (name_bytes w (2947 + m * 65)) a2 l2 s2 → Puts l2 a2 (bytes "\"") end new s3 → Put old at (value_text (contract_of w) kind z) end new
   unfolding value_text spelled
-  string_value {w} {kind} {m} {z} k e r p1 p2 p3 =
-      let row = ready_string r k m e in
+  string_value {w} {kind} {m} {z} t k e r p1 p2 p3 =
+      let row = ready_string t r k m e in
       let name : List ℕ = name_bytes w (2947 + m * 65) in
       let h : at + length (bytes "\"" ++ (name ++ bytes "\"")) ≤ length old = omega (arith, length-append name (bytes "\""), row.short, r.room) in
       same
@@ -300,3 +298,22 @@ module _ (k place : ℕ) (old : List ℕ) where
       let e : Ok n ≡ text_written k place (length old) =
       ap Ok (line_end_lem p) ∙ sym (pick_false _ _ _ (le-ltb (length old) 128 h) ∙ pick_true _ _ _ t) in
       record { value = e; buffer_after = wrote_after e p }
+
+-- ---- a table that was asked for question 3
+
+none_some : {A : Type 0} {a : A} → Some a ≡ None → ⊥
+none_some e = true_false (ap (λ o. is_some o) e)
+
+module _ (w : List ℕ) {r : Option Passed} (e : held r ≡ passing w) where
+  pub same_table : {p : Passed} → r ≡ Some p → p.table.now ≡ w
+  same_table {p} s =
+      let q : Some p.table.now ≡ passing w = sym (ap held s) ∙ e in
+      by_test (passes w) (λ t. ap (λ (o : Option (List ℕ)). unwrap_or o w) (q ∙ pick_true _ _ _ t)) λ t. absurd (none_some (q ∙ pick_false _ _ _ t))
+
+  pub passes_then : {p : Passed} → r ≡ Some p → passes w ≡ true
+  passes_then {p} s = ap passes (sym (same_table s)) ∙ p.whole
+
+  pub not_passed : r ≡ None → passes w ≡ false
+  not_passed s =
+      let q : None ≡ passing w = sym (ap held s) ∙ e in
+      by_test (passes w) (λ t. absurd (none_some (sym (q ∙ pick_true _ _ _ t)))) λ t. t

@@ -1,7 +1,7 @@
 -- Reports that were handed on as numbers are the same reports again, and their lines are all written where there is room. Assumes nothing.
 use mathlib.Core.Path.{◌≡◌, refl, sym, ap, ◌∙◌}
 use mathlib.Core.Bool.{true, false}
-use mathlib.Core.List.{List, [], ◌∷◌, ◌++◌, append_assoc}
+use mathlib.Core.List.{List, [], ◌∷◌, ◌++◌, map, append_assoc}
 use Prim.Native.Nat.{ℕ, zero, suc, ◌+◌, ◌*◌, ◌/◌, ◌<◌, ◌≤◌}
 use native.Mathlib.Omega.{arith}
 use lib.ListN.{length, get_or, drop}
@@ -18,10 +18,10 @@ use Rattle.laws.proofs.Choice.{pick_true, pick_false}
 use Rattle.contract.specs.Check.{ranges, passes}
 use Rattle.contract_laws.proofs.Inversions.{by_test, of_either, ranges_of}
 use Rattle.contract_laws.proofs.Sound.{passed, counts}
-use Rattle.results.specs.Coded.{coded, integer_of, coded_all, integers_of, no_report, report_from, whole_of, report_at, reports_from}
-use Rattle.results.specs.Lines.{refusal, report_ok}
+use Rattle.results.specs.Coded.{coded, integer_of, coded_all, integers_of, report_from, whole_of, report_at, reports_from}
+use Rattle.results.specs.Lines.{refusal, report_ok, told_ok}
 use Rattle.results.specs.Results.{first_reports, lines_of, batch_of, batch, batch_after}
-use Rattle.std.specs.Prelude.{Result, Ok}
+use Rattle.std.specs.Prelude.{Result, Ok, Option, Some, None}
 use Rattle.questions.specs.declared.Question.{Question}
 use Rattle.results.specs.declared.Batch.{Batch}
 use Rattle.results.specs.declared.Report.{Report}
@@ -32,11 +32,11 @@ use Rattle.results.proofs.Turns.{ruled_from, sent_from, held_from, refused_from,
 -- ---- one report
 
 -- the report of the numbers of a report
-abbrev pub decoded : Report → Report
+abbrev pub decoded : Report → Option Report
 decoded r = report_from (get_or (coded r) 0 0) (get_or (coded r) 1 0) (get_or (coded r) 2 0) (get_or (coded r) 3 0) (integer_of r)
 
 -- the same, if the second number is a byte
-byte_back : (r : Report) → get_or (coded r) 1 0 < 256 → decoded r ≡ r
+byte_back : (r : Report) → get_or (coded r) 1 0 < 256 → decoded r ≡ Some r
 byte_back (Ruled rule state clock) h = sym (ruled_from 1 rule state clock _ h refl)
 byte_back (Sent kind party value) h = sym (sent_from 2 kind party 0 value refl h (λ e. omega (arith, e)) refl)
 byte_back (Held asset amount) h = sym (held_from 3 asset amount 0 _ h (λ e. omega (arith, e)) (λ e. omega (arith, e)) refl)
@@ -62,13 +62,13 @@ ok_byte c h (Refused n) k = refusal_byte n k
 ok_byte c h (Failed n) k = omega (arith, (ranges_of 30 n 36 k).1)
 
 -- a report in range reads as itself
-pub report_read : (c : Contract) → length c.assets ≤ 256 → (r : Report) → report_ok c r ≡ true → decoded r ≡ r
+pub report_read : (c : Contract) → length c.assets ≤ 256 → (r : Report) → report_ok c r ≡ true → decoded r ≡ Some r
 report_read c h r k = byte_back r (ok_byte c h r k)
 
 -- a second number of more than a byte is refused by question 53
-pub wide_refused : (c : Contract) (which a b d : ℕ) (z : ℤ) → 256 ≤ a → report_ok c (report_from which a b d z) ≡ false
-unfolding report_ok refusal ranges
-wide_refused c which a b d z h = sym (ap (report_ok c) (none_from which a b d z h))
+pub wide_refused : (c : Contract) (which a b d : ℕ) (z : ℤ) → 256 ≤ a → told_ok c (report_from which a b d z) ≡ false
+unfolding told_ok
+wide_refused c which a b d z h = sym (ap (told_ok c) (none_from which a b d z h))
 
 -- ---- reports in a row
 
@@ -89,7 +89,7 @@ module _ (p q r s : ℕ) (ns : List ℕ) (z : ℤ) (zs : List ℤ) where
       let d : 4 * suc i + 2 ≡ suc (suc (suc (suc (4 * i + 2)))) = omega arith in
       let e : 4 * suc i + 3 ≡ suc (suc (suc (suc (4 * i + 3)))) = omega arith in
       let l = p ∷ q ∷ r ∷ s ∷ ns in
-      λ k. pick (same_whole i k) (report_from (get_or l (a k) 0) (get_or l (b k) 0) (get_or l (d k) 0) (get_or l (e k) 0) (get_or zs i (pos 0))) no_report
+      λ k. pick (same_whole i k) (report_from (get_or l (a k) 0) (get_or l (b k) 0) (get_or l (d k) 0) (get_or l (e k) 0) (get_or zs i (pos 0))) None
 
   next_reports : (n i : ℕ) → reports_from (p ∷ q ∷ r ∷ s ∷ ns) (z ∷ zs) (suc i) n ≡ reports_from ns zs i n
   unfolding reports_from
@@ -111,7 +111,7 @@ coded_first (Failed k) ns zs n = four_first _ _ _ _ ns _ zs n
 
 -- reports in range read as themselves, whatever follows their numbers
 pub reports_read : (c : Contract) → length c.assets ≤ 256 → (rs : List Report) (ns : List ℕ) (zs : List ℤ) → every (report_ok c) rs ≡ true
-    → reports_from (coded_all rs ++ ns) (integers_of rs ++ zs) 0 (length rs) ≡ rs
+    → reports_from (coded_all rs ++ ns) (integers_of rs ++ zs) 0 (length rs) ≡ map Some rs
 unfolding reports_from coded_all integers_of every
 reports_read c h [] ns zs k = refl
 reports_read c h (r ∷ rs) ns zs k =
@@ -126,8 +126,8 @@ few_assets w t = omega (arith, (counts w).assets, (passed w t).head.assets)
 
 -- ---- reports in range with 128 bytes for each are all written
 
-module _ (w : List ℕ) (rs : List Report) (old : List ℕ) (room : 128 ≤ length old) (each : 128 * length rs ≤ length old) (t : passes w ≡ true)
-    (ok : every (report_ok (contract_of w)) rs ≡ true) where
+module _ (w : List ℕ) (rs : List (Option Report)) (old : List ℕ) (room : 128 ≤ length old) (each : 128 * length rs ≤ length old) (t : passes w ≡ true)
+    (ok : every (told_ok (contract_of w)) rs ≡ true) where
   all_first : first_reports (length old) rs ≡ rs
   all_first = take_all (length old / 128) rs (omega (arith, each))
 
@@ -136,11 +136,11 @@ module _ (w : List ℕ) (rs : List Report) (old : List ℕ) (room : 128 ≤ leng
   batch_whole =
       pick_false _ _ _ (le-ltb (length old) 128 room)
       ∙ pick_true _ _ _ t
-      ∙ pick_true _ _ _ (ap (every (report_ok (contract_of w))) all_first ∙ ok)
+      ∙ pick_true _ _ _ (ap (every (told_ok (contract_of w))) all_first ∙ ok)
       ∙ λ j. Ok (record { many = length (all_first j); used = length (lines_of (contract_of w) (all_first j)) })
 
   pub lines_whole : batch_after (contract_of w) rs (batch w rs (length old)) old ≡ lines_of (contract_of w) rs ++ drop (length (lines_of (contract_of w) rs)) old
   unfolding batch_after
   lines_whole =
       ap (λ (b : Result Batch Question). batch_after (contract_of w) rs b old) batch_whole
-      ∙ ap (λ (l : List Report). lines_of (contract_of w) l ++ drop (length (lines_of (contract_of w) rs)) old) (take-length rs)
+      ∙ ap (λ (l : List (Option Report)). lines_of (contract_of w) l ++ drop (length (lines_of (contract_of w) rs)) old) (take-length rs)

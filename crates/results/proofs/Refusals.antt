@@ -11,7 +11,7 @@ use Rattle.results.specs.Results.{written, text_written, after, batch, batch_aft
 use Rattle.results.specs.Results.Writing.{write, write_text_refusal, write_batch}
 use Rattle.results.specs.declared.Batch.{Batch}
 use Rattle.results.specs.declared.Report.{Report}
-use Rattle.std.specs.Prelude.{Result, Ok, Err}
+use Rattle.std.specs.Prelude.{Result, Ok, Err, Option}
 use Rattle.questions.specs.declared.Question.{Question}
 
 refused_after : (a : Result ℕ Question) (line old : List ℕ) → is_refused a ≡ true → after a line old ≡ old
@@ -19,7 +19,7 @@ unfolding after
 refused_after (Ok n) line old e = true_false (sym e)
 refused_after (Err q) line old e = refl
 
-refused_batch : (c : Contract) (rs : List Report) (b : Result Batch Question) (old : List ℕ) → is_refused b ≡ true → batch_after c rs b old ≡ old
+refused_batch : (c : Contract) (rs : List (Option Report)) (b : Result Batch Question) (old : List ℕ) → is_refused b ≡ true → batch_after c rs b old ≡ old
 unfolding batch_after
 refused_batch c rs (Ok b) old e = true_false (sym e)
 refused_batch c rs (Err q) old e = refl

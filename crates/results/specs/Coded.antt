@@ -1,5 +1,5 @@
 -- Result lines as numbers, four and an integer each, so that many can be handed on at once.
-use Rattle.std.specs.Prelude.{ℕ, zero, suc, ◌+◌, ◌*◌, ◌/◌, min, List, [], ◌∷◌, ◌++◌, length, get_or, eqb, ltb, ℤ, pos}
+use Rattle.std.specs.Prelude.{ℕ, zero, suc, ◌+◌, ◌*◌, ◌/◌, min, List, [], ◌∷◌, ◌++◌, length, get_or, eqb, ltb, ℤ, pos, Option, Some, None}
 use Rattle.laws.specs.Choice.{pick}
 use Rattle.results.specs.declared.Report.{Report}
 use Rattle.results.specs.declared.Report.TheVariants.{Ruled, Sent, Held, Refused, Failed}
@@ -29,34 +29,34 @@ unfoldable pub integers_of : List Report → List ℤ
 integers_of [] = []
 integers_of (r ∷ rs) = integer_of r ∷ integers_of rs
 
--- what names no report: question 53 refuses it
-abbrev pub no_report : Report
-no_report = Refused 0
-
--- the report of four numbers and an integer; a first number that tells none, or a second of more than a byte, names no report, and numbers
--- that a report does not need are not looked at
-unfoldable pub report_from : ℕ → ℕ → ℕ → ℕ → ℤ → Report
+-- the report of four numbers and an integer; none where the first tells none, or the second is more than a byte; numbers that a report does not
+-- need are not looked at
+unfoldable pub report_from : ℕ → ℕ → ℕ → ℕ → ℤ → Option Report
 report_from which a b c value =
     pick (ltb a 256)
-    (pick (eqb which 1) (Ruled a b c)
-    (pick (eqb which 2) (Sent a b value)
-    (pick (eqb which 3) (Held a b)
-    (pick (eqb which 4) (Refused a)
-    (pick (eqb which 5) (Failed a) no_report)))))
-    no_report
+    (pick (eqb which 1) (Some (Ruled a b c))
+    (pick (eqb which 2) (Some (Sent a b value))
+    (pick (eqb which 3) (Some (Held a b))
+    (pick (eqb which 4) (Some (Refused a))
+    (pick (eqb which 5) (Some (Failed a)) None)))))
+    None
+
+-- the same, the four numbers in a list
+abbrev pub report_of : List ℕ → ℤ → Option Report
+report_of ns value = report_from (get_or ns 0 0) (get_or ns 1 0) (get_or ns 2 0) (get_or ns 3 0) value
 
 -- how many stand there whole, with four numbers and an integer each
 abbrev pub whole_of : List ℕ → List ℤ → ℕ
 whole_of numbers integers = min (length numbers / 4) (length integers)
 
 -- report i of those in a row; past those that stand there whole there is none
-unfoldable pub report_at : List ℕ → List ℤ → ℕ → Report
+unfoldable pub report_at : List ℕ → List ℤ → ℕ → Option Report
 report_at numbers integers i =
     pick (ltb i (whole_of numbers integers))
     (report_from (get_or numbers (4 * i) 0) (get_or numbers (4 * i + 1) 0) (get_or numbers (4 * i + 2) 0) (get_or numbers (4 * i + 3) 0) (get_or integers i (pos 0)))
-    no_report
+    None
 
 -- n of them from report i on
-unfoldable pub reports_from : List ℕ → List ℤ → ℕ → ℕ → List Report
+unfoldable pub reports_from : List ℕ → List ℤ → ℕ → ℕ → List (Option Report)
 reports_from numbers integers i zero = []
 reports_from numbers integers i (suc n) = report_at numbers integers i ∷ reports_from numbers integers (suc i) n

@@ -1,5 +1,5 @@
 -- The lines that the desk prints, each ended by LF, and which numbers each may hold.
-use Rattle.std.specs.Prelude.{ℕ, Bool, true, false, ◌&&◌, ◌||◌, List, [], ◌++◌, length, get_or, ℤ, pos, nat_abs, eqb, leb, ltb}
+use Rattle.std.specs.Prelude.{ℕ, Bool, true, false, ◌&&◌, ◌||◌, List, [], ◌++◌, length, get_or, ℤ, pos, nat_abs, eqb, leb, ltb, Option, Some, None}
 use Rattle.std.specs.Int.Signed.{lt_z}
 use Rattle.laws.specs.Choice.{pick}
 use Rattle.laws.specs.Bytes.{bytes}
@@ -34,6 +34,11 @@ report_ok c (Sent kind party value) = ranges 1 kind 3 && (ltb party (length c.pa
 report_ok c (Held asset amount) = ltb asset (length c.assets) && leb amount top
 report_ok c (Refused n) = refusal n
 report_ok c (Failed n) = ranges 30 n 36
+
+-- of a report that numbers tell; where they tell none, it is refused
+unfoldable pub told_ok : Contract → Option Report → Bool
+told_ok c None = false
+told_ok c (Some r) = report_ok c r
 
 -- ---- the lines
 

@@ -1,5 +1,5 @@
 -- What writing a line answers, and what it leaves in the lent buffer.
-use Rattle.std.specs.Prelude.{◌≡◌, Bool, true, false, ℕ, ◌/◌, List, [], ◌∷◌, ◌++◌, length, take, drop, ltb, Result, Ok, Err}
+use Rattle.std.specs.Prelude.{◌≡◌, Bool, true, false, ℕ, ◌/◌, List, [], ◌∷◌, ◌++◌, length, take, drop, ltb, Result, Ok, Err, Option, Some, None}
 use Rattle.questions.specs.declared.Question.{Question}
 use Rattle.questions.specs.declared.Question.TheVariants as ask
 use Rattle.laws.specs.Choice.{pick}
@@ -7,7 +7,7 @@ use Rattle.laws.specs.Lists.{every}
 use Rattle.contract.specs.Tree.{Contract}
 use Rattle.contract.specs.Decode.{contract_of}
 use Rattle.contract.specs.Check.{passes}
-use Rattle.results.specs.Lines.{report_ok, line_of, text_refusal, text_line}
+use Rattle.results.specs.Lines.{report_ok, told_ok, line_of, text_refusal, text_line}
 use Rattle.results.specs.declared.Report.{Report}
 use Rattle.results.specs.declared.Batch.{Batch}
 
@@ -36,29 +36,30 @@ text_buffer_after n place old = after (text_written n place (length old)) (text_
 
 -- ---- many lines at once
 
--- the lines of reports
-unfoldable pub lines_of : Contract → List Report → List ℕ
+-- the lines of the reports that numbers tell
+unfoldable pub lines_of : Contract → List (Option Report) → List ℕ
 lines_of c [] = []
-lines_of c (r ∷ rs) = line_of c r ++ lines_of c rs
+lines_of c (None ∷ rs) = lines_of c rs
+lines_of c (Some r ∷ rs) = line_of c r ++ lines_of c rs
 
 -- the reports whose lines one call writes: as many as surely fit into a buffer of so many bytes, 128 to each, since no line is longer
-abbrev pub first_reports : ℕ → List Report → List Report
+abbrev pub first_reports : ℕ → List (Option Report) → List (Option Report)
 first_reports size rs = take (size / 128) rs
 
 -- question 53 is asked of all of these before the first is written; which one it refuses is not told (`written` of each tells it)
-unfoldable pub batch_of : Contract → List Report → ℕ → Result Batch Question
+unfoldable pub batch_of : Contract → List (Option Report) → ℕ → Result Batch Question
 batch_of c rs size =
-    pick (every (report_ok c) (first_reports size rs))
+    pick (every (told_ok c) (first_reports size rs))
     (Ok (record { many = length (first_reports size rs); used = length (lines_of c (first_reports size rs)) }))
     (Err ask.ResultKinds)
 
 -- questions 52 and 3 come first, once
-unfoldable pub batch : List ℕ → List Report → ℕ → Result Batch Question
+unfoldable pub batch : List ℕ → List (Option Report) → ℕ → Result Batch Question
 batch w rs size =
     pick (ltb size 128) (Err ask.ResultRoom) (pick (passes w) (batch_of (contract_of w) rs size) (Err ask.TableCheck))
 
 -- the lines that were written stand first, and the bytes after them are as they were; a refused batch writes none
-unfoldable pub batch_after : Contract → List Report → Result Batch Question → List ℕ → List ℕ
+unfoldable pub batch_after : Contract → List (Option Report) → Result Batch Question → List ℕ → List ℕ
 batch_after c rs (Ok b) old = lines_of c (take b.many rs) ++ drop b.used old
 batch_after c rs (Err q) old = old
 
@@ -68,7 +69,7 @@ batch_after c rs (Err q) old = old
 pub data Writing : Type 0 where
   write : List ℕ → Report → Writing
   write_text_refusal : ℕ → ℕ → Writing
-  write_batch : List ℕ → List Report → Writing
+  write_batch : List ℕ → List (Option Report) → Writing
 
 abbrev pub is_refused : {A : Type 0} → Result A Question → Bool
 is_refused (Ok a) = false

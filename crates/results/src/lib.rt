@@ -3,12 +3,13 @@
 
 ghost use Rattle.std.specs.Prelude.{◌≡◌, ◌-◌, length};
 ghost use Rattle.contract.specs.Decode.{contract_of};
-ghost use Rattle.results.specs.Coded.{coded, integer_of, report_from, reports_from};
+ghost use Rattle.results.specs.Coded.{coded, integer_of, report_of, reports_from};
 ghost use Rattle.results.specs.Results.{written, text_written, buffer_after, text_buffer_after, batch, batch_after};
 
 use many::Coded;
 use printing::Writer;
 use questions::Question;
+use tables::Passed;
 
 mod many;
 mod reports;
@@ -61,9 +62,6 @@ impl Report {
 
     pub const FAILED: u64 = 5;
 
-    // No report: question 53 refuses it, since no question has the number 0.
-    pub const NONE: Report = Report::Refused(0);
-
     // The bytes that a buffer must have for a line.
     pub const ROOM: usize = 128;
     // The numbers of a coded report, beside its integer.
@@ -95,23 +93,20 @@ impl Report {
         }
     }
 
-    // The report of four numbers and an integer. Where the first tells none, or the second is more than a byte, one that question 53 refuses.
-    // Kept: (b) the second cut after a test: by `u8::try_from` a session of 20,002 lines takes 83,168,796 instructions for 82,992,788 (desks built
-    // without their proofs).
+    // The report of four numbers and an integer; none where the first tells none, or the second is more than a byte.
     #[tactic(auto, unfolding(crate::specs::Coded::report_from, laws::specs::Choice::pick))]
-    pub fn from_numbers(which: u64, a: u64, b: u64, c: u64, integer: i64) -> Report
-        ensures { result ≡ report_from which a b c integer }
+    pub fn from_numbers(numbers: [u64; Report::WORDS], integer: i64) -> Option<Report>
+        ensures { result ≡ report_of numbers integer }
     {
-        if a > u8::MAX as u64 {
-            return Report::NONE;
-        }
+        let [which, a, b, c] = numbers;
+        let first = u8::try_from(a).ok()?;
         match which {
-            Report::RULED => Report::Ruled(a as u8, b as usize, c),
-            Report::SENT => Report::Sent(a as u8, b as usize, integer),
-            Report::HELD => Report::Held(a as usize, b),
-            Report::REFUSED => Report::Refused(a as u8),
-            Report::FAILED => Report::Failed(a as u8),
-            _ => Report::NONE,
+            Report::RULED => Some(Report::Ruled(first, b as usize, c)),
+            Report::SENT => Some(Report::Sent(first, b as usize, integer)),
+            Report::HELD => Some(Report::Held(first as usize, b)),
+            Report::REFUSED => Some(Report::Refused(first)),
+            Report::FAILED => Some(Report::Failed(first)),
+            _ => None,
         }
     }
 }
@@ -131,16 +126,19 @@ pub fn write(table: &[u64], report: Report, buffer: &mut [u8]) -> Result<usize, 
     if buffer.len() < Report::ROOM {
         return Err(Question::ResultRoom);
     }
-    if !tables::table_passes(table) {
+    let Some(terms) = Passed::of(table) else {
         return Err(Question::TableCheck);
-    }
+    };
     if !reports::report_ok(table, report) {
         return Err(Question::ResultKinds);
     }
-    Ok(reports::write_line(table, report, buffer))
+    let mut out = Writer::new(buffer);
+    reports::put_line(&mut out, &terms, report);
+    Ok(out.at)
 }
 
 // The line of a refused text, by the question's number and the place.
+// Kept: (a) a number, since any may be asked and question 53 judges it; a narrower type would ask more of callers.
 pub fn write_text_refusal(number: u8, place: usize, buffer: &mut [u8]) -> Result<usize, Question>
     ensures value { result ≡ text_written number place (length buffer.old) }
     ensures buffer_after { buffer.new ≡ text_buffer_after number place buffer.old }
@@ -159,8 +157,7 @@ pub fn write_text_refusal(number: u8, place: usize, buffer: &mut [u8]) -> Result
     Ok(out.at)
 }
 
-// Kept: (a) two lent lists of numbers, which any caller may hand over, are the public form: question 53 judges what they
-// name, and there is no heap for a list of `Report`s made of them.
+// Kept: (a) result lines go here from `play` as numbers, any numbers, and question 53 judges what they name (docs/DECISIONS.md, 53).
 // The lines of the reports numbered from `from` up to, not including, `to`: of as many as surely fit, 128 bytes to each. Question 53 is
 // asked of all of these before the first is written; which one it refuses is not told (`write` of each tells it).
 pub fn write_batch(
@@ -177,11 +174,11 @@ pub fn write_batch(
     if buffer.len() < Report::ROOM {
         return Err(Question::ResultRoom);
     }
-    if !tables::table_passes(table) {
+    let Some(terms) = Passed::of(table) else {
         return Err(Question::TableCheck);
-    }
+    };
     let reports = Coded {
-        table,
+        terms,
         numbers,
         integers,
         from,

@@ -1,34 +1,27 @@
 // Many reports in a row, as numbers, and their lines one after the other.
-ghost use Rattle.std.specs.Prelude.{◌≡◌, true, ◌+◌, ◌-◌, ◌/◌, min, length};
+ghost use Rattle.std.specs.Prelude.{◌≡◌, ◌+◌, ◌-◌, ◌/◌, min, length};
 ghost use Rattle.laws.specs.Lists.{every};
 ghost use Rattle.contract.specs.Decode.{contract_of};
-ghost use Rattle.contract.specs.Check.{passes};
 ghost use Rattle.printing.specs.Pieces.{Put};
 ghost use Rattle.results.specs.Coded.{report_at};
-ghost use Rattle.results.specs.Lines.{report_ok};
+ghost use Rattle.results.specs.Lines.{told_ok};
 ghost use Rattle.results.specs.Results.{batch_of, lines_of, batch_after};
 ghost use Rattle.results.specs.Private.{AllReady, reports_in};
 
-use crate::reports::{report_ok, write_line};
+use crate::reports::{put_line, report_ok};
 use crate::{Batch, Report};
+use printing::Writer;
 use questions::Question;
+use tables::Passed;
 
-// Kept: (a) the two lists are the public form, as in `write_batch`.
-// Report i of those in a row; past those that stand there whole, one that question 53 refuses.
-pub fn report_at(numbers: &[u64], integers: &[i64], i: usize) -> Report
+// Kept: (a) any numbers, as `write_batch` is lent them (docs/DECISIONS.md, 53).
+// Report i of those in a row; none where the numbers tell none, and past those that stand there whole.
+#[tactic(auto, unfolding(crate::specs::Coded::report_at, laws::specs::Choice::pick))]
+pub fn report_at(numbers: &[u64], integers: &[i64], i: usize) -> Option<Report>
     ensures { result ≡ report_at numbers.now integers.now i }
 {
-    if numbers.len() / Report::WORDS <= i || integers.len() <= i {
-        return Report::NONE;
-    }
-    let at = Report::WORDS * i;
-    Report::from_numbers(
-        numbers[at],
-        numbers[at + 1],
-        numbers[at + 2],
-        numbers[at + 3],
-        integers[i],
-    )
+    let (reports, _) = numbers.as_chunks::<{ Report::WORDS }>();
+    Report::from_numbers(*reports.get(i)?, *integers.get(i)?)
 }
 
 // The number after the last of the reports from `from` up to, not including, `to` whose lines surely fit into so many bytes.
@@ -38,10 +31,10 @@ fn last_of(from: usize, to: usize, size: usize) -> usize
     from + to.saturating_sub(from).min(size / Report::ROOM)
 }
 
-// Reports in a row on the contract in a table: those numbered from `from` up to, not including, `to`.
+// Reports in a row on the contract in a table that passes: those numbered from `from` up to, not including, `to`.
 #[derive(Clone, Copy)]
 pub(crate) struct Coded<'a> {
-    pub(crate) table: &'a [u64],
+    pub(crate) terms: Passed<'a>,
     pub(crate) numbers: &'a [u64],
     pub(crate) integers: &'a [i64],
     pub(crate) from: usize,
@@ -49,34 +42,42 @@ pub(crate) struct Coded<'a> {
 }
 
 impl Coded<'_> {
-    // Question 53 of each.
-    fn all_ok(&self) -> bool
-        ensures { result ≡ every (report_ok (contract_of self.now.table.now)) (reports_in self.now) }
+    // Question 53 of report i; none does not pass.
+    #[tactic(auto, unfolding(crate::specs::Lines::told_ok))]
+    fn is_ok(&self, i: usize) -> bool
+        ensures { result ≡ told_ok (contract_of self.now.terms.table.now) (report_at self.now.numbers.now self.now.integers.now i) }
     {
-        (self.from..self.to).all(|i| report_ok(
-            self.table,
-            report_at(self.numbers, self.integers, i),
+        report_at(self.numbers, self.integers, i).is_some_and(|report| report_ok(
+            self.terms.table,
+            report,
         ))
+    }
+
+    // The same of each.
+    fn all_ok(&self) -> bool
+        ensures { result ≡ every (told_ok (contract_of self.now.terms.table.now)) (reports_in self.now) }
+    {
+        (self.from..self.to).all(|i| self.is_ok(i))
     }
 
     // Their lines, one after the other; the place after them.
     fn put_lines(&self, buffer: &mut [u8]) -> usize
         requires { AllReady self.now (length buffer.old) }
-        ensures { Put buffer.old 0 (lines_of (contract_of self.now.table.now) (reports_in self.now)) result buffer.new }
+        ensures { Put buffer.old 0 (lines_of (contract_of self.now.terms.table.now) (reports_in self.now)) result buffer.new }
     {
-        let mut used: usize = 0;
+        let mut out = Writer::new(buffer);
         for i in self.from..self.to {
-            let report = report_at(self.numbers, self.integers, i);
-            used += write_line(self.table, report, &mut buffer[used..used + Report::ROOM]);
+            if let Some(report) = report_at(self.numbers, self.integers, i) {
+                put_line(&mut out, &self.terms, report);
+            }
         }
-        used
+        out.at
     }
 
     // The lines of as many of them as surely fit, or none if question 53 refuses one of these.
     pub(crate) fn write_lines(&self, buffer: &mut [u8]) -> Result<Batch, Question>
-        requires { passes self.now.table.now ≡ true }
-        ensures value { result ≡ batch_of (contract_of self.now.table.now) (reports_in self.now) (length buffer.old) }
-        ensures buffer_after { buffer.new ≡ batch_after (contract_of self.now.table.now) (reports_in self.now) result buffer.old }
+        ensures value { result ≡ batch_of (contract_of self.now.terms.table.now) (reports_in self.now) (length buffer.old) }
+        ensures buffer_after { buffer.new ≡ batch_after (contract_of self.now.terms.table.now) (reports_in self.now) result buffer.old }
     {
         let end = last_of(self.from, self.to, buffer.len());
         let first = Coded { to: end, ..*self };

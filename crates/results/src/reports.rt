@@ -1,18 +1,18 @@
 // Which numbers a report may hold, and the line of a report that is in range.
-ghost use Rattle.std.specs.Prelude.{◌≡◌, true, ◌++◌, ◌≤◌, length};
+ghost use Rattle.std.specs.Prelude.{◌≡◌, ◌++◌};
 ghost use Rattle.laws.specs.Bytes.{bytes};
 ghost use Rattle.words.specs.Words.{spelled, event_match, line_end};
 ghost use Rattle.contract.specs.Decode.{contract_of};
-ghost use Rattle.contract.specs.Check.{ranges, passes};
-ghost use Rattle.printing.specs.Pieces.{Put};
+ghost use Rattle.contract.specs.Check.{ranges};
 ghost use Rattle.printing.proofs.Writers.{Wrote, HasRoom};
 ghost use Rattle.results.specs.Lines.{value_ok, refusal, text_refusal, report_ok, rule_name, value_text, arrow, refused_text, line_of};
-ghost use Rattle.results.specs.Private.{Ready, ReadyValue};
+ghost use Rattle.results.specs.Private.{Ready, ReadyValue, WroteLine};
 ghost use Rattle.results.specs.declared.Report.TheVariants.{Ruled, Sent, Held};
 
 use crate::Report;
 use contract::{Contract, TableHead};
 use printing::Writer;
+use tables::Passed;
 
 // The kinds of a label.
 #[tactic(auto, unfolding(contract::specs::Check::ranges))]
@@ -56,7 +56,7 @@ fn value_ok(table: &[u64], kind: u8, value: i64) -> bool
     match kind {
         Report::INTEGER => true,
         _ if value < 0 => false,
-        Report::STRING => numbers::magnitude(value) < contract::word(table, TableHead::STRINGS),
+        Report::STRING => value.unsigned_abs() < contract::word(table, TableHead::STRINGS),
         _ => true,
     }
 }
@@ -124,28 +124,30 @@ fn put_rule(out: &mut Writer, rule: u8)
     out.put_bytes(b"] ");
 }
 
-fn put_ruled(out: &mut Writer, table: &[u64], rule: u8, state: usize, clock: u64)
-    requires { Ready table.now (Ruled rule state clock) out.old.buffer.now out.old.at }
-    ensures written { Wrote out.old (line_of (contract_of table.now) (Ruled rule state clock)) out.new }
+// Kept: (c) the writer and the terms beside each other, here and below: with both in a struct (tried, with these as its methods) each contract has one
+// clause more, and where the writer is made `search` finds no proof that the buffer is again what that writer, a field of a local, has in it.
+fn put_ruled(out: &mut Writer, terms: &Passed, rule: u8, state: usize, clock: u64)
+    requires { Ready terms.now.table.now (Ruled rule state clock) out.old.buffer.now out.old.at }
+    ensures written { WroteLine out.old (line_of (contract_of terms.now.table.now) (Ruled rule state clock)) out.new }
     ensures same_buffer { out.new.buffer.ghost_name ≡ out.old.buffer.ghost_name }
 {
     put_rule(out, rule);
-    out.put_name(table, contract::STATES + state * contract::NAME_WORDS);
+    out.put_name(terms.table, contract::STATES + state * contract::NAME_WORDS);
     out.put_bytes(b", ");
     out.put_number(clock);
     out.put_byte(b'\n');
 }
 
 // A label's value.
-fn put_value(out: &mut Writer, table: &[u64], kind: u8, value: i64)
-    requires { ReadyValue table.now kind value out.old.buffer.now out.old.at }
-    ensures written { Wrote out.old (value_text (contract_of table.now) kind value) out.new }
+fn put_value(out: &mut Writer, terms: &Passed, kind: u8, value: i64)
+    requires { ReadyValue terms.now.table.now kind value out.old.buffer.now out.old.at }
+    ensures written { Wrote out.old (value_text (contract_of terms.now.table.now) kind value) out.new }
     ensures same_buffer { out.new.buffer.ghost_name ≡ out.old.buffer.ghost_name }
 {
     if kind == Report::STRING {
-        let row = contract::STRINGS + (numbers::magnitude(value) as usize) * contract::STRING_WORDS;
+        let row = contract::STRINGS + (value.unsigned_abs() as usize) * contract::STRING_WORDS;
         out.put_byte(b'"');
-        out.put_name(table, row);
+        out.put_name(terms.table, row);
         out.put_byte(b'"');
     } else {
         out.put_integer(value);
@@ -176,23 +178,26 @@ fn put_arrow(out: &mut Writer, kind: u8)
     out.put_byte(b' ');
 }
 
-fn put_sent(out: &mut Writer, table: &[u64], kind: u8, party: usize, value: i64)
-    requires { Ready table.now (Sent kind party value) out.old.buffer.now out.old.at }
-    ensures written { Wrote out.old (line_of (contract_of table.now) (Sent kind party value)) out.new }
+fn put_sent(out: &mut Writer, terms: &Passed, kind: u8, party: usize, value: i64)
+    requires { Ready terms.now.table.now (Sent kind party value) out.old.buffer.now out.old.at }
+    ensures written { WroteLine out.old (line_of (contract_of terms.now.table.now) (Sent kind party value)) out.new }
     ensures same_buffer { out.new.buffer.ghost_name ≡ out.old.buffer.ghost_name }
 {
-    put_value(out, table, kind, value);
+    put_value(out, terms, kind, value);
     put_arrow(out, kind);
-    out.put_name(table, contract::PARTIES + party * contract::NAME_WORDS);
+    out.put_name(
+        terms.table,
+        contract::PARTIES + party * contract::NAME_WORDS,
+    );
     out.put_byte(b'\n');
 }
 
-fn put_held(out: &mut Writer, table: &[u64], asset: usize, amount: u64)
-    requires { Ready table.now (Held asset amount) out.old.buffer.now out.old.at }
-    ensures written { Wrote out.old (line_of (contract_of table.now) (Held asset amount)) out.new }
+fn put_held(out: &mut Writer, terms: &Passed, asset: usize, amount: u64)
+    requires { Ready terms.now.table.now (Held asset amount) out.old.buffer.now out.old.at }
+    ensures written { WroteLine out.old (line_of (contract_of terms.now.table.now) (Held asset amount)) out.new }
     ensures same_buffer { out.new.buffer.ghost_name ≡ out.old.buffer.ghost_name }
 {
-    out.put_name(table, contract::ASSETS + asset * contract::NAME_WORDS);
+    out.put_name(terms.table, contract::ASSETS + asset * contract::NAME_WORDS);
     out.put_bytes(b" = ");
     out.put_number(amount);
     out.put_byte(b'\n');
@@ -200,8 +205,8 @@ fn put_held(out: &mut Writer, table: &[u64], asset: usize, amount: u64)
 
 #[inline(always)]
 fn put_refusal(out: &mut Writer, n: u8)
-    requires { HasRoom 29 out.old }
-    ensures written { Wrote out.old (refused_text n ++ spelled line_end) out.new }
+    requires { HasRoom 128 out.old }
+    ensures written { WroteLine out.old (refused_text n ++ spelled line_end) out.new }
     ensures same_buffer { out.new.buffer.ghost_name ≡ out.old.buffer.ghost_name }
 {
     put_refused(out, n);
@@ -209,37 +214,26 @@ fn put_refusal(out: &mut Writer, n: u8)
 }
 
 fn put_failed(out: &mut Writer, n: u8)
-    requires { HasRoom 43 out.old }
-    ensures written { Wrote out.old (bytes "[" ++ (spelled event_match ++ (bytes "] " ++ (refused_text n ++ spelled line_end)))) out.new }
+    requires { HasRoom 128 out.old }
+    ensures written { WroteLine out.old (bytes "[" ++ (spelled event_match ++ (bytes "] " ++ (refused_text n ++ spelled line_end)))) out.new }
     ensures same_buffer { out.new.buffer.ghost_name ≡ out.old.buffer.ghost_name }
 {
     put_rule(out, Report::FIRING);
-    put_refusal(out, n);
+    put_refused(out, n);
+    out.put_byte(b'\n');
 }
 
 // The line of a report.
-fn put_line(out: &mut Writer, table: &[u64], report: Report)
-    requires { Ready table.now report out.old.buffer.now out.old.at }
-    ensures written { Wrote out.old (line_of (contract_of table.now) report) out.new }
+pub(crate) fn put_line(out: &mut Writer, terms: &Passed, report: Report)
+    requires { Ready terms.now.table.now report out.old.buffer.now out.old.at }
+    ensures written { WroteLine out.old (line_of (contract_of terms.now.table.now) report) out.new }
     ensures same_buffer { out.new.buffer.ghost_name ≡ out.old.buffer.ghost_name }
 {
     match report {
-        Report::Ruled(rule, state, clock) => put_ruled(out, table, rule, state, clock),
-        Report::Sent(kind, party, value) => put_sent(out, table, kind, party, value),
-        Report::Held(asset, amount) => put_held(out, table, asset, amount),
+        Report::Ruled(rule, state, clock) => put_ruled(out, terms, rule, state, clock),
+        Report::Sent(kind, party, value) => put_sent(out, terms, kind, party, value),
+        Report::Held(asset, amount) => put_held(out, terms, asset, amount),
         Report::Refused(n) => put_refusal(out, n),
         Report::Failed(n) => put_failed(out, n),
     }
-}
-
-// The same from the buffer's start on; answers how many bytes it has.
-pub(crate) fn write_line(table: &[u64], report: Report, buffer: &mut [u8]) -> usize
-    requires room { 128 ≤ length buffer.old }
-    requires table { passes table.now ≡ true }
-    requires range { report_ok (contract_of table.now) report ≡ true }
-    ensures { Put buffer.old 0 (line_of (contract_of table.now) report) result buffer.new }
-{
-    let mut out = Writer::new(buffer);
-    put_line(&mut out, table, report);
-    out.at
 }

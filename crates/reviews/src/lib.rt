@@ -1,68 +1,60 @@
 // What the terms of a contract say before any session: the fields that a clause sets and no clause agrees on, and the names of fields.
 #![tactic(auto)]
 
-ghost use Rattle.std.specs.Prelude.{◌≡◌, true, ◌<◌, length};
+ghost use Rattle.std.specs.Prelude.{◌≡◌, ◌<◌, length};
 ghost use Rattle.std.proofs.lemmas.List.Edits.{sets};
 ghost use Rattle.contract.specs.Table.{word_at};
 ghost use Rattle.contract.specs.Decode.{clause_at, contract_of};
-ghost use Rattle.contract.specs.Check.{passes};
 ghost use Rattle.contract.specs.Rows.{said};
 ghost use Rattle.reviews.specs.Private.{says};
 ghost use Rattle.reviews.specs.Reviews.{is_in, names, never_agreed, field_name};
 
 use contract::{Contract, Verb};
 use printing::Writer;
+use tables::Passed;
 
-// A table that passes.
-#[derive(Clone, Copy)]
-struct Passed<'a> {
-    table: &'a [u64],
-    ghost whole: { passes table.now ≡ true },
+// Whether clause i names field x.
+fn clause_names(terms: &Passed, i: usize, x: usize) -> bool
+    requires { i < word_at terms.now.table.now 5 }
+    ensures { result ≡ is_in x (clause_at terms.now.table.now i).fields }
+{
+    let count = contract::clause_at(terms.table, i).fields;
+    (0..count).any(|j| x == contract::clause_field(terms.table, i, j))
 }
 
-impl Passed<'_> {
-    // Whether clause i names field x.
-    fn clause_names(&self, i: usize, x: usize) -> bool
-        requires { i < word_at self.now.table.now 5 }
-        ensures { result ≡ is_in x (clause_at self.now.table.now i).fields }
-    {
-        let count = contract::clause_at(self.table, i).fields;
-        (0..count).any(|j| x == contract::clause_field(self.table, i, j))
-    }
+// Whether clause i has this verb and names field x.
+fn says(terms: &Passed, verb: Verb, i: usize, x: usize) -> bool
+    requires { i < word_at terms.now.table.now 5 }
+    ensures { result ≡ says (said verb) x (clause_at terms.now.table.now i) }
+{
+    verb == contract::clause_at(terms.table, i).verb() && clause_names(terms, i, x)
+}
 
-    // Whether clause i has this verb and names field x.
-    fn says(&self, verb: Verb, i: usize, x: usize) -> bool
-        requires { i < word_at self.now.table.now 5 }
-        ensures { result ≡ says (said verb) x (clause_at self.now.table.now i) }
-    {
-        let row = contract::clause_at(self.table, i);
-        verb == Verb::from(row.verb) && self.clause_names(i, x)
-    }
-
-    // Whether a clause of this verb names field x.
-    fn named(&self, verb: Verb, x: usize) -> bool
-        ensures { result ≡ names (said verb) x (contract_of self.now.table.now).clauses }
-    {
-        let count = contract::head(self.table).clauses;
-        (0..count).any(|i| self.says(verb, i, x))
-    }
+// Whether a clause of this verb names field x.
+fn named(terms: &Passed, verb: Verb, x: usize) -> bool
+    ensures { result ≡ names (said verb) x (contract_of terms.now.table.now).clauses }
+{
+    let count = contract::head(terms.table).clauses;
+    (0..count).any(|i| says(terms, verb, i, x))
 }
 
 // Whether a clause sets field x and no clause agrees on it; false for a table that does not pass.
-#[tactic(auto, using(crate::proofs::Laws::never_told, crate::proofs::Laws::never_set, crate::proofs::Laws::never_refused))]
+#[tactic(auto, using(crate::proofs::Laws::never_told, crate::proofs::Laws::never_set, crate::proofs::Laws::never_refused), unfolding(laws::specs::Choice::pick))]
 pub fn never_agreed(table: &[u64], x: usize) -> bool
     ensures { result ≡ never_agreed table.now x }
 {
-    if tables::table_passes(table) {
-        let terms = Passed { table };
-        return terms.named(Verb::Set, x) && !terms.named(Verb::Ok, x);
-    }
-    false
+    let Some(terms) = Passed::of(table) else {
+        return false;
+    };
+    named(&terms, Verb::Set, x) && !named(&terms, Verb::Ok, x)
 }
 
 // The name of field x comes to the front of the buffer; answers how many bytes it has. There is none for a table that does not pass, or
 // past the last field.
-// Kept: (d) the number is the name's length, and no bytes are the name of no field, as the definition has it: an Option would say that twice.
+// Kept: (d) the number is the name's length, and no bytes are the name of no field, as the definition has it: an Option would say that twice;
+// (d) where the row of a name stands is worked out here and in nine more places of agreements, machine, tables, results, pages and trial_listing, each
+// with a number below a count, so that nothing overflows: a function of `contract` for any number would have to say what it answers past the
+// greatest place.
 pub fn field_name(table: &[u64], x: usize, buffer: &mut [u8; Contract::NAME]) -> usize
     ensures value { result ≡ length (field_name table.now x) }
     ensures buffer_after { buffer.new ≡ sets buffer.old 0 (field_name table.now x) }

@@ -11,6 +11,7 @@ use Rattle.outcomes.specs.declared.Outcome.{Outcome}
 use Rattle.outcomes.specs.declared.Outcome.TheVariants as outcome
 use Rattle.outcomes.specs.declared.Stepped.{Stepped}
 use Rattle.outcomes.specs.Outcomes.{label_at}
+use Rattle.step_reports.specs.declared.Done.{Done}
 
 -- a rule's number in a result line
 abbrev pub rule_number : Rule → ℕ
@@ -56,3 +57,6 @@ sent (suc n) words = sent n words ++ (label_report (label_at words n) ∷ [])
 -- the result lines of a step whose labels stand in these words
 abbrev pub step_reports : Outcome → ℕ → ℕ → ℕ → List ℤ → List Report
 step_reports o state clock count words = report_of o state clock ∷ sent (min count max_labels) words
+
+abbrev pub reports_of : Done → List Report
+reports_of d = step_reports d.outcome d.state d.clock d.count d.labels.now

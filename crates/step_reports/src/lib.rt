@@ -5,7 +5,7 @@ ghost use Rattle.std.specs.Prelude.{◌≡◌, ◌+◌, ◌*◌, ◌≤◌, ◌<
 ghost use Rattle.std.proofs.lemmas.List.Edits.{sets};
 ghost use Rattle.laws.specs.Choice.{pick};
 ghost use Rattle.results.specs.Coded.{coded_all, integers_of};
-ghost use Rattle.step_reports.specs.Reports.{rule_number, report_of, sent, step_reports, room_in, has_room};
+ghost use Rattle.step_reports.specs.Reports.{rule_number, report_of, sent, reports_of, room_in, has_room};
 ghost use Rattle.step_reports.specs.Private.{HasRoom, SameLists, Told};
 
 use outcomes::{Outcome, Rule, Stepped};
@@ -13,7 +13,7 @@ use results::Report;
 use statements::Label;
 
 // The lent lists that result lines are told in, and how many lines stand in them.
-// Kept: (a) the two lists are lent as `report` has them, and there is no heap for a list of reports.
+// Kept: (a) result lines are handed on as numbers (docs/DECISIONS.md, 53), here and below.
 #[derive(Drop)]
 struct Teller<'a> {
     numbers: &'a mut [u64],
@@ -28,15 +28,35 @@ fn rule_number(rule: Rule) -> u8
     rule as u8
 }
 
-// What came of a step, as a result line.
-// Kept: (d) no From: the state and the clock stand beside the outcome.
-fn report_of(outcome: Outcome, state: usize, clock: u64) -> Report
-    ensures { result ≡ report_of outcome state clock }
-{
-    match outcome {
-        Outcome::Accepted(rule) => Report::Ruled(rule_number(rule), state, clock),
-        Outcome::Failed(q) => Report::Failed(q.number()),
-        Outcome::Refused(q) => Report::Refused(q.number()),
+// What came of a step: its outcome, the state's number and the clock after it, and the words of the labels, of which the first so many were sent.
+// Kept: (a) the words and a count, as `machine` has them of a step: any count may stand here, and no more are told than there are.
+#[derive(Clone, Copy)]
+pub struct Done<'a> {
+    pub outcome: Outcome,
+    pub state: usize,
+    pub clock: u64,
+    pub labels: &'a [i64; Label::ROOM],
+    pub count: usize,
+}
+
+impl Done<'_> {
+    // Its first result line.
+    // Kept: (d) no conversion between two types: this is the first line alone, without the labels.
+    fn first(self) -> Report
+        ensures { result ≡ report_of self.entry.outcome self.entry.state self.entry.clock }
+    {
+        match self.outcome {
+            Outcome::Accepted(rule) => Report::Ruled(rule_number(rule), self.state, self.clock),
+            Outcome::Failed(q) => Report::Failed(q.number()),
+            Outcome::Refused(q) => Report::Refused(q.number()),
+        }
+    }
+
+    // How many labels are told: no more than there are.
+    fn labels_told(self) -> usize
+        ensures { result ≡ min self.entry.count 64 }
+    {
+        self.count.min(Label::MOST)
     }
 }
 
@@ -45,7 +65,7 @@ fn word(labels: &[i64; Label::ROOM], i: usize) -> u64
     requires { i < 192 }
     ensures { result ≡ nat_abs (get_or labels.now i (pos 0)) }
 {
-    numbers::magnitude(labels[i])
+    labels[i].unsigned_abs()
 }
 
 impl Teller<'_> {
@@ -81,15 +101,8 @@ impl Teller<'_> {
     }
 }
 
-// How many labels of a step are told: no more than there are.
-fn labels_told(count: usize) -> usize
-    ensures { result ≡ min count 64 }
-{
-    count.min(Label::MOST)
-}
-
 // How many result lines there is room for.
-// Kept: (a) two lent lists of numbers, here and below, as `results::write_batch` reads them: no heap, and question 53 judges what they name.
+// Kept: (a) two lent lists, here and below, as `results::write_batch` reads them (docs/DECISIONS.md, 53).
 pub fn room_in(numbers: &[u64], integers: &[i64]) -> usize
     ensures { result ≡ room_in (length numbers.now) (length integers.now) }
 {
@@ -107,19 +120,10 @@ fn fits_from(numbers: &[u64], integers: &[i64], n: usize) -> bool
 
 // The result lines of a step, from line n on, and the line after them; nothing where those of any step don't fit.
 // Kept: (a) as `room_in`, and n any number: the caller's lists may hold lines already.
-pub fn report(
-    numbers: &mut [u64],
-    integers: &mut [i64],
-    n: usize,
-    outcome: Outcome,
-    state: usize,
-    clock: u64,
-    labels: &[i64; Label::ROOM],
-    count: usize,
-) -> usize
-    ensures value { result ≡ pick (has_room numbers.old integers.old n) (n + 1 + min count 64) n }
-    ensures numbers_after { numbers.new ≡ pick (has_room numbers.old integers.old n) (sets numbers.old (4 * n) (coded_all (step_reports outcome state clock count labels.now))) numbers.old }
-    ensures integers_after { integers.new ≡ pick (has_room numbers.old integers.old n) (sets integers.old n (integers_of (step_reports outcome state clock count labels.now))) integers.old }
+pub fn report(numbers: &mut [u64], integers: &mut [i64], n: usize, done: Done) -> usize
+    ensures value { result ≡ pick (has_room numbers.old integers.old n) (n + 1 + min done.entry.count 64) n }
+    ensures numbers_after { numbers.new ≡ pick (has_room numbers.old integers.old n) (sets numbers.old (4 * n) (coded_all (reports_of done.entry))) numbers.old }
+    ensures integers_after { integers.new ≡ pick (has_room numbers.old integers.old n) (sets integers.old n (integers_of (reports_of done.entry))) integers.old }
 {
     if !fits_from(numbers, integers, n) {
         return n;
@@ -129,8 +133,8 @@ pub fn report(
         integers,
         many: n,
     };
-    let first = report_of(outcome, state, clock);
+    let first = done.first();
     teller.tell(first.numbers(), first.integer());
-    teller.tell_labels(labels, labels_told(count));
+    teller.tell_labels(done.labels, done.labels_told());
     teller.many
 }

@@ -24,14 +24,15 @@ returns-then-not-fits_from c =
 pub returns : goal.returns
 returns c =
     let e = sym c.if-not-fits_from.ensures in
+    let d = c.args.done in
     let a = c.tell.ensures in
     let b = c.tell_labels.ensures in
     let back : to_z w64 (of_z w64 c.integer.result) ≡ c.integer.result = search rules in
-    let told = same_report _ _ c.report_of-first.ensures
+    let told = same_report _ _ c.first-first.ensures
     (a.numbers_after ∙ ap (λ (l : List ℕ). sets c.args.numbers.now (4 * c.args.n) l) c.numbers.ensures)
     (a.integers_after ∙ ap (λ (z : ℤ). sets c.args.integers.now c.args.n (z ∷ [])) (back ∙ c.integer.ensures)) in
-    let y = step_told c.args.outcome c.args.state c.args.clock c.args.count c.args.labels.now c.labels_told.ensures a.many told b.told in
-    let v : c.tell_labels.new.self.many ≡ c.args.n + 1 + min c.args.count 64 = omega (arith, a.many, b.many, c.labels_told.ensures) in
+    let y = step_told d.outcome d.state d.clock d.count d.labels.now c.labels_told.ensures a.many told b.told in
+    let v : c.tell_labels.new.self.many ≡ c.args.n + 1 + min d.count 64 = omega (arith, a.many, b.many, c.labels_told.ensures) in
     record {
       value = v ∙ sym (pick_true _ _ _ e);
       numbers_after = ends_as (y.numbers_after ∙ sym (pick_true _ _ _ e)) (search rules);

@@ -1,23 +1,19 @@
 -- `pages::lines::put_payee` meets its contract. Assumes nothing.
-use mathlib.Core.List.{[], ◌++◌}
+use mathlib.Core.List.{[]}
 use lib.ListN.{get_or}
 use Rattle.laws.specs.Bytes.{bytes}
 use Rattle.words.specs.Words.{spelled, line_end}
 use Rattle.contract.specs.Decode.{contract_of}
 use Rattle.printing.specs.Decimal.{decimal}
 use Rattle.pages.specs.Page.{right, left}
-use Rattle.pages.proofs.Assembled.{room_first, third_room, four_pieces}
+use Rattle.pages.proofs.Assembled.{third_room, four_pieces}
 use Rattle.pages.proofs.lines.put_payee.Goals as goal
-
-pub put_party-requires : goal.put_party-requires
-put_party-requires c =
-    record { table = c.requires.table; room = room_first _ _ (left 32 (get_or (contract_of c.args.table.now).parties c.args.party [])) (bytes " " ++ (right 19 (decimal c.args.amount) ++ spelled line_end)) c.requires.room }
 
 pub put_right-requires : goal.put_right-requires
 put_right-requires c =
-    third_room (left 32 (get_or (contract_of c.args.table.now).parties c.args.party [])) (bytes " ") (right 19 (decimal c.args.amount)) (spelled line_end) c.requires.room c.put_party.ensures.written c.put_byte.ensures
+    third_room (left 32 (get_or (contract_of c.args.terms.now.table.now).parties c.args.party [])) (bytes " ") (right 19 (decimal c.args.amount)) (spelled line_end) c.requires.room c.put_party.ensures.written c.put_byte.ensures
 
 pub returns-clause-written : goal.returns-clause-written
 unfolding spelled
 returns-clause-written c =
-    four_pieces (left 32 (get_or (contract_of c.args.table.now).parties c.args.party [])) (bytes " ") (right 19 (decimal c.args.amount)) (spelled line_end) c.requires.room c.put_party.ensures.written c.put_byte.ensures c.put_right.ensures.written c.put_byte-2.ensures
+    four_pieces (left 32 (get_or (contract_of c.args.terms.now.table.now).parties c.args.party [])) (bytes " ") (right 19 (decimal c.args.amount)) (spelled line_end) c.requires.room c.put_party.ensures.written c.put_byte.ensures c.put_right.ensures.written c.put_byte-2.ensures

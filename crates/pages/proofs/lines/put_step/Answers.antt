@@ -1,15 +1,10 @@
 -- `pages::lines::put_step` meets its contract. Assumes nothing.
-use mathlib.Core.List.{◌++◌}
 use Rattle.laws.specs.Bytes.{bytes}
 use Rattle.printing.specs.Decimal.{decimal}
 use Rattle.results.specs.Lines.{rule_name}
 use Rattle.pages.specs.Page.{right, left}
-use Rattle.pages.proofs.Assembled.{room_first, third_room, four_pieces}
+use Rattle.pages.proofs.Assembled.{third_room, four_pieces}
 use Rattle.pages.proofs.lines.put_step.Goals as goal
-
-pub put_right-requires : goal.put_right-requires
-put_right-requires c =
-    room_first _ _ (right 19 (decimal c.args.clock)) (bytes " " ++ (left 11 (rule_name c.args.rule) ++ bytes " ")) c.requires.room
 
 pub put_rule-requires : goal.put_rule-requires
 put_rule-requires c =

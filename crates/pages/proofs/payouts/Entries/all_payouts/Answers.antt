@@ -11,5 +11,5 @@ pub returns : goal.returns
 returns c =
     let s = c.args.self.now in
     let n = c.max-count.result in
-    all_from_yields_List (λ i. is_payout (contract_of s.table.now) (entry_at s.numbers.now s.values.now i)) _ _ c.all.result c.all.ensures.ran (YieldsList-from_range 0 n n refl (omega arith)) (λ x b q k. search rules)
-    ∙ all_asked (contract_of s.table.now) s.numbers.now s.values.now (omega (arith, c.max-count.ensures, c.div_ceil.ensures))
+    all_from_yields_List (λ i. is_payout (contract_of s.terms.table.now) (entry_at s.numbers.now s.values.now i)) _ _ c.all.result c.all.ensures.ran (YieldsList-from_range 0 n n refl (omega arith)) (λ x b q k. search rules)
+    ∙ all_asked (contract_of s.terms.table.now) s.numbers.now s.values.now (omega (arith, c.max-count.ensures, c.div_ceil.ensures))

@@ -1,17 +1,11 @@
 -- `pages::payouts::Entries::entry_passes` meets its contract. Assumes nothing.
 use native.Mathlib.Omega.{arith}
-use lib.ListN.{get_or}
-use lib.IntN.{pos}
-use mir.Syntax.{w64}
-use mir.Val.{SFits}
-use mir.Facts.{to_z-of_z}
-use Rattle.pages.proofs.Asking.{entry_asked, broken_fails}
+use Rattle.contract.specs.Decode.{contract_of}
+use Rattle.pages.proofs.Asking.{broken_fails}
+use Rattle.pages.proofs.payouts.Entries.entry_passes.Goals.{then-self-i-via-then-self-i, then-self-i-via-else-self-i+then-self-i-2}
 use Rattle.pages.proofs.payouts.Entries.entry_passes.Goals as goal
 
-pub returns-then-numbers-i : goal.returns-then-numbers-i
-returns-then-numbers-i c = broken_fails _ _ _ c.args.i c.then-numbers-i.either
-
-pub returns : goal.returns
-returns c =
-    let f : SFits w64 (get_or c.args.self.now.values.now c.args.i (pos 0)) = record { sfits = omega arith } in
-    entry_asked _ _ _ c.args.i (omega (arith, c.if-numbers-i.false)) (omega (arith, c.if-values-i.false)) (to_z-of_z f) c.is_payout.ensures
+pub returns-then-self-i : goal.returns-then-self-i
+returns-then-self-i c =
+    let s = c.args.self.now in
+    elim c.then-self-i.branch [ then-self-i-via-then-self-i w ↦ broken_fails (contract_of s.terms.table.now) s.numbers.now s.values.now c.args.i (λ k l. omega (arith, w.if-self-i.true)) | then-self-i-via-else-self-i+then-self-i-2 w ↦ broken_fails (contract_of s.terms.table.now) s.numbers.now s.values.now c.args.i (λ k l. omega (arith, w.if-self-i-2.true)) ]

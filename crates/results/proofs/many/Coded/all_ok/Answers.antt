@@ -4,12 +4,12 @@ use Rattle.std.proofs.lemmas.Iterator.{YieldsList-from_range}
 use Rattle.std.proofs.lemmas.Iterator.Search.{all_from_yields_List}
 use Rattle.contract.specs.Decode.{contract_of}
 use Rattle.results.specs.Coded.{report_at}
-use Rattle.results.specs.Lines.{report_ok}
+use Rattle.results.specs.Lines.{told_ok}
 use Rattle.results.proofs.Turns.{all_reports}
 use Rattle.results.proofs.many.Coded.all_ok.Goals as goal
 
 pub returns : goal.returns
 returns c =
     let s = c.args.self.now in
-    all_from_yields_List (λ i. report_ok (contract_of s.table.now) (report_at s.numbers.now s.integers.now i)) _ _ c.all.result c.all.ensures.ran (YieldsList-from_range s.from s.to (s.to - s.from) refl refl) (λ x b q k. search rules)
-    ∙ all_reports (report_ok (contract_of s.table.now)) s.numbers.now s.integers.now (s.to - s.from) s.from
+    all_from_yields_List (λ i. told_ok (contract_of s.terms.table.now) (report_at s.numbers.now s.integers.now i)) _ _ c.all.result c.all.ensures.ran (YieldsList-from_range s.from s.to (s.to - s.from) refl refl) (λ x b q k. search rules)
+    ∙ all_reports (told_ok (contract_of s.terms.table.now)) s.numbers.now s.integers.now (s.to - s.from) s.from

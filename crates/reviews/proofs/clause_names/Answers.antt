@@ -6,14 +6,14 @@ use Rattle.contract.specs.Table.{clause_word}
 use Rattle.contract.specs.Decode.{clause_at}
 use Rattle.agreements.proofs.Clauses.{placed, field_at, row_fields, row_count}
 use Rattle.reviews.proofs.Laws.{in_places}
-use Rattle.reviews.proofs.Passed.clause_names.Goals as goal
+use Rattle.reviews.proofs.clause_names.Goals as goal
 
 pub returns : goal.returns
 returns c =
-    let w = c.args.self.now.table.now in
+    let w = c.args.terms.now.table.now in
     let i = c.args.i in
     let x = c.args.x in
-    let p = placed w c.args.self.now.whole i c.requires in
+    let p = placed w c.args.terms.now.whole i c.requires in
     let n = c.clause_at-count.result.fields in
     let fields = (clause_at w i).fields in
     let row = c.clause_at-count.ensures in
