@@ -24,8 +24,7 @@ use Rattle.state.specs.declared.State.{State}
 use Rattle.state.specs.declared.Pending.{Pending}
 use Rattle.std.specs.Prelude.{Option, Some, None, Ok, Err}
 use Rattle.state.specs.States.{blank, no_function, event_of, live, state_ok, due_in, removed, max_pending, opened, time_passed, passed_times, times_until_due}
-use Rattle.statements.specs.declared.Work.{Work}
-use Rattle.statements.specs.Running.{memory_in, ran}
+use Rattle.statements.specs.Running.{Work, memory_in, ran}
 use Rattle.outcomes.specs.declared.Rule.TheVariants.{Agree, Call, EventMatch, Tick}
 use Rattle.outcomes.specs.declared.Outcome.TheVariants.{Accepted, Failed}
 use Rattle.outcomes.specs.declared.Stepped.{Stepped}

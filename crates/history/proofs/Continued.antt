@@ -17,7 +17,7 @@ use Rattle.contract.specs.Tree.{Contract}
 use Rattle.contract.specs.Decode.{contract_of}
 use Rattle.contract.specs.Check.{passes}
 use Rattle.state.specs.declared.State.{State}
-use Rattle.std.specs.Prelude.{Option, Some, None}
+use Rattle.std.specs.Prelude.{Option, Some, None, Ok}
 use Rattle.state.specs.States.{state_ok, due_in}
 use Rattle.results.specs.declared.Report.{Report}
 use Rattle.machine.specs.declared.Played.{Played}
@@ -226,7 +226,7 @@ module _ (c : Contract) where
 -- what `play` answers is the session, where questions 3, 4 and 20 let it pass
 pub played_session : (w : List ℕ) → passes w ≡ true → (s : State) → state_ok (contract_of w) s ≡ true → (bytes : List ℕ) (room : ℕ) → max_told ≤ room
     → let e = session (contract_of w) bytes room s in
-    played w s bytes room ≡ record { question = None; state = e.state; used = e.at; many = length e.reports }
+    played w s bytes room ≡ Ok (record { state = e.state; used = e.at; many = length e.reports })
 unfolding played
 played_session w p s q bytes room h = pick_true _ _ _ p ∙ pick_true _ _ _ q ∙ pick_true _ _ _ (le-leb max_told room h)
 
@@ -238,5 +238,9 @@ reports_session w p s q bytes room h = pick_true _ _ _ p ∙ pick_true _ _ _ q �
 
 -- as `done`, of what `play` answers
 pub played_done : (w : List ℕ) → passes w ≡ true → (s : State) → state_ok (contract_of w) s ≡ true → (bytes : List ℕ) (room : ℕ) → max_told ≤ room
-    → (played w s bytes room).many ≡ 0 → turn_at (contract_of w) bytes s 0 ≡ wait
-played_done w p s q bytes room h e = done (contract_of w) bytes room s h (none_left _ (ap (λ (x : Played). x.many) (sym (played_session w p s q bytes room h)) ∙ e))
+    → (r : Played) → played w s bytes room ≡ Ok r → r.many ≡ 0 → turn_at (contract_of w) bytes s 0 ≡ wait
+played_done w p s q bytes room h r z e =
+    let g = session (contract_of w) bytes room s in
+    let x : Ok (record { state = g.state; used = g.at; many = length g.reports }) ≡ Ok r = sym (played_session w p s q bytes room h) ∙ z in
+    let same : ◌≡◌ {A = Played} (record { state = g.state; used = g.at; many = length g.reports }) r = cc in
+    done (contract_of w) bytes room s h (none_left _ (ap (λ (x : Played). x.many) same ∙ e))

@@ -21,7 +21,7 @@ use Rattle.state.specs.declared.State.{State}
 use Rattle.state.specs.declared.Pending.{Pending}
 use Rattle.state.specs.States.{max_pending, pending_ok, with_pending}
 use Rattle.state.proofs.Each.{Each}
-use Rattle.statements.specs.declared.Work.{Work}
+use Rattle.statements.specs.Running.{Work}
 use Rattle.holdings.specs.Holdings.{amounts}
 use Rattle.machine.specs.Steps.{begun, ended}
 use Rattle.history.proofs.ContractBounds.{anywhere}

@@ -25,8 +25,7 @@ use Rattle.laws.specs.Lists.{every}
 use Rattle.contract.specs.Fits.{Scope, holder_in, expression_in, condition_in, action_in, block_in}
 use Rattle.evaluation.specs.Meaning.{value_of, truth_of}
 use Rattle.statements.specs.declared.Label.{Label}
-use Rattle.statements.specs.declared.Work.{Work}
-use Rattle.statements.specs.Running.{max_holdings, max_labels, integer_label, string_label, asset_label, memory_in, stopped, onward, stored, with_holdings, labelled, sent, receiver, place, amount_at, moved, paid, with_value, with_amount, performed, by_truth, ran}
+use Rattle.statements.specs.Running.{Work, max_holdings, max_labels, integer_label, string_label, asset_label, memory_in, stopped, onward, stored, with_holdings, labelled, sent, receiver, place, amount_at, moved, paid, with_value, with_amount, performed, by_truth, ran}
 use Rattle.results.specs.Lines.{value_ok, report_ok}
 use Rattle.step_reports.specs.Reports.{label_report}
 use Rattle.history.proofs.ValuesInRange.{ValueIn, AnswerIn, value_in}

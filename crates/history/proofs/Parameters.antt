@@ -16,8 +16,7 @@ use Rattle.contract.specs.Tree.{Holder, asset, asset_parameter, held, Action, as
 use Rattle.contract.specs.Fits.{Scope, holder_in, expression_in, condition_in, action_in, block_in}
 use Rattle.laws.proofs.Truths.{both_left, both_right}
 use Rattle.evaluation.specs.Meaning.{value_of, truth_of}
-use Rattle.statements.specs.declared.Work.{Work}
-use Rattle.statements.specs.Running.{integer_label, string_label, asset_label, memory_in, stopped, onward, stored, labelled, sent, receiver, place, amount_at, moved, paid, with_value, with_amount, performed, by_truth, ran}
+use Rattle.statements.specs.Running.{Work, integer_label, string_label, asset_label, memory_in, stopped, onward, stored, labelled, sent, receiver, place, amount_at, moved, paid, with_value, with_amount, performed, by_truth, ran}
 use Rattle.numbers.specs.Numbers.{Answer, Truth}
 use Rattle.std.specs.Prelude.{Ok, Err}
 use Rattle.questions.specs.declared.Question.TheVariants as ask

@@ -20,8 +20,7 @@ use Rattle.contract.specs.Fits.{Scope, holder_in, expression_in, condition_in, a
 use Rattle.laws.proofs.Truths.{both_left, both_right}
 use Rattle.evaluation.specs.Meaning.{value_of, truth_of}
 use Rattle.state.specs.States.{field_ok}
-use Rattle.statements.specs.declared.Work.{Work}
-use Rattle.statements.specs.Running.{max_holdings, integer_label, string_label, asset_label, memory_in, stopped, onward, stored, with_holdings, labelled, sent, receiver, place, amount_at, moved, paid, with_value, with_amount, performed, by_truth, ran}
+use Rattle.statements.specs.Running.{Work, max_holdings, integer_label, string_label, asset_label, memory_in, stopped, onward, stored, with_holdings, labelled, sent, receiver, place, amount_at, moved, paid, with_value, with_amount, performed, by_truth, ran}
 use Rattle.history.proofs.ValuesInRange.{ValueIn, AnswerIn, Fields, fields_set, MemoryIn, value_in}
 use Rattle.std.specs.Prelude.{Ok, Err}
 use Rattle.questions.specs.declared.Question.TheVariants as ask

@@ -29,8 +29,7 @@ use Rattle.std.specs.Prelude.{Option, Some, None, Ok, Err}
 use Rattle.state.specs.States.{blank, event_of, live, due_in, with_pending, lapsed, times_until_due}
 use Rattle.state.proofs.Passing.{passed_agreed}
 use Rattle.statements.specs.declared.Label.{Label}
-use Rattle.statements.specs.declared.Work.{Work}
-use Rattle.statements.specs.Running.{max_labels, memory_in}
+use Rattle.statements.specs.Running.{Work, max_labels, memory_in}
 use Rattle.results.specs.Lines.{refusal, report_ok}
 use Rattle.outcomes.specs.declared.Rule.{Rule}
 use Rattle.outcomes.specs.declared.Rule.TheVariants.{Agree, Call, EventMatch, Tick}

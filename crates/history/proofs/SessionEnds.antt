@@ -16,7 +16,7 @@ use Rattle.contract.specs.Tree.{Contract}
 use Rattle.contract.specs.Decode.{contract_of}
 use Rattle.contract.specs.Check.{passes}
 use Rattle.state.specs.declared.State.{State}
-use Rattle.std.specs.Prelude.{Option, Some, None}
+use Rattle.std.specs.Prelude.{Option, Some, None, Ok}
 use Rattle.state.specs.States.{max_pending, state_ok, due_in}
 use Rattle.state.proofs.Dues.{first_to_fire}
 use Rattle.state.proofs.Within.{unagreed}
@@ -171,10 +171,10 @@ module _ (w : List ℕ) (p : passes w ≡ true) where
     -- the next call of `play` then does nothing and tells nothing
     pub play_ends : (rooms : List ℕ) → every (leb max_told) rooms ≡ true → most_turns bytes s < length rooms → (room : ℕ) → max_told ≤ room
         → let b = blocks (contract_of w) bytes rooms s in
-        played w b.state (drop b.at bytes) room ≡ record { question = None; state = b.state; used = 0; many = 0 }
+        played w b.state (drop b.at bytes) room ≡ Ok (record { state = b.state; used = 0; many = 0 })
     play_ends rooms r h room l =
         let b = blocks c bytes rooms s in
         let g = stored_good c s a o in
         played_session w p b.state (good_ok (blocks_good w p rooms bytes s g)) (drop b.at bytes) room l
-        ∙ ap (λ (e : Session). record { question = None; state = e.state; used = e.at; many = length e.reports })
+        ∙ ap (λ (e : Session). Ok (record { state = e.state; used = e.at; many = length e.reports }))
         (session_waits c (drop b.at bytes) b.state 0 (ends.done rooms r h) room room)

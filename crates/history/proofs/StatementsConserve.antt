@@ -22,8 +22,7 @@ use Rattle.contract.specs.Tree.{held, Action, assign, send, move, pay, move_all,
 use Rattle.contract.specs.Sizes.{statements}
 use Rattle.evaluation.specs.Meaning.{value_of, truth_of}
 use Rattle.statements.specs.declared.Label.{Label}
-use Rattle.statements.specs.declared.Work.{Work}
-use Rattle.statements.specs.Running.{integer_label, string_label, asset_label, max_labels, max_holdings, memory_in, stopped, onward, stored, with_holdings, labelled, sent, receiver, place, moved, paid, with_value, with_amount, performed, by_truth, ran}
+use Rattle.statements.specs.Running.{Work, integer_label, string_label, asset_label, max_labels, max_holdings, memory_in, stopped, onward, stored, with_holdings, labelled, sent, receiver, place, moved, paid, with_value, with_amount, performed, by_truth, ran}
 use Rattle.history.specs.Histories.{payouts_in, values_of, weighed, alike}
 use Rattle.history.proofs.AmountSums.{paid_out, evenly, weighed_less, weighed_moved, paid_append, values_append, payouts_append}
 use Rattle.numbers.specs.Numbers.{Answer, Truth}

@@ -26,15 +26,15 @@ use Rattle.outcomes.specs.declared.Outcome.TheVariants.{Refused}
 use Rattle.outcomes.specs.declared.Stepped.{Stepped}
 use Rattle.machine.specs.Steps.{Request, step}
 use Rattle.step_reports.specs.Reports.{max_told}
-use Rattle.machine.specs.Sessions.{Session, session, not_played, played, reports_of}
+use Rattle.machine.specs.Sessions.{Session, session, played, reports_of}
 use Rattle.steps.specs.Left.{copied_of}
 use Rattle.history.specs.Histories.{Step, answer_to, returned, is_refused}
 use Rattle.history.specs.Untouched.{by_rule, Untouched}
 use Rattle.history.proofs.Cases.{ComesOut, refusal, agrees, calls, fires, fails, ticks, jumps, Answers, first_refusal, by_rule_lem, answered_so}
 use Rattle.questions.specs.declared.Question.TheVariants as ask
-use Rattle.std.specs.Prelude.{Some, None}
+use Rattle.std.specs.Prelude.{Ok, Err}
 use Rattle.questions.specs.declared.Question.{Question}
-use Rattle.machine.proofs.Gates.{same_question, none_some}
+use Rattle.machine.specs.declared.Played.{Played}
 
 -- an answer that no rule accepts has no label, and a refusal has the state it was given
 pub record Idle (s : State) (r : Stepped) : Type 0 where
@@ -93,26 +93,25 @@ zeros_unread text words q p s a e = step_unread _ s a (ap passes (table_zeros te
 -- ---- a session
 
 -- question 3, 4 or 20 has done nothing and told nothing
-nothing_done : (a b d : Bool) (s : State) (e : Session) (q : Question)
-    → let x = pick a (pick b (pick d (record { question = None; state = e.state; used = e.at; many = length e.reports }) (not_played s ask.LabelRoom)) (not_played s ask.StateRanges)) (not_played s ask.TableCheck) in
-    x.question ≡ Some q → (x ≡ not_played s q) × (pick a (pick b (pick d e.reports []) []) [] ≡ [])
+nothing_told : (a b d : Bool) (p : Played) (rs : List Report) (q : Question)
+    → pick a (pick b (pick d (Ok p) (Err ask.LabelRoom)) (Err ask.StateRanges)) (Err ask.TableCheck) ≡ Err q → pick a (pick b (pick d rs []) []) [] ≡ []
 unfolding pick
-nothing_done true true true s e q h = none_some q (sym h)
-nothing_done true true false s e q h = (ap (not_played s) (same_question ask.LabelRoom q h), refl)
-nothing_done true false d s e q h = (ap (not_played s) (same_question ask.StateRanges q h), refl)
-nothing_done false b d s e q h = (ap (not_played s) (same_question ask.TableCheck q h), refl)
+nothing_told true true true p rs q h = cc
+nothing_told true true false p rs q h = refl
+nothing_told true false d p rs q h = refl
+nothing_told false b d p rs q h = refl
 
-module _ (w : List ℕ) (s : State) (bytes : List ℕ) (room : ℕ) (q : Question) (h : (played w s bytes room).question ≡ Some q) where
-  refused_session : (played w s bytes room ≡ not_played s q) × (reports_of w s bytes room ≡ [])
+module _ (w : List ℕ) (s : State) (bytes : List ℕ) (room : ℕ) (q : Question) (h : played w s bytes room ≡ Err q) where
+  refused_session : reports_of w s bytes room ≡ []
   unfolding played reports_of
-  refused_session = let c = contract_of w in nothing_done (passes w) (state_ok c s) (leb max_told room) s (session c bytes room s) q h
+  refused_session = let c = contract_of w in nothing_told (passes w) (state_ok c s) (leb max_told room) _ (session c bytes room s).reports q h
 
   lists_same : (numbers : List ℕ) (integers : List ℤ)
       → (sets numbers 0 (coded_all (reports_of w s bytes room)) ≡ numbers) × (sets integers 0 (integers_of (reports_of w s bytes room)) ≡ integers)
   unfolding coded_all integers_of
   lists_same numbers integers = (
-    ap (λ (l : List Report). sets numbers 0 (coded_all l)) refused_session.1,
-    ap (λ (l : List Report). sets integers 0 (integers_of l)) refused_session.1,
+    ap (λ (l : List Report). sets numbers 0 (coded_all l)) refused_session,
+    ap (λ (l : List Report). sets integers 0 (integers_of l)) refused_session,
   )
 
 pub untouched : Untouched
@@ -125,6 +124,6 @@ untouched =
       results = refused_writes_nothing;
       page = refused_untouched;
       line = λ c s n. refl;
-      session_state = λ w s bytes room q h. (refused_session w s bytes room q h).0;
+      session_told = refused_session;
       session = λ w s bytes room numbers integers q h. lists_same w s bytes room q h numbers integers;
     }

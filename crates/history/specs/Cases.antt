@@ -12,8 +12,7 @@ use Rattle.evaluation.specs.Meaning.{value_of}
 use Rattle.state.specs.declared.State.{State}
 use Rattle.state.specs.States.{fresh_at, with_memory, opened, with_pending}
 use Rattle.laws.specs.Lists.{repeated}
-use Rattle.statements.specs.declared.Work.{Work}
-use Rattle.statements.specs.Running.{performed}
+use Rattle.statements.specs.Running.{Work, performed}
 use Rattle.outcomes.specs.declared.Rule.TheVariants.{Call}
 use Rattle.outcomes.specs.declared.Outcome.{Outcome}
 use Rattle.outcomes.specs.declared.Outcome.TheVariants.{Accepted, Refused}

@@ -1,5 +1,5 @@
 -- Demand 1 of document 01: what is refused writes to nothing that was lent, but for a reading, whose table becomes zeros.
-use Rattle.std.specs.Prelude.{ℕ, ◌≡◌, Bool, true, false, List, ℤ, Some}
+use Rattle.std.specs.Prelude.{ℕ, ◌≡◌, Bool, true, false, List, [], ℤ, Err}
 use Rattle.std.proofs.lemmas.List.Edits.{sets}
 use Rattle.contract.specs.Tree.{Contract}
 use Rattle.contract.specs.Check.{ranges}
@@ -12,7 +12,7 @@ use Rattle.results.specs.Coded.{coded_all, integers_of}
 use Rattle.pages.specs.Answers.{RefusedPage}
 use Rattle.outcomes.specs.declared.Outcome.{Outcome}
 use Rattle.outcomes.specs.declared.Outcome.TheVariants.{Accepted, Failed, Refused}
-use Rattle.machine.specs.Sessions.{unread, heard, not_played, played, reports_of}
+use Rattle.machine.specs.Sessions.{unread, heard, played, reports_of}
 use Rattle.history.specs.Histories.{Step, answer_to, returned, is_refused, within64}
 use Rattle.history.specs.Sessions.{Stored}
 use Rattle.questions.specs.declared.Question.TheVariants as ask
@@ -41,12 +41,12 @@ pub record Untouched : Type 0 where
   pub page : RefusedPage
   -- a session line that questions 50 and 51 refuse leaves the state
   pub line : (c : Contract) (s : State) (q : Question) → (heard c s (unread q)).state ≡ s
-  -- a session that is refused hands back the state it was given, takes no byte and tells nothing
-  pub session_state : (w : List ℕ) (s : State) (bytes : List ℕ) (room : ℕ) (q : Question) → (played w s bytes room).question ≡ Some q
-      → played w s bytes room ≡ not_played s q
+  -- a session that is refused has no state after it and no bytes taken, by the type of its answer, and tells nothing
+  pub session_told : (w : List ℕ) (s : State) (bytes : List ℕ) (room : ℕ) (q : Question) → played w s bytes room ≡ Err q
+      → reports_of w s bytes room ≡ []
   -- and leaves both lists that were lent for its result lines
   pub session : (w : List ℕ) (s : State) (bytes : List ℕ) (room : ℕ) (numbers : List ℕ) (integers : List ℤ) (q : Question)
-      → (played w s bytes room).question ≡ Some q
+      → played w s bytes room ≡ Err q
       → (sets numbers 0 (coded_all (reports_of w s bytes room)) ≡ numbers) × (sets integers 0 (integers_of (reports_of w s bytes room)) ≡ integers)
 
 -- a refused step has one of the documents' numbers for steps and session lines, a failed firing one of questions 30 to 36

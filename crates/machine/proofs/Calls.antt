@@ -1,5 +1,5 @@
 -- The cases of a call. Assumes nothing.
-use mathlib.Core.Path.{◌≡◌, sym, ap, ◌∙◌}
+use mathlib.Core.Path.{◌≡◌, refl, sym, ap, ◌∙◌}
 use mathlib.Core.Bool.{true, false}
 use mathlib.Core.List.{List}
 use Prim.Native.Nat.{ℕ, ◌+◌, ◌-◌}
@@ -18,13 +18,13 @@ use Rattle.evaluation.specs.Meaning.{truth_of}
 use Rattle.state.specs.declared.State.{State}
 use Rattle.std.specs.Prelude.{Option, Some, None, Ok, Err}
 use Rattle.state.specs.States.{due_in}
-use Rattle.statements.specs.declared.Work.{Work}
-use Rattle.statements.specs.Running.{memory_in, ran}
+use Rattle.statements.specs.Running.{Work, memory_in, ran}
 use Rattle.outcomes.specs.declared.Stepped.{Stepped}
 use Rattle.outcomes.specs.Outcomes.{refused}
 use Rattle.holdings.specs.Holdings.{amounts}
 use Rattle.machine.specs.Steps.{begun, unless_refused, Invocation, precondition_holds, schedule, with_scheduled, finished, by_precondition, invoked, by_chosen, call_by_due, called}
-use Rattle.machine.specs.Private.{naming, arguments, chosen_in, FoundIn}
+use Rattle.machine.specs.Private.{naming, arguments, chosen_in, FoundIn, at_rest}
+use Rattle.machine.proofs.Gates.{away}
 use Rattle.machine.proofs.Functions.{choose_named}
 use Rattle.numbers.specs.Numbers.{Truth}
 use Rattle.questions.specs.declared.Question.{Question}
@@ -96,17 +96,14 @@ module _ (s : State) (v a : List ℤ) (n : ℕ) (f : Function) where
         precondition_true e x r = sym (by_truth_lem ∙ ap (by_precondition s n f v w) e ∙ ap (finished s n f v) (sym r))
 
 -- ---- who calls
-pub call_unagreed : (c : Contract) (s : State) (i : Invocation) → s.agreed ≡ false → refused s ask.Agreed ≡ called c s i
+pub call_away : (c : Contract) (s : State) (i : Invocation) {q : Question} → Err q ≡ at_rest c s → refused s q ≡ called c s i
 unfolding called
-call_unagreed c s i e = sym (pick_false s.agreed _ _ e)
+call_away c s i e = away c s (call_by_due c s i) (λ k. refl) e
 
 module _ (w : List ℕ) (s : State) (i : Invocation) (e : s.agreed ≡ true) where
   by_due : called (contract_of w) s i ≡ call_by_due (contract_of w) s i (due_in (contract_of w) s)
   unfolding called
   by_due = pick_true s.agreed _ _ e
-
-  pub call_due : (k : ℕ) → due_in (contract_of w) s ≡ Some k → refused s ask.NothingDue ≡ called (contract_of w) s i
-  call_due k d = sym (by_due ∙ ap (call_by_due (contract_of w) s i) d)
 
   module _ (d : due_in (contract_of w) s ≡ None) (r : Option ℕ) (f : FoundIn w s.state (naming i.caller i.function) r) where
     by_found : called (contract_of w) s i ≡ by_chosen s i (chosen_in w r)

@@ -4,18 +4,17 @@ use mathlib.Core.List.{List, [], ◌∷◌, ◌++◌, append-nil, append_assoc}
 use Prim.Native.Nat.{ℕ, suc, ◌+◌, ◌-◌, ◌<◌, ◌≤◌}
 use native.Mathlib.Numerals.{add-one}
 use native.Mathlib.Omega.{arith}
-use lib.ListN.{length, length-append, length-take, drop_of_length-le}
-use lib.Seq.{take_all}
+use lib.ListN.{length, length-append, length-take}
 use borrow.Author.Tests.{le-leb, lt-leb, lt-ltb}
 use Rattle.laws.proofs.Choice.{pick_true, pick_false}
 use Rattle.contract.specs.Tree.{Event}
 use Rattle.evaluation.specs.Memory.{Memory}
 use Rattle.state.specs.declared.State.{State}
 use Rattle.state.specs.declared.Pending.{Pending}
-use Rattle.state.specs.States.{max_pending, blank, live, with_pending, removed, joined_by}
+use Rattle.state.specs.States.{max_pending, blank, live, with_pending, joined_by}
 use Rattle.laws.specs.Lists.{repeated}
 use Rattle.state.proofs.Kept.{Holds, holds_more}
-use Rattle.statements.specs.declared.Work.{Work}
+use Rattle.statements.specs.Running.{Work}
 use Rattle.outcomes.specs.declared.Rule.TheVariants.{Call}
 use Rattle.outcomes.specs.Outcomes.{refused}
 use Rattle.machine.specs.Steps.{accepted, ended, Scheduled, times, with_scheduled}
@@ -24,17 +23,9 @@ use Rattle.machine.proofs.Firings.{with_reached}
 use Rattle.machine.proofs.Schedules.{joined_all, Joined, joined_none}
 use Rattle.questions.specs.declared.Question.TheVariants as ask
 
--- no event leaves, and the slots after the pending ones are blank
-pub nothing_leaves : (s : State) → removed s s.pending ≡ with_pending s (live s)
-unfolding removed
-nothing_leaves s =
-    let h : length (live s) ≤ s.pending = omega (arith, length-take s.pending s.events) in
-    let k : length (live s) ≤ suc s.pending = omega arith in
-    ap (with_pending s) ((λ i. take_all s.pending (live s) h i ++ drop_of_length-le (live s) k i) ∙ append-nil (live s))
-
-pub joined_first : (m : Memory) (t n : ℕ) (s : State) (es : List Event) (next : State) → next ≡ removed s s.pending → Joined m t n (with_pending s (live s)) es next 0 0
+pub joined_first : (m : Memory) (t n : ℕ) (s : State) (es : List Event) (next : State) → next ≡ with_pending s (live s) → Joined m t n (with_pending s (live s)) es next 0 0
 joined_first m t n s es next e =
-    subst (λ (x : State). Joined m t n (with_pending s (live s)) es x 0 0) (sym (e ∙ nothing_leaves s)) (joined_none m t n (with_pending s (live s)) es)
+    subst (λ (x : State). Joined m t n (with_pending s (live s)) es x 0 0) (sym e) (joined_none m t n (with_pending s (live s)) es)
 
 -- ---- events join those that are pending
 one_more : (s : State) (qs : List Pending) (p : Pending) → length qs < 64 → joined_by (with_pending s qs) p ≡ with_pending s (qs ++ (p ∷ []))
@@ -65,13 +56,12 @@ all_more s qs (p ∷ ps) h =
     ∙ ap (with_pending s) (append_assoc qs (p ∷ []) ps)
 
 -- ---- the call's end
--- how many are left where none leaves
-pub left_count : (s : State) (x : State) → x ≡ removed s s.pending → x.pending ≡ length (live s)
-unfolding with_pending
-left_count s x e = ap (λ (y : State). y.pending) (e ∙ nothing_leaves s)
+-- how many are pending, and how many more there is room for
+pub left_few : (s : State) → length s.events ≡ 64 → length (live s) ≤ 64
+left_few s full = omega (arith, length-take s.pending s.events)
 
-pub left_few : (s : State) (x : State) → x ≡ removed s s.pending → length s.events ≡ 64 → x.pending ≤ 64
-left_few s x e full = omega (arith, left_count s x e, length-take s.pending s.events)
+pub left_room : (s : State) {room : ℕ} → length s.events ≡ 64 → room ≡ 64 - s.pending → room ≡ 64 - length (live s)
+left_room s full e = omega (arith, length-take s.pending s.events)
 
 module _ (s : State) (w : Work) (q : ℕ) (room n : ℕ) (so : n ≡ length (live s)) (few : n ≤ 64) (left : room ≡ 64 - n) (x : Scheduled) (ps : List Pending) (e : x ≡ times ps) where
   pub over_full : room < length ps → refused s ask.PendingRoom ≡ with_scheduled s w q x

@@ -15,9 +15,9 @@ use Rattle.state.specs.States.{blank, live, event_of, due_in, with_pending, remo
 use Rattle.state.proofs.Within.{live_with}
 use lib.IntN.{ℤ}
 use Rattle.statements.specs.declared.Runner.{Runner}
-use Rattle.statements.specs.Running.{work_from, work_of}
+use Rattle.statements.specs.Running.{Work, work_from}
+use Rattle.statements.specs.Lending.{work_of}
 use Rattle.machine.proofs.Replies.{left_in}
-use Rattle.statements.specs.declared.Work.{Work}
 use Rattle.machine.specs.declared.Handler.{Handler}
 use Rattle.outcomes.specs.declared.Rule.TheVariants.{EventMatch}
 use Rattle.outcomes.specs.declared.Outcome.TheVariants.{Accepted, Failed}

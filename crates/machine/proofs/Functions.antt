@@ -5,20 +5,16 @@ use mathlib.Core.List.{List, [], ◌∷◌}
 use Prim.Native.Nat.{ℕ, zero, suc, ◌+◌, ◌-◌, ◌*◌, ◌<◌, ◌≤◌}
 use native.Mathlib.Omega.{arith}
 use lib.ListN.{length, get_or}
-use lib.Dec.{eqb, leb, ltb}
-use borrow.Author.Tests.{ltb-true, leb-true, eq-eqb, ne_eqb}
+use borrow.Author.Tests.{eq-eqb, ne_eqb}
 use Rattle.laws.specs.Choice.{pick}
 use Rattle.laws.specs.Bytes.{same_bytes}
-use Rattle.contract.specs.Limits.{max_values, max_parameters, max_nodes, max_events}
 use Rattle.contract.specs.Tree.{Contract, Function}
-use Rattle.contract.specs.Fits.{Scope}
-use Rattle.laws.proofs.Truths.{link}
-use Rattle.laws.specs.Lists.{all_below}
 use Rattle.contract.specs.Table.{word_at, function_word, functions_start, function_words, parties_start, name_words}
 use Rattle.contract.specs.Rows.{function_row_of}
 use Rattle.contract.specs.declared.Function as rows
 use Rattle.contract.specs.Decode.{each_from, word_of, precondition_at, block_between, event_at, function_at, contract_of}
-use Rattle.contract.specs.Check.{name_ok, scope_at, precondition_ok, body_ok, event_ok, event_first, first_node, first_event, function_nodes_ok, function_ok, passes}
+use Rattle.contract.specs.Check.{passes}
+use Rattle.contract.proofs.Passed.{function_passed}
 use Rattle.contract_laws.proofs.Sound.{passed, values_count, parameters_count}
 use Rattle.state.specs.declared.State.{State}
 use Rattle.state.specs.States.{no_event}
@@ -37,47 +33,16 @@ pub record Placed (w : List ℕ) (i : ℕ) : Type 0 where
   pub nodes : function_word w i 5 + function_word w i 6 + function_word w i 7 ≤ 4096
   pub events : function_word w i 9 ≤ 64
 
-nodes_few : (w : List ℕ) (s : Scope) (i : ℕ) → function_nodes_ok w s i ≡ true → (function_word w i 5 + function_word w i 6 + function_word w i 7 ≤ word_at w 8) × (function_word w i 9 ≤ max_events)
-unfolding function_nodes_ok
-nodes_few w s i e =
-    let t =
-    link
-    (leb (function_word w i 6) max_nodes
-    ∷ leb (function_word w i 7) max_nodes
-    ∷ leb (function_word w i 9) max_events
-    ∷ leb (function_word w i 5 + function_word w i 6 + function_word w i 7) (word_at w 8)
-    ∷ precondition_ok w s (function_word w i 5) (function_word w i 6)
-    ∷ body_ok w s (function_word w i 5 + function_word w i 6) (function_word w i 7)
-    ∷ all_below (function_word w i 9) (λ j. event_ok w s (event_first w i j) (function_word w i 8 + j))
-    ∷ [])
-    e in
-    (leb-true (function_word w i 5 + function_word w i 6 + function_word w i 7) (word_at w 8) (t 3), leb-true (function_word w i 9) max_events (t 2))
-
 pub placed : (w : List ℕ) → passes w ≡ true → (i : ℕ) → i < word_at w 6 → Placed w i
-unfolding function_ok
 placed w e i h =
     let p = passed w e in
-    let s = scope_at w (function_word w i 3) (function_word w i 4) in
-    let t =
-    link
-    (ltb (function_word w i 0) (word_at w 3)
-    ∷ ltb (function_word w i 1) (word_at w 0)
-    ∷ ltb (function_word w i 2) (word_at w 3)
-    ∷ leb (function_word w i 3) max_values
-    ∷ leb (function_word w i 4) max_parameters
-    ∷ name_ok w (functions_start + i * function_words + 10)
-    ∷ eqb (function_word w i 5) (first_node w i)
-    ∷ eqb (function_word w i 8) (first_event w i)
-    ∷ function_nodes_ok w s i
-    ∷ [])
-    (p.functions i h) in
-    let n = nodes_few w s i (t 8) in
+    let f = function_passed w i (p.functions i h) in
     record {
       number = omega (arith, p.head.functions);
-      party = ltb-true (function_word w i 1) (word_at w 0) (t 1);
+      party = f.party;
       parties = p.head.parties;
-      nodes = omega (arith, n.0, p.head.nodes);
-      events = n.1;
+      nodes = omega (arith, f.nodes.room, p.head.nodes);
+      events = f.nodes.few;
     }
 
 -- ---- whether a function is called

@@ -2,45 +2,28 @@
 use mathlib.Core.Path.{◌≡◌, refl, sym, ap, ◌∙◌}
 use mathlib.Core.Bool.{Bool, true, false}
 use mathlib.Core.List.{List}
-use Prim.Native.Nat.{ℕ, ◌<◌, ◌≤◌}
+use Prim.Native.Nat.{ℕ}
 use native.Mathlib.Omega.{arith}
 use lib.Dec.{leb}
-use borrow.Author.Tests.{le-leb, lt-leb}
 use Rattle.laws.specs.Choice.{pick}
 use Rattle.laws.proofs.Choice.{true_false}
 use Rattle.contract.specs.Tree.{Contract}
 use Rattle.contract.specs.Decode.{contract_of}
 use Rattle.contract.specs.Check.{passes}
 use Rattle.state.specs.declared.State.{State}
-use Rattle.state.specs.States.{state_ok}
+use Rattle.state.specs.States.{state_ok, due_in}
 use Rattle.outcomes.specs.declared.Stepped.{Stepped}
 use Rattle.outcomes.specs.Outcomes.{refused}
-use Rattle.std.specs.Prelude.{Option, Some, None, is_some}
+use Rattle.std.specs.Prelude.{Option, Some, None, is_some, Result, Ok, Err}
+use Rattle.machine.specs.declared.Whole.{Whole}
 use Rattle.questions.specs.declared.Question.{Question}
 use Rattle.questions.specs.declared.Question.TheVariants as ask
 use Rattle.machine.specs.Steps.{step}
-use Rattle.machine.specs.Private.{first_no}
+use Rattle.machine.specs.Private.{admission, admitted, rest_by, at_rest}
 
-module _ (w : List ℕ) (room : ℕ) (s : State) where
-  pub no_table : passes w ≡ false → Some ask.TableCheck ≡ first_no w room s
-  unfolding first_no pick
-  no_table e = rw e
-
-  pub no_state : passes w ≡ true → state_ok (contract_of w) s ≡ false → Some ask.StateRanges ≡ first_no w room s
-  unfolding first_no pick
-  no_state e f = rw (e, f)
-
-  pub no_room : passes w ≡ true → state_ok (contract_of w) s ≡ true → room < 64 → Some ask.LabelRoom ≡ first_no w room s
-  unfolding first_no pick
-  no_room e f h = rw (e, f, lt-leb 64 room h)
-
-  pub no_no : passes w ≡ true → state_ok (contract_of w) s ≡ true → 64 ≤ room → None ≡ first_no w room s
-  unfolding first_no pick
-  no_no e f h = rw (e, f, le-leb 64 room h)
-
--- the first of the three tests that fails
-abbrev pub first_of : Bool → Bool → Bool → Option Question
-first_of a b c = pick a (pick b (pick c None (Some ask.LabelRoom)) (Some ask.StateRanges)) (Some ask.TableCheck)
+-- the table, or the first of the three tests that fails
+abbrev pub first_of : List ℕ → Bool → Bool → Bool → Result (List ℕ) Question
+first_of w a b c = pick a (pick b (pick c (Ok w) (Err ask.LabelRoom)) (Err ask.StateRanges)) (Err ask.TableCheck)
 
 pub same_question : (p q : Question) → Some p ≡ Some q → p ≡ q
 same_question p q e = cc
@@ -59,29 +42,55 @@ none_is None e = refl
 
 -- the three tests, and what they lead to
 module _ {A : Type 0} (no : Question → A) (x : A) where
-  pub stops : (a b c : Bool) (q : Question) → Some q ≡ first_of a b c → no q ≡ pick a (pick b (pick c x (no ask.LabelRoom)) (no ask.StateRanges)) (no ask.TableCheck)
+  pub stops : (w : List ℕ) (a b c : Bool) (q : Question) → Err q ≡ first_of w a b c → no q ≡ pick a (pick b (pick c x (no ask.LabelRoom)) (no ask.StateRanges)) (no ask.TableCheck)
   unfolding pick
-  stops false b c q e = ap no (same_question q ask.TableCheck e)
-  stops true false c q e = ap no (same_question q ask.StateRanges e)
-  stops true true false q e = ap no (same_question q ask.LabelRoom e)
-  stops true true true q e = none_some q e
+  stops w false b c q e = let p : q ≡ ask.TableCheck = cc in ap no p
+  stops w true false c q e = let p : q ≡ ask.StateRanges = cc in ap no p
+  stops w true true false q e = let p : q ≡ ask.LabelRoom = cc in ap no p
+  stops w true true true q e = cc
 
-  pub goes : (a b c : Bool) → first_of a b c ≡ None → (a ≡ true) × (b ≡ true) × (x ≡ pick a (pick b (pick c x (no ask.LabelRoom)) (no ask.StateRanges)) (no ask.TableCheck))
+  pub goes : (w v : List ℕ) (a b c : Bool) → Ok v ≡ first_of w a b c → (v ≡ w) × (a ≡ true) × (x ≡ pick a (pick b (pick c x (no ask.LabelRoom)) (no ask.StateRanges)) (no ask.TableCheck))
   unfolding pick
-  goes false b c e = none_some ask.TableCheck e
-  goes true false c e = none_some ask.StateRanges e
-  goes true true false e = none_some ask.LabelRoom e
-  goes true true true e = (refl, refl, refl)
+  goes w v false b c e = cc
+  goes w v true false c e = cc
+  goes w v true true false e = cc
+  goes w v true true true e = (cc, refl, refl)
 
-module _ (w : List ℕ) (room : ℕ) (s : State) (n : Option Question) (e : n ≡ first_no w room s) where
-  pub refused_first : (f : Contract → Stepped) (q : Question) → n ≡ Some q → refused s q ≡ step w room s f
-  unfolding first_no step
-  refused_first f q h = stops (refused s) (f (contract_of w)) (passes w) (state_ok (contract_of w) s) (leb 64 room) q (sym h ∙ e)
+module _ (w : List ℕ) (room : ℕ) (s : State) (r : Result Whole Question) (e : admitted r ≡ admission w room s) where
+  pub refused_first : (f : Contract → Stepped) (q : Question) → r ≡ Err q → refused s q ≡ step w room s f
+  unfolding admission step
+  refused_first f q h = stops (refused s) (f (contract_of w)) w (passes w) (state_ok (contract_of w) s) (leb 64 room) q (sym (ap admitted h) ∙ e)
 
-  pub asked : n ≡ None → (passes w ≡ true) × (state_ok (contract_of w) s ≡ true)
-  unfolding first_no
-  asked z = let g = goes (refused s) (refused s ask.TableCheck) (passes w) (state_ok (contract_of w) s) (leb 64 room) (sym e ∙ z) in (g.0, g.1)
+  module _ (x : Whole) (h : r ≡ Ok x) where
+    pub same_table : x.terms.table.now ≡ w
+    unfolding admission
+    same_table = (goes (refused s) (refused s ask.TableCheck) w _ (passes w) (state_ok (contract_of w) s) (leb 64 room) (sym (ap admitted h) ∙ e)).0
 
-  pub stepped : (f : Contract → Stepped) → n ≡ None → f (contract_of w) ≡ step w room s f
-  unfolding first_no step
-  stepped f z = (goes (refused s) (f (contract_of w)) (passes w) (state_ok (contract_of w) s) (leb 64 room) (sym e ∙ z)).2
+    pub asked : passes w ≡ true
+    unfolding admission
+    asked = (goes (refused s) (refused s ask.TableCheck) w _ (passes w) (state_ok (contract_of w) s) (leb 64 room) (sym (ap admitted h) ∙ e)).1
+
+    pub stepped : (f : Contract → Stepped) → f (contract_of w) ≡ step w room s f
+    unfolding admission step
+    stepped f = (goes (refused s) (f (contract_of w)) w _ (passes w) (state_ok (contract_of w) s) (leb 64 room) (sym (ap admitted h) ∙ e)).2
+
+-- ---- the questions of a tick, a jump and a call
+
+module _ (c : Contract) (s : State) where
+  pub rests : {u : Unit} → Ok u ≡ at_rest c s → (s.agreed ≡ true) × (due_in c s ≡ None)
+  unfolding at_rest pick
+  rests {u} e = go s.agreed (due_in c s) refl refl e
+    where
+      go : (b : Bool) (d : Option ℕ) → s.agreed ≡ b → due_in c s ≡ d → Ok u ≡ pick b (rest_by d) (Err ask.Agreed) → (s.agreed ≡ true) × (due_in c s ≡ None)
+      go true None p q r = (p, q)
+      go true (Some k) p q r = cc
+      go false d p q r = cc
+
+  pub away : (g : Option ℕ → Stepped) → ((k : ℕ) → g (Some k) ≡ refused s ask.NothingDue) → {q : Question} → Err q ≡ at_rest c s → refused s q ≡ pick s.agreed (g (due_in c s)) (refused s ask.Agreed)
+  unfolding at_rest pick
+  away g h {q} e = go s.agreed (due_in c s) e
+    where
+      go : (b : Bool) (d : Option ℕ) → Err q ≡ pick b (rest_by d) (Err ask.Agreed) → refused s q ≡ pick b (g d) (refused s ask.Agreed)
+      go true None r = cc
+      go true (Some k) r = let p : q ≡ ask.NothingDue = cc in ap (refused s) p ∙ sym (h k)
+      go false d r = let p : q ≡ ask.Agreed = cc in ap (refused s) p

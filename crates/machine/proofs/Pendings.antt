@@ -17,8 +17,7 @@ use Rattle.state.specs.declared.Pending.{Pending}
 use Rattle.std.specs.Prelude.{Option, Some, None, Ok, Err}
 use Rattle.state.specs.States.{blank, live, event_of, due_in, removed, opened, time_passed, passed_times, times_until_due}
 use Rattle.laws.specs.Lists.{every}
-use Rattle.statements.specs.declared.Work.{Work}
-use Rattle.statements.specs.Running.{integer_label, string_label, asset_label, memory_in, onward, stored, labelled, sent, receiver, place, moved, paid, with_value, with_amount, performed, by_truth, ran}
+use Rattle.statements.specs.Running.{Work, integer_label, string_label, asset_label, memory_in, onward, stored, labelled, sent, receiver, place, moved, paid, with_value, with_amount, performed, by_truth, ran}
 use Rattle.statements.proofs.Silent.{ran_silent}
 use Rattle.lines.specs.Lines.{Asked, asked}
 use Rattle.lines.specs.Lines as lines

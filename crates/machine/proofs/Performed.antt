@@ -5,10 +5,10 @@ use Prim.Native.Nat.{ℕ}
 use lib.IntN.{ℤ}
 use Rattle.contract.specs.Tree.{Function}
 use Rattle.state.specs.declared.State.{State}
-use Rattle.statements.specs.declared.Work.{Work}
 use Rattle.statements.specs.declared.Label.{Label}
 use Rattle.statements.specs.declared.Runner.{Runner}
-use Rattle.statements.specs.Running.{work_from, work_of, labels_from}
+use Rattle.statements.specs.Running.{Work, work_from, labels_from}
+use Rattle.statements.specs.Lending.{work_of}
 use Rattle.machine.proofs.Replies.{left_in}
 use Rattle.outcomes.specs.Outcomes.{no_labels, refused}
 use Rattle.holdings.specs.Holdings.{amounts, holdings_of}

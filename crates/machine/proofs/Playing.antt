@@ -16,7 +16,7 @@ use Rattle.contract.specs.Tree.{Contract}
 use Rattle.contract.specs.Decode.{contract_of}
 use Rattle.contract.specs.Check.{passes}
 use Rattle.state.specs.declared.State.{State}
-use Rattle.std.specs.Prelude.{Option, Some, None, IfSome}
+use Rattle.std.specs.Prelude.{Option, Some, None, IfSome, Result, Ok, Err}
 use Rattle.state.specs.States.{state_ok, due_in}
 use Rattle.statements.specs.Running.{labels_from}
 use Rattle.results.specs.declared.Report.{Report}
@@ -24,11 +24,12 @@ use Rattle.results.specs.Coded.{coded_all, integers_of}
 use Rattle.outcomes.specs.declared.Stepped.{Stepped}
 use Rattle.outcomes.specs.Outcomes.{no_labels}
 use Rattle.machine.specs.declared.Reply.{Reply}
+use Rattle.machine.specs.declared.Whole.{Whole}
 use Rattle.machine.specs.declared.Next.{Next}
 use Rattle.machine.specs.declared.Next.TheVariants as next
 use Rattle.machine.specs.declared.Played.{Played}
-use Rattle.machine.specs.Sessions.{Said, said, heard, end_of_line, Turn, takes, wait, turn_by_due, turn_at, Session, here, before, on_turn, session_for, session, not_played, played, reports_of}
-use Rattle.machine.specs.Private.{first_no, stepped_in, taken_by, taken, said_of, turn_of, EndsWithin, PlayedIs}
+use Rattle.machine.specs.Sessions.{Said, said, heard, end_of_line, Turn, takes, wait, turn_by_due, turn_at, Session, here, before, on_turn, session_for, session, played, reports_of}
+use Rattle.machine.specs.Private.{admission, admitted, stepped_in, taken_by, taken, said_of, turn_of, EndsWithin, PlayedIs}
 use Rattle.step_reports.specs.Reports.{report_of, label_reports, told as lines_told, room_in, has_room, step_reports}
 use Rattle.step_reports.proofs.Reports.{Told, told_none, told_more, numbers_kept, integers_kept, sent_length, words_told}
 use Rattle.questions.specs.declared.Question.{Question}
@@ -151,11 +152,10 @@ module _ {c : Contract} {bytes : List ℕ} {room : ℕ} {numbers : List ℕ} {in
       }
 
   module _ {e : Session} {told : List ℕ} {values : List ℤ} {s : State} {at n : ℕ} (g : Going c bytes room e numbers integers told values s at n) where
-    ended : e ≡ before g.so (here s at) → PlayedIs e (record { question = None; state = s; used = at; many = n }) numbers integers told values
+    ended : e ≡ before g.so (here s at) → PlayedIs e (record { state = s; used = at; many = n }) numbers integers told values
     ended f =
         let so : e.reports ≡ g.so = ap (λ (x : Session). x.reports) f ∙ append-nil g.so in
         record {
-          question = refl;
           state = sym (ap (λ (x : Session). x.state) f);
           used = sym (ap (λ (x : Session). x.at) f);
           many = g.counted ∙ ap length (sym so);
@@ -163,10 +163,10 @@ module _ {c : Contract} {bytes : List ℕ} {room : ℕ} {numbers : List ℕ} {in
           integers_after = g.written.integers_after ∙ ap (λ l. sets integers 0 (integers_of l)) (sym so);
         }
 
-    pub ended_full : room - n < 65 → PlayedIs e (record { question = None; state = s; used = at; many = n }) numbers integers told values
+    pub ended_full : room - n < 65 → PlayedIs e (record { state = s; used = at; many = n }) numbers integers told values
     ended_full h = ended (g.same ∙ ap (before g.so) (session_full (heard c) c bytes (room - n) s at g.turns h))
 
-    pub ended_wait : turn_at c bytes s at ≡ wait → PlayedIs e (record { question = None; state = s; used = at; many = n }) numbers integers told values
+    pub ended_wait : turn_at c bytes s at ≡ wait → PlayedIs e (record { state = s; used = at; many = n }) numbers integers told values
     ended_wait h =
         ended (g.same ∙ ap (before g.so) (session_wait (heard c) c bytes (room - n) s at g.turns h))
 
@@ -227,7 +227,7 @@ module _ {c : Contract} {bytes : List ℕ} {room : ℕ} {numbers : List ℕ} {in
 
 module _ (w : List ℕ) (s : State) (bytes : List ℕ) (room : ℕ) where
   -- all that a session's contract says
-  abbrev Plays : Played → List ℕ → List ℤ → List ℕ → List ℤ → Type 0
+  abbrev Plays : Result Played Question → List ℕ → List ℤ → List ℕ → List ℤ → Type 0
   Plays r numbers integers told values =
       (r ≡ played w s bytes room)
       × ((told ≡ sets numbers 0 (coded_all (reports_of w s bytes room)))
@@ -238,32 +238,36 @@ module _ (w : List ℕ) (s : State) (bytes : List ℕ) (room : ℕ) where
   room_test true e = let h = leb-true 65 room e in le-leb 64 (room - 1) (omega arith)
   room_test false e = let h = leb-false 65 room e in lt-leb 64 (room - 1) (omega arith)
 
-  module _ (m : ℕ) (l : m ≡ room - 1) (n : Option Question) (e : n ≡ first_no w m s) where
-    first : n ≡ first_of (passes w) (state_ok (contract_of w) s) (leb 65 room)
-    unfolding first_no
-    first = e ∙ ap (first_of (passes w) (state_ok (contract_of w) s)) (ap (leb 64) l ∙ room_test (leb 65 room) refl)
+  module _ (m : ℕ) (l : m ≡ room - 1) (n : Result Whole Question) (e : admitted n ≡ admission w m s) where
+    first : admitted n ≡ first_of w (passes w) (state_ok (contract_of w) s) (leb 65 room)
+    unfolding admission
+    first = e ∙ ap (first_of w (passes w) (state_ok (contract_of w) s)) (ap (leb 64) l ∙ room_test (leb 65 room) refl)
 
-    pub play_stopped : (p : Question) → n ≡ Some p → (numbers : List ℕ) (integers : List ℤ) → Plays (not_played s p) numbers integers numbers integers
+    pub play_stopped : (p : Question) → n ≡ Err p → (numbers : List ℕ) (integers : List ℤ) → Plays (Err p) numbers integers numbers integers
     unfolding played reports_of coded_all integers_of
     play_stopped r z numbers integers =
         let a = passes w in
         let b = state_ok (contract_of w) s in
         let d = leb 65 room in
         let none : Question → List Report = λ _. [] in
-        let p = stops (not_played s) _ a b d r (sym z ∙ first) in
-        let q = stops none (session (contract_of w) bytes room s).reports a b d r (sym z ∙ first) in
+        let refuse : Question → Result Played Question = λ q. Err q in
+        let p = stops refuse _ w a b d r (sym (ap admitted z) ∙ first) in
+        let q = stops none (session (contract_of w) bytes room s).reports w a b d r (sym (ap admitted z) ∙ first) in
         (p, (ap (λ (l : List Report). sets numbers 0 (coded_all l)) q, ap (λ (l : List Report). sets integers 0 (integers_of l)) q))
 
-    pub play_went : n ≡ None → (r : Played) (numbers told : List ℕ) (integers values : List ℤ) → PlayedIs (session (contract_of w) bytes room s) r numbers integers told values → Plays r numbers integers told values
+    pub play_went : (x : Whole) → n ≡ Ok x → (r : Played) (numbers told : List ℕ) (integers values : List ℤ) → PlayedIs (session (contract_of x.terms.table.now) bytes room s) r numbers integers told values → Plays (Ok r) numbers integers told values
     unfolding played reports_of
-    play_went z r numbers told integers values k =
+    play_went x z r numbers told integers values h =
         let a = passes w in
         let b = state_ok (contract_of w) s in
         let d = leb 65 room in
         let none : Question → List Report = λ _. [] in
-        let p = (goes (not_played s) _ a b d (sym first ∙ z)).2 in
-        let q = (goes none (session (contract_of w) bytes room s).reports a b d (sym first ∙ z)).2 in (
-          (λ i. record { question = k.question i; state = k.state i; used = k.used i; many = k.many i }) ∙ p,
+        let refuse : Question → Result Played Question = λ q. Err q in
+        let g = goes refuse _ w _ a b d (sym (ap admitted z) ∙ first) in
+        let p = g.2 in
+        let q = (goes none (session (contract_of w) bytes room s).reports w _ a b d (sym (ap admitted z) ∙ first)).2 in
+        let k = subst (λ (y : List ℕ). PlayedIs (session (contract_of y) bytes room s) r numbers integers told values) g.0 h in (
+          (λ i. Ok (record { state = k.state i; used = k.used i; many = k.many i })) ∙ p,
           (
             k.numbers_after ∙ ap (λ (l : List Report). sets numbers 0 (coded_all l)) q,
             k.integers_after ∙ ap (λ (l : List Report). sets integers 0 (integers_of l)) q,

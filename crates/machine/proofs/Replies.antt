@@ -6,7 +6,8 @@ use lib.IntN.{ℤ}
 use Rattle.state.specs.declared.State.{State}
 use Rattle.std.specs.Prelude.{None}
 use Rattle.statements.specs.declared.Label.{Label}
-use Rattle.statements.specs.Running.{work_from, work_of, labels_from}
+use Rattle.statements.specs.Running.{work_from, labels_from}
+use Rattle.statements.specs.Lending.{work_of}
 use Rattle.outcomes.specs.declared.Outcome.{Outcome}
 use Rattle.outcomes.specs.declared.Stepped.{Stepped}
 use Rattle.machine.specs.declared.Reply.{Reply}

@@ -17,7 +17,7 @@ use Rattle.evaluation.specs.Meaning.{value_of}
 use Rattle.state.specs.declared.State.{State}
 use Rattle.state.specs.declared.Pending.{Pending}
 use Rattle.state.specs.States.{no_event, joined_by}
-use Rattle.statements.specs.declared.Work.{Work}
+use Rattle.statements.specs.Running.{Work}
 use Rattle.outcomes.specs.Outcomes.{refused}
 use Rattle.questions.specs.declared.Question.{Question}
 use Rattle.questions.specs.declared.Question.TheVariants as ask

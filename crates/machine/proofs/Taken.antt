@@ -8,47 +8,29 @@ use lib.ListN.{length, take, drop, length-append}
 use lib.Seq.{take-append_seam, drop-append_seam}
 use lib.Dec.{eqb}
 use lib.IntN.{ℤ, pos}
-use mir.Val.{Val}
-use denote.Laws.{Is}
 use Rattle.laws.specs.Choice.{pick}
-use Rattle.laws.proofs.Choice.{pick_true, by_cases}
+use Rattle.laws.proofs.Choice.{pick_true}
 use Rattle.contract.specs.Tree.{Word, Verb, Contract}
 use Rattle.contract.specs.Tree as tree
 use Rattle.tokens.specs.Tokens.{between}
 use Rattle.state.specs.declared.State.{State}
 use Rattle.lines.specs.Lines.{Field, Asked, set, ok}
 use Rattle.lines.specs.Lines as lines
-use Rattle.lines.specs.Answers.{verb_number, padded, span_in, request_of, numbers_of, agreement_of, parts_of, heads_of, spans_of, values_of, fields_of}
+use Rattle.lines.specs.Answers.{verb_number, padded, span_in, request_of, numbers_of, agreement_of, agreement_in, heads_of, spans_of, values_of, fields_of}
 use Rattle.lines.specs.declared.Call as read
-use Rattle.std.specs.Prelude.{Ok, Err}
+use Rattle.std.specs.Prelude.{Some, None, Ok, Err}
 use Rattle.lines.specs.declared.Agreement.{Agreement}
 use Rattle.lines.specs.declared.Request.TheVariants as request
-use Rattle.lines.specs.contracts.Agreement as agreement
 use Rattle.lines.proofs.Flat.{spans_append, values_append, spans_length, values_length, heads_length}
 use Rattle.lines.proofs.Told.{told_refused, told_tick, told_jump, told_call, told_agreement, padded_room, padded_front, padded_first, padded_second}
 use Rattle.outcomes.specs.declared.Stepped.{Stepped}
-use Rattle.outcomes.specs.Outcomes.{answered, refused}
+use Rattle.outcomes.specs.Outcomes.{refused}
 use Rattle.machine.specs.Steps.{ticked, jumped}
 use Rattle.agreements.specs.Agreement.{Part, words_in, parts_in, agreed_on}
 use Rattle.machine.specs.Private.{called_by, taken_by}
 use Rattle.machine.specs.Sessions.{name_in, verb_in, names_in, parts_said}
 use Rattle.questions.specs.declared.Question.{Question}
 use Rattle.questions.specs.declared.Question.TheVariants as ask
-
--- ---- the lengths of the arrays in structs that are lent by value
-
-pub record Arrays (a : Agreement) : Type 0 where
-  pub heads : length a.heads ≡ 256
-  pub spans : length a.spans ≡ 172
-  pub values : length a.values ≡ 86
-
-pub arrays : (a : Agreement) (vs : List Val) → Is agreement.the_row a vs → Arrays a
-arrays a vs g =
-    record {
-      heads = g.1.1.1.1.0.1.0.1;
-      spans = g.1.1.1.1.1.0.1.0.1;
-      values = g.1.1.1.1.1.1.0.1.0.1;
-    }
 
 -- ---- the numbers of an agreement line mean its parts
 
@@ -100,14 +82,7 @@ module _ (line : List ℕ) where
       ∙ ap (λ (l : List ℤ). part_with p (verb_in p.verb) (names_in line p.fields) (values_of p.fields) ∷ parts_in line (length ps) (heads_of ps) (spans_of (fields_of ps)) l) (values_left p.fields (fields_of ps))
       ∙ ap (λ (l : List Part). part_with p (verb_in p.verb) (names_in line p.fields) (values_of p.fields) ∷ l) (parts_same ps)
 
--- ---- an agreement sends nothing
-abbrev Plain : Stepped → Type 0
-Plain t = answered t.outcome t.state ≡ t
-
-plain_agreed : (c : Contract) (s : State) (ps : List Part) → Plain (agreed_on c s ps)
-unfolding agreed_on
-plain_agreed c s ps =
-    by_cases Plain _ _ _ (λ _. refl) λ _. by_cases Plain _ _ _ (λ _. by_cases Plain _ _ _ (λ _. refl) (λ _. refl)) (λ _. refl)
+-- ---- what a line does, by its request
 
 module _ (c : Contract) (s : State) (line : List ℕ) where
   pub does_refused : {q : Question} (a : Asked) → request_of a ≡ Err q → refused s q ≡ taken_by c s line a
@@ -121,12 +96,6 @@ module _ (c : Contract) (s : State) (line : List ℕ) where
   pub does_jump : {T : ℤ} (a : Asked) → request_of a ≡ Ok (request.Jump T) → jumped c s T ≡ taken_by c s line a
   unfolding taken_by
   does_jump a e = ap (taken_by c s line) (sym (told_jump a e))
-
-  pub agreement_came : (a : Asked) (t : Stepped) → request_of a ≡ Ok request.Agreement → t ≡ taken_by c s line a → answered t.outcome t.state ≡ taken_by c s line a
-  unfolding taken_by
-  agreement_came a t f e =
-      let k = told_agreement a f in
-      (λ i. answered (e i).outcome (e i).state) ∙ subst (λ (x : Asked). Plain (taken_by c s line x)) (sym k.is) (plain_agreed c s (parts_said line k.asks))
 
   pub agreed_before : (a : Asked) → request_of a ≡ Ok request.Agreement → s.agreed ≡ true → refused s ask.NotAgreed ≡ taken_by c s line a
   unfolding taken_by agreed_on
@@ -177,15 +146,12 @@ module _ (c : Contract) (s : State) (line : List ℕ) where
   abbrev pub agreed_with : List ℕ → List ℕ → List ℤ → Stepped
   agreed_with parts spans values = agreed_on c s (parts_in line (length parts / 4) parts spans values)
 
-  pub record AgreementRead (a : Asked) (g : Agreement) : Type 0 where
-    pub heads_room : 4 * g.parts ≤ 256
-    pub spans_room : 2 * g.fields ≤ 172
-    pub values_room : g.fields ≤ 86
-    pub does : agreed_with (take (4 * g.parts) g.heads) (take (2 * g.fields) g.spans) (take g.fields g.values) ≡ taken_by c s line a
+  AgreementRead : (a : Asked) (g : Agreement) → Type 0
+  AgreementRead a g = agreed_with (take (4 * g.parts) g.heads) (take (2 * g.fields) g.spans) (take g.fields g.values) ≡ taken_by c s line a
 
-  agreement_read : (ps : List lines.Part) → Arrays (agreement_of ps) → AgreementRead (lines.agreement ps) (agreement_of ps)
-  unfolding agreement_of taken_by
-  agreement_read ps h =
+  agreement_read : (ps : List lines.Part) → AgreementRead (lines.agreement ps) (agreement_of ps)
+  unfolding agreement_of taken_by AgreementRead
+  agreement_read ps =
       let fs = fields_of ps in
       let a : 4 * length ps ≡ length (heads_of ps) = sym (heads_length ps) in
       let b : 2 * length fs ≡ length (spans_of fs) = sym (spans_length fs) in
@@ -194,20 +160,24 @@ module _ (c : Contract) (s : State) (line : List ℕ) where
       let x : take (4 * length ps) (padded 0 256 (heads_of ps)) ≡ heads_of ps = ap (λ (n : ℕ). take n (padded 0 256 (heads_of ps))) a ∙ padded_front 0 256 (heads_of ps) in
       let y : take (2 * length fs) (padded 0 172 (spans_of fs)) ≡ spans_of fs = ap (λ (n : ℕ). take n (padded 0 172 (spans_of fs))) b ∙ padded_front 0 172 (spans_of fs) in
       let z : take (length fs) (padded (pos 0) 86 (values_of fs)) ≡ values_of fs = ap (λ (n : ℕ). take n (padded (pos 0) 86 (values_of fs))) d ∙ padded_front (pos 0) 86 (values_of fs) in
-      record {
-        heads_room = omega (arith, padded_room 0 256 (heads_of ps) h.heads, a);
-        spans_room = omega (arith, padded_room 0 172 (spans_of fs) h.spans, b);
-        values_room = omega (arith, padded_room (pos 0) 86 (values_of fs) h.values, d);
-        does =
-            ap (λ (l : List ℕ). agreed_with l (take (2 * length fs) (padded 0 172 (spans_of fs))) (take (length fs) (padded (pos 0) 86 (values_of fs)))) x
-            ∙ ap (λ (l : List ℕ). agreed_with (heads_of ps) l (take (length fs) (padded (pos 0) 86 (values_of fs)))) y
-            ∙ ap (λ (l : List ℤ). agreed_with (heads_of ps) (spans_of fs) l) z
-            ∙ ap (λ (k : ℕ). agreed_on c s (parts_in line k (heads_of ps) (spans_of fs) (values_of fs))) n
-            ∙ ap (agreed_on c s) (parts_same line ps);
-      }
+      ap (λ (l : List ℕ). agreed_with l (take (2 * length fs) (padded 0 172 (spans_of fs))) (take (length fs) (padded (pos 0) 86 (values_of fs)))) x
+      ∙ ap (λ (l : List ℕ). agreed_with (heads_of ps) l (take (length fs) (padded (pos 0) 86 (values_of fs)))) y
+      ∙ ap (λ (l : List ℤ). agreed_with (heads_of ps) (spans_of fs) l) z
+      ∙ ap (λ (k : ℕ). agreed_on c s (parts_in line k (heads_of ps) (spans_of fs) (values_of fs))) n
+      ∙ ap (agreed_on c s) (parts_same line ps)
 
-  pub does_agreement : (a : Asked) (g : Agreement) → g ≡ agreement_of (parts_of a) → request_of a ≡ Ok request.Agreement → Arrays g → AgreementRead a g
-  does_agreement a g e f h =
+  -- the numbers that were read, as the agreement of a line that is one
+  pub does_agreement : (a : Asked) (g : Agreement) {heads spans : List ℕ} {values : List ℤ} → Some g ≡ agreement_in a → request_of a ≡ Ok request.Agreement → heads ≡ take (4 * g.parts) g.heads → spans ≡ take (2 * g.fields) g.spans → values ≡ take g.fields g.values
+      → agreed_with heads spans values ≡ taken_by c s line a
+  unfolding AgreementRead
+  does_agreement a g e f x y z =
       let k = told_agreement a f in
-      let p : agreement_of k.asks ≡ g = sym (e ∙ ap (λ (x : Asked). agreement_of (parts_of x)) k.is) in
-      subst (λ (x : Asked). AgreementRead x g) (sym k.is) (subst (AgreementRead (lines.agreement k.asks)) p (agreement_read k.asks (subst Arrays (sym p) h)))
+      let p : agreement_of k.asks ≡ g = let q = e ∙ ap agreement_in k.is in cc in
+      (λ i. agreed_with (x i) (y i) (z i)) ∙ subst (λ (t : Asked). AgreementRead t g) (sym k.is) (subst (AgreementRead (lines.agreement k.asks)) p (agreement_read k.asks))
+
+-- a line that is an agreement has its parts
+pub no_agreement : (a : Asked) {X : Type 0} → None ≡ agreement_in a → request_of a ≡ Ok request.Agreement → X
+no_agreement a e f =
+    let k = told_agreement a f in
+    let q = e ∙ ap agreement_in k.is in
+    cc

@@ -1,14 +1,15 @@
 -- The cases of a tick and of a jump. Assumes nothing.
-use mathlib.Core.Path.{◌≡◌, sym, ap, ◌∙◌}
+use mathlib.Core.Path.{◌≡◌, refl, sym, ap, ◌∙◌}
 use mathlib.Core.Bool.{true, false}
 use Prim.Native.Nat.{ℕ, zero, suc, ◌+◌, ◌-◌, ◌<◌, ◌≤◌}
 use native.Mathlib.Omega.{arith}
 use lib.IntN.{ℤ, pos, nat_abs}
 use lib.Signed.{le_z}
 use borrow.Author.Tests.{lt-ltb, le-ltb}
-use Rattle.std.specs.Prelude.{Some, None}
+use Rattle.std.specs.Prelude.{None, Err}
 use Rattle.laws.specs.Choice.{pick}
 use Rattle.laws.proofs.Choice.{pick_true, pick_false}
+use Rattle.questions.specs.declared.Question.{Question}
 use Rattle.questions.specs.declared.Question.TheVariants as ask
 use Rattle.contract.specs.Limits.{top}
 use Rattle.contract.specs.Tree.{Contract}
@@ -18,19 +19,18 @@ use Rattle.outcomes.specs.declared.Rule.TheVariants.{Tick}
 use Rattle.outcomes.specs.declared.Outcome.TheVariants.{Accepted}
 use Rattle.outcomes.specs.Outcomes.{answered, refused}
 use Rattle.machine.specs.Steps.{tick_by_due, ticked, jump_by_due, jumped}
+use Rattle.machine.specs.Private.{at_rest}
+use Rattle.machine.proofs.Gates.{away}
 
 module _ (c : Contract) (s : State) where
-  pub tick_unagreed : s.agreed ≡ false → refused s ask.Agreed ≡ ticked c s
-  unfolding ticked pick
-  tick_unagreed e = rw e
+  pub tick_away : {q : Question} → Err q ≡ at_rest c s → refused s q ≡ ticked c s
+  unfolding ticked
+  tick_away e = away c s (tick_by_due s) (λ k. refl) e
 
   module _ (e : s.agreed ≡ true) where
     by_due : ticked c s ≡ tick_by_due s (due_in c s)
     unfolding ticked pick
     by_due = rw e
-
-    pub tick_due : (k : ℕ) → due_in c s ≡ Some k → refused s ask.NothingDue ≡ ticked c s
-    tick_due k d = sym (by_due ∙ ap (tick_by_due s) d)
 
     module _ (d : due_in c s ≡ None) where
       pub tick_top : top ≤ s.clock → refused s ask.ClockBelowTop ≡ ticked c s
@@ -47,17 +47,14 @@ module _ (c : Contract) (s : State) where
 -- ---- a jump
 
 module _ (c : Contract) (s : State) (T : ℤ) where
-  pub jump_unagreed : s.agreed ≡ false → refused s ask.Agreed ≡ jumped c s T
+  pub jump_away : {q : Question} → Err q ≡ at_rest c s → refused s q ≡ jumped c s T
   unfolding jumped
-  jump_unagreed e = sym (pick_false _ _ _ e)
+  jump_away e = away c s (jump_by_due c s T) (λ k. refl) e
 
   module _ (e : s.agreed ≡ true) where
     by_agreed : jumped c s T ≡ jump_by_due c s T (due_in c s)
     unfolding jumped
     by_agreed = pick_true _ _ _ e
-
-    pub jump_due : (k : ℕ) → due_in c s ≡ Some k → refused s ask.NothingDue ≡ jumped c s T
-    jump_due k d = sym (by_agreed ∙ ap (jump_by_due c s T) d)
 
     module _ (d : due_in c s ≡ None) where
       pub jump_past : le_z (pos s.clock) T ≡ false → refused s ask.TimeNotPast ≡ jumped c s T

@@ -1,5 +1,6 @@
 -- What the parts of the code work out.
-use Rattle.std.specs.Prelude.{ℕ, suc, ◌<◌, true, ◌≡◌, List, [], length, leb, ℤ, Option, Some, None, Result, Ok, Err}
+use Rattle.std.specs.Prelude.{ℕ, suc, ◌<◌, true, ◌≡◌, List, [], length, leb, ℤ, pos, nat_abs, Option, Some, None, Result, Ok, Err}
+use Rattle.std.specs.Int.Signed.{le_z}
 use Rattle.std.proofs.lemmas.List.Edits.{sets}
 use Rattle.laws.specs.Choice.{pick}
 use Rattle.contract.specs.Tree.{Block, Function, Event, Contract}
@@ -8,11 +9,10 @@ use Rattle.contract.specs.Decode.{block_between, function_at, contract_of}
 use Rattle.contract.specs.Check.{passes}
 use Rattle.lines.specs.Lines.{Asked, asked}
 use Rattle.state.specs.declared.State.{State}
-use Rattle.state.specs.States.{fresh_at, with_state, state_ok}
-use Rattle.statements.specs.declared.Work.{Work}
+use Rattle.state.specs.States.{fresh_at, with_state, state_ok, due_in}
 use Rattle.statements.specs.declared.Label.{Label}
-use Rattle.statements.specs.Running.{memory_in, ran, labels_from}
-use Rattle.outcomes.specs.declared.Rule.TheVariants.{Call, EventMatch}
+use Rattle.statements.specs.Running.{Work, memory_in, ran, labels_from}
+use Rattle.outcomes.specs.declared.Rule.TheVariants.{Call, EventMatch, Tick}
 use Rattle.outcomes.specs.Outcomes.{answered, refused}
 use Rattle.holdings.specs.Holdings.{reached}
 use Rattle.tokens.specs.Tokens.{between}
@@ -23,6 +23,7 @@ use Rattle.outcomes.specs.declared.Outcome.TheVariants.{Accepted}
 use Rattle.outcomes.specs.declared.Outcome.TheVariants as outcome
 use Rattle.outcomes.specs.declared.Stepped.{Stepped}
 use Rattle.machine.specs.declared.Reply.{Reply}
+use Rattle.machine.specs.declared.Whole.{Whole}
 use Rattle.machine.specs.declared.Next.{Next}
 use Rattle.machine.specs.declared.Next.TheVariants as next
 use Rattle.machine.specs.Steps.{Invocation, Chosen, chosen, unknown, choose, called}
@@ -32,12 +33,34 @@ use Rattle.results.specs.Coded.{coded_all, integers_of}
 use Rattle.machine.specs.declared.Played.{Played}
 use Rattle.machine.specs.Sessions.{Said, asks, said_by, said, heard, Turn, takes, wait, Session}
 
--- the first question that every step asks and that is answered by no
-unfoldable pub first_no : List ℕ → ℕ → State → Option Question
-first_no w room s =
+-- the table, or the first question that every step asks and that is answered by no
+unfoldable pub admission : List ℕ → ℕ → State → Result (List ℕ) Question
+admission w room s =
     pick (passes w)
-    (pick (state_ok (contract_of w) s) (pick (leb (room_needed (contract_of w)) room) None (Some ask.LabelRoom)) (Some ask.StateRanges))
-    (Some ask.TableCheck)
+    (pick (state_ok (contract_of w) s) (pick (leb (room_needed (contract_of w)) room) (Ok w) (Err ask.LabelRoom)) (Err ask.StateRanges))
+    (Err ask.TableCheck)
+
+-- what is admitted
+abbrev pub admitted : Result Whole Question → Result (List ℕ) Question
+admitted (Ok x) = Ok x.terms.table.now
+admitted (Err q) = Err q
+
+-- a time, if it is not before the clock
+unfoldable pub not_before : ℕ → ℤ → Option ℕ
+not_before t z = pick (le_z (pos t) z) (Some (nat_abs z)) None
+
+-- the first two questions of a tick, a jump and a call: is the contract agreed, and is nothing due?
+abbrev pub rest_by : Option ℕ → Result Unit Question
+rest_by (Some k) = Err ask.NothingDue
+rest_by None = Ok tt
+
+unfoldable pub at_rest : Contract → State → Result Unit Question
+at_rest c s = pick s.agreed (rest_by (due_in c s)) (Err ask.Agreed)
+
+-- what came of a tick or a jump
+abbrev pub passage : Result Unit Question → Outcome
+passage (Ok u) = Accepted Tick
+passage (Err q) = outcome.Refused q
 
 -- what came of a step that sends nothing
 abbrev pub silent : Outcome → Reply
@@ -52,7 +75,7 @@ reply_of (Err q) = silent (outcome.Refused q)
 abbrev pub stepped_in : Reply → State → List ℤ → Stepped
 stepped_in r s words = record { outcome = r.outcome; state = s; labels = labels_from words; count = r.count }
 
--- how a call ends in a state, after its body has sent so many labels
+-- how a call ends in a state, after its body has sent so many labels; they need not stand in words yet, as those of `stepped_in` do
 abbrev pub ended_call : Result Unit Question → State → List Label → ℕ → Stepped
 ended_call (Ok x) s labels n = record { outcome = Accepted Call; state = s; labels = labels; count = n }
 ended_call (Err q) s labels n = refused s q
@@ -89,7 +112,6 @@ EndsWithin size (next.Line end) = end < size
 
 -- a session's answer, and its result lines as numbers
 pub record PlayedIs (e : Session) (r : Played) (numbers : List ℕ) (integers : List ℤ) (told : List ℕ) (values : List ℤ) : Type 0 where
-  pub question : r.question ≡ None
   pub state : r.state ≡ e.state
   pub used : r.used ≡ e.at
   pub many : r.many ≡ length e.reports

@@ -1,5 +1,5 @@
 -- A session: whenever an event is due it is fired, else the next whole line is taken; and the result lines of these steps.
-use Rattle.std.specs.Prelude.{ℕ, zero, suc, ◌+◌, ◌-◌, not, List, [], ◌∷◌, ◌++◌, length, drop, eqb, leb, ltb, Option, Some, None}
+use Rattle.std.specs.Prelude.{ℕ, zero, suc, ◌+◌, ◌-◌, not, List, [], ◌∷◌, ◌++◌, length, drop, eqb, leb, ltb, Option, Some, None, Result, Ok, Err}
 use Rattle.laws.specs.Choice.{pick}
 use Rattle.contract.specs.Tree.{Word, Verb, Contract}
 use Rattle.contract.specs.Tree as tree
@@ -135,21 +135,17 @@ session_for (suc turns) hear c bytes room s at =
 abbrev pub session : Contract → List ℕ → ℕ → State → Session
 session c bytes room s = session_for room (heard c) c bytes room s 0
 
--- a question refused it: nothing is done
-abbrev pub not_played : State → Question → Played
-not_played s q = record { question = Some q; state = s; used = 0; many = 0 }
-
 -- questions 3, 4 and 20 are asked once, before the first turn: there is room for the result lines of any step
-unfoldable pub played : List ℕ → State → List ℕ → ℕ → Played
+unfoldable pub played : List ℕ → State → List ℕ → ℕ → Result Played Question
 played w s bytes room =
     pick (passes w)
     (pick (state_ok (contract_of w) s)
     (pick (leb max_told room)
     (let e = session (contract_of w) bytes room s in
-    record { question = None; state = e.state; used = e.at; many = length e.reports })
-    (not_played s ask.LabelRoom))
-    (not_played s ask.StateRanges))
-    (not_played s ask.TableCheck)
+    Ok (record { state = e.state; used = e.at; many = length e.reports }))
+    (Err ask.LabelRoom))
+    (Err ask.StateRanges))
+    (Err ask.TableCheck)
 
 -- the result lines of it
 unfoldable pub reports_of : List ℕ → State → List ℕ → ℕ → List Report

@@ -15,8 +15,7 @@ use Rattle.evaluation.specs.Meaning.{value_of, truth_of}
 use Rattle.state.specs.declared.State.{State}
 use Rattle.state.specs.declared.Pending.{Pending}
 use Rattle.state.specs.States.{event_of, live, state_ok, due_in, pending_at, with_pending, removed, time_passed, passed_times, times_until_due, party_name, max_pending}
-use Rattle.statements.specs.declared.Work.{Work}
-use Rattle.statements.specs.Running.{max_labels, memory_in, ran}
+use Rattle.statements.specs.Running.{Work, max_labels, memory_in, ran}
 use Rattle.outcomes.specs.declared.Rule.{Rule}
 use Rattle.outcomes.specs.declared.Rule.TheVariants.{Call, EventMatch, Tick}
 use Rattle.outcomes.specs.declared.Outcome.TheVariants.{Accepted, Failed}

@@ -1,42 +1,39 @@
 // The five steps of the machine. Each answers with the state, what came of it, and the labels sent.
 #![tactic(auto)]
 
-ghost use Rattle.std.specs.Prelude.{ℕ, List, ◌≡◌, true, [], ◌+◌, ◌*◌, ◌/◌, ◌≤◌, ◌<◌, length, pos, nat_abs, None, Some};
+ghost use Rattle.std.specs.Prelude.{ℕ, List, ◌≡◌, ◌+◌, ◌/◌, ◌<◌, length, None, Some};
 ghost use Rattle.std.proofs.lemmas.List.Edits.{sets};
-ghost use Rattle.std.specs.Int.Signed.{le_z};
 ghost use Rattle.contract.specs.Table.{word_at};
 ghost use Rattle.contract.specs.Rows.{event_row_of, function_row_of};
 ghost use Rattle.contract.specs.Decode.{block_between, precondition_at, event_at, function_at, contract_of};
-ghost use Rattle.contract.specs.Check.{passes};
 ghost use Rattle.evaluation.specs.Memory.{lent};
 ghost use Rattle.evaluation.specs.Meaning.{value_of};
 ghost use Rattle.state.specs.States.{live, event_of};
 ghost use Rattle.statements.specs.declared.Label.{Label};
 ghost use Rattle.statements.specs.Running.{ran, labels_from, work_from};
-ghost use Rattle.outcomes.specs.Outcomes.{no_labels, answered, refused};
-ghost use Rattle.holdings.specs.Holdings.{amounts};
+ghost use Rattle.outcomes.specs.Outcomes.{no_labels, answered};
 ghost use Rattle.machine.specs.Steps.{answers_to, precondition_holds, finished, invoked, fire_by_due, step, called, fired, ticked, jumped};
 ghost use Rattle.results.specs.Coded.{coded_all, integers_of};
 ghost use Rattle.step_reports.specs.Reports.{room_in};
 ghost use Rattle.machine.specs.Sessions.{played, reports_of};
 ghost use Rattle.agreements.specs.Agreement.{parts_in, agreed_on};
-ghost use Rattle.machine.specs.Private.{first_no, silent, reply_of, stepped_in, ended_call, naming, in_state, arguments, FoundIn, HandlerOf, ran_on, handled_by, concluded};
+ghost use Rattle.machine.specs.Private.{admission, admitted, not_before, at_rest, passage, silent, reply_of, stepped_in, ended_call, naming, in_state, arguments, FoundIn, HandlerOf, ran_on, handled_by, concluded};
 
-use contract::{Contract, Event, Function};
+use contract::{Event, Function};
 use evaluation::{Holdings, Memory};
 use numbers::Value;
 use outcomes::{Outcome, Rule, Stepped};
 use questions::Question;
 use state::{Pending, State};
 use statements::{Label, Runner};
+use tables::Passed;
 
 mod turns;
 
-// What came of a session: the question that refused it, the state after it, how many bytes were taken, and how many result lines
-// there are. `many` 0 and no question means that nothing is due and no line is whole.
+// What came of a session: the state after it, how many bytes were taken, and how many result lines there are. `many` 0 means that nothing is
+// due and no line is whole.
 #[derive(Clone, Copy)]
 pub struct Played {
-    pub question: Option<Question>,
     pub state: State,
     pub used: usize,
     pub many: usize,
@@ -58,8 +55,8 @@ enum Next {
 }
 
 // Where a handler's block stands, and the state after it.
-// Kept: (a) `handler_of` is total, as the definition is: an event that is not there has an empty block, and state 0 after it. No step gets
-// there, since question 4 refuses a state with such an event.
+// Kept: (d) of an event that is not there `handler_of` makes an empty block, and state 0 after it, as the definition does; no step gets there, since
+// question 4 refuses a state with such an event. An `Option` would be opened in `handle`, with an answer for a case that never comes.
 #[derive(Clone, Copy)]
 struct Handler {
     from: usize,
@@ -70,24 +67,25 @@ struct Handler {
 // A table that passes.
 #[derive(Clone, Copy)]
 struct Whole<'a> {
-    table: &'a [u64],
-    ghost whole: { passes table.now ≡ true },
+    terms: Passed<'a>,
 }
 
 // Function n of a table that passes, which is called, and its row.
 #[derive(Clone, Copy)]
 struct Called<'a> {
-    table: &'a [u64],
+    terms: Passed<'a>,
     n: usize,
     row: Function,
-    ghost read: { row ≡ function_row_of table.now n },
-    ghost whole: { passes table.now ≡ true },
-    ghost inside: { n < word_at table.now 6 },
+    ghost read: { row ≡ function_row_of terms.table.now n },
+    ghost inside: { n < word_at terms.table.now 6 },
 }
 
 // ---- Answers.
 
 // No labels.
+// Kept: (d) ten functions, from `take_up` and `call_on` down to `run_handler` and `perform`, ask that the lent labels are blank, which holds at the
+// start of a step alone. A struct of the list with that fact would be made anew at each turn, and by `call` and `fire`, and be taken apart by
+// the two that fill the list; what the list holds after would be a clause of each function as it is now.
 fn clear(labels: &mut [i64; Label::ROOM])
     ensures { labels_from labels.new ≡ no_labels }
 {
@@ -126,54 +124,63 @@ fn with_labels(r: Reply, s: State, labels: &[i64; Label::ROOM]) -> Stepped
     }
 }
 
-// ---- Tick.
+// ---- Tick and jump.
 
-// A tick on a contract's state.
-// Kept: (d) this, `jump_on` and `call_on` begin with the same two questions, each as its definition says them, with a third of its own after them:
-// one function for both would hand out a question, to be turned into an `Outcome` in two and into an `Err` in the third, and its contract would need a
-// definition of its own.
-fn tick_on(table: &[u64], s: &mut State) -> Outcome
-    ensures { answered result s.new ≡ ticked (contract_of table.now) s.old }
+// The first two questions of a tick, a jump and a call: is the contract agreed, and is nothing due?
+#[tactic(auto, unfolding(crate::specs::Private::at_rest, laws::specs::Choice::pick))]
+fn at_rest(table: &[u64], s: &State) -> Result<(), Question>
+    ensures { result ≡ at_rest (contract_of table.now) s.now }
 {
     if !s.agreed {
-        return Outcome::Refused(Question::Agreed);
+        return Err(Question::Agreed);
     }
-    if state::first_due(table, s).is_some() {
-        return Outcome::Refused(Question::NothingDue);
+    if s.first_due(table).is_some() {
+        return Err(Question::NothingDue);
     }
-    let clock = s.clock;
-    if State::TOP <= clock {
-        return Outcome::Refused(Question::ClockBelowTop);
-    }
-    state::pass(s, clock + 1);
-    Outcome::Accepted(Rule::Tick)
+    Ok(())
 }
 
-// ---- Jump.
+// A tick on a contract's state.
+fn tick_on(table: &[u64], s: &mut State) -> Result<(), Question>
+    ensures { answered (passage result) s.new ≡ ticked (contract_of table.now) s.old }
+{
+    at_rest(table, s)?;
+    let clock = s.clock;
+    if State::TOP <= clock {
+        return Err(Question::ClockBelowTop);
+    }
+    s.pass(clock + 1);
+    Ok(())
+}
 
 // A jump on a contract's state: its cost goes by the pending events, however far it goes.
-fn jump_on(table: &[u64], s: &mut State, to: i64) -> Outcome
-    ensures { answered result s.new ≡ jumped (contract_of table.now) s.old to }
+fn jump_on(table: &[u64], s: &mut State, to: i64) -> Result<(), Question>
+    ensures { answered (passage result) s.new ≡ jumped (contract_of table.now) s.old to }
 {
-    if !s.agreed {
-        return Outcome::Refused(Question::Agreed);
+    at_rest(table, s)?;
+    let Some(time) = not_before(s.clock, to) else {
+        return Err(Question::TimeNotPast);
+    };
+    let stop = s.next_stop(table, time);
+    s.pass(stop);
+    Ok(())
+}
+
+// What came of a tick or a jump.
+// Kept: (d) no conversion between two types: which rule was used is said here.
+fn passage(r: Result<(), Question>) -> Outcome
+    ensures { result ≡ passage r }
+{
+    match r {
+        Ok(()) => Outcome::Accepted(Rule::Tick),
+        Err(question) => Outcome::Refused(question),
     }
-    let due = state::first_due(table, s).is_some();
-    if due {
-        return Outcome::Refused(Question::NothingDue);
-    }
-    if !not_before(s.clock, to) {
-        return Outcome::Refused(Question::TimeNotPast);
-    }
-    let stop = state::next_stop(table, s, numbers::magnitude(to));
-    state::pass(s, stop);
-    Outcome::Accepted(Rule::Tick)
 }
 
 // ---- Firing.
 
 // Event j of those from `first` on. A row past the table's end holds zeros, and no table is so long that the greatest place is in it.
-// Kept: (d) `state::event_row` looks for a pending event, which has its time; this is asked for the guard that gives the time.
+// Kept: (d) `Pending::row` looks for a pending event, which has its time; this is asked for the guard that gives the time.
 fn event_row(table: &[u64], first: usize, j: usize) -> Event
     ensures { result ≡ event_row_of table.now (first + j) }
 {
@@ -184,7 +191,7 @@ fn event_row(table: &[u64], first: usize, j: usize) -> Event
 fn handler_of(table: &[u64], p: Pending) -> Handler
     ensures { HandlerOf table.now (event_of (contract_of table.now) p) result }
 {
-    let found = state::event_row(table, p);
+    let found = p.row(table);
     let Some(e) = found else {
         return Handler {
             from: 0,
@@ -201,10 +208,8 @@ fn handler_of(table: &[u64], p: Pending) -> Handler
 }
 
 // A handler runs with no value parameters and no asset parameters, on the state without its event.
-// Kept: (d) that the lent labels are blank holds at the start of a step alone: a struct that holds the list with this fact would be made anew
-// at each turn and taken apart here, where the runner fills the list, and what the list holds after would be a clause as it is now.
-// `perform` too makes a runner and then a memory of the same copies, which the last step reads again; but the runner's holdings are lent to it, and
-// what comes last is `finish`, which may refuse. One function would lend four copies to a closure, and say in a clause what that does.
+// Kept: (d) `perform` too makes a runner of copies; but its holdings are lent to it, and what comes last is `finish`, which may refuse. One
+// function would take a closure of what comes last, and say in a clause what that does.
 fn run_handler(table: &[u64], s: &mut State, h: Handler, labels: &mut [i64; Label::ROOM]) -> Reply
     requires { labels_from labels.old ≡ no_labels }
     ensures { stepped_in result s.new labels.new ≡ handled_by s.old h.last (ran_on s.old (block_between table.now h.from h.end)) }
@@ -231,15 +236,7 @@ fn run_handler(table: &[u64], s: &mut State, h: Handler, labels: &mut [i64; Labe
         clear(labels);
         return silent(Outcome::Failed(question));
     }
-    let memory = Memory {
-        kinds: &kinds,
-        numbers: &numbers,
-        texts: &texts,
-        holdings: &holdings,
-        values: &none,
-        clock: s.clock,
-    };
-    holdings::reach(s, &memory, h.last);
+    holdings::reach(s, &runner.memory(), h.last);
     Reply {
         outcome: Outcome::Accepted(Rule::EventMatch),
         count,
@@ -254,7 +251,7 @@ fn handle(table: &[u64], s: &mut State, k: usize, labels: &mut [i64; Label::ROOM
 {
     let p = s.live()[k];
     let h = handler_of(table, p);
-    state::remove(s, k);
+    s.remove(k);
     run_handler(table, s, h, labels)
 }
 
@@ -266,7 +263,7 @@ fn fire_on(table: &[u64], s: &mut State, labels: &mut [i64; Label::ROOM]) -> Rep
     if !s.agreed {
         return silent(Outcome::Refused(Question::Agreed));
     }
-    let due = state::first_due(table, s);
+    let due = s.first_due(table);
     let Some(k) = due else {
         return silent(Outcome::Refused(Question::SomethingDue));
     };
@@ -280,10 +277,10 @@ impl Whole<'_> {
     // Kept: (d) here, in `find_function` and in `call_on` caller and function go side by side as the public `call` has them: a struct of both would be
     // made twice, there and in `take_call`, to be taken apart here.
     fn answers_to(&self, i: usize, state: usize, caller: &[u8], function: &[u8]) -> bool
-        requires { i < word_at self.now.table.now 6 }
-        ensures { result ≡ answers_to (contract_of self.now.table.now) (in_state state) (naming caller.now function.now) (function_at self.now.table.now i) }
+        requires { i < word_at self.now.terms.table.now 6 }
+        ensures { result ≡ answers_to (contract_of self.now.terms.table.now) (in_state state) (naming caller.now function.now) (function_at self.now.terms.table.now i) }
     {
-        let table = self.table;
+        let table = self.terms.table;
         let row = contract::function_at(table, i);
         row.state == state
             && table_names::same_name(
@@ -300,79 +297,65 @@ impl Whole<'_> {
 
     // The first function that is called.
     fn find_function(&self, state: usize, caller: &[u8], function: &[u8]) -> Option<usize>
-        ensures { FoundIn self.now.table.now state (naming caller.now function.now) result }
+        ensures { FoundIn self.now.terms.table.now state (naming caller.now function.now) result }
     {
-        let count = contract::head(self.table).functions;
+        let count = contract::head(self.terms.table).functions;
         (0..count).find(|i| self.answers_to(*i, state, caller, function))
     }
 }
 
 // ---- Call: its arguments, its body, its events.
 
-// Whether a time is not before the clock.
-fn not_before(clock: u64, z: i64) -> bool
-    ensures { result ≡ le_z (pos clock) z }
+// A time, if it is not before the clock.
+#[tactic(auto, unfolding(crate::specs::Private::not_before, laws::specs::Choice::pick))]
+fn not_before(clock: u64, z: i64) -> Option<u64>
+    ensures { result ≡ not_before clock z }
 {
-    if z < 0 {
-        return false;
-    }
-    clock <= numbers::magnitude(z)
+    u64::try_from(z).ok().filter(|time| clock <= *time)
 }
 
 // The precondition in the n nodes from `first` on; an omitted one is true.
-fn precondition(table: &[u64], memory: &Memory, first: usize, n: usize) -> Result<bool, Question>
+fn precondition(memory: &Memory, first: usize, n: usize) -> Result<bool, Question>
     requires { first + n < 4097 }
-    ensures { result ≡ precondition_holds (lent memory.now) (precondition_at table.now first n) }
+    ensures { result ≡ precondition_holds (lent memory.now) (precondition_at memory.now.table.now first n) }
 {
     if n == 0 {
         return Ok(true);
     }
-    let k = first + n - 1;
-    evaluation::truth(table, memory, k)
+    memory.truth(first + n - 1)
 }
 
 // The time guard of event j of those from `first` on.
-fn guard(table: &[u64], memory: &Memory, first: usize, j: usize) -> Result<Value, Question>
-    ensures { result ≡ value_of (lent memory.now) (event_at table.now (first + j)).guard }
+fn guard(memory: &Memory, first: usize, j: usize) -> Result<Value, Question>
+    ensures { result ≡ value_of (lent memory.now) (event_at memory.now.table.now (first + j)).guard }
 {
-    let e = event_row(table, first, j);
-    let node = contract::node_at(table, e.node);
+    let e = event_row(memory.table, first, j);
+    let node = contract::node_at(memory.table, e.node);
     let k = e
         .node
         .saturating_sub(node.argument as usize)
         .saturating_sub(1);
-    evaluation::value(table, memory, k)
-}
-
-// Event j of function n at a time.
-fn pending(n: usize, j: usize, z: i64) -> Pending
-    requires { (n < 256) × (j < 256) }
-    ensures { result ≡ record { function = n; event = j; time = nat_abs z } }
-{
-    Pending {
-        function: n as u8,
-        event: j as u8,
-        time: numbers::magnitude(z),
-    }
+    memory.value(k)
 }
 
 impl Called<'_> {
     // Its events are scheduled, and the call ends.
     fn conclude(&self, s: &mut State, memory: &Memory) -> Result<(), Question>
-        ensures { (n : ℕ) → (ls : List Label) → ended_call result s.new ls n ≡ concluded s.old self.now.n (function_at self.now.table.now self.now.n) memory.now.values.now (work_from memory.now.kinds.now memory.now.numbers.now memory.now.texts.now memory.now.holdings.now ls n None) }
+        ensures { (n : ℕ) → (ls : List Label) → ended_call result s.new ls n ≡ concluded s.old self.now.n (function_at self.now.terms.table.now self.now.n) memory.now.values.now (work_from memory.now.kinds.now memory.now.numbers.now memory.now.texts.now memory.now.holdings.now ls n None) }
     {
-        let table = self.table;
         let row = self.row;
-        let clock = s.clock;
-        // The caller's memory has this clock too; so no clause has to say it.
-        let memory = Memory { clock, ..*memory };
-        // `remove` past the last pending event takes none away, and makes the slots after them blank, as the definition has them.
+        // The caller's memory has this table and clock too; so no clause has to say it.
+        let memory = Memory {
+            table: self.terms.table,
+            clock: s.clock,
+            ..*memory
+        };
         let mut next = *s;
-        state::remove(&mut next, s.pending);
-        let room = State::PENDING - next.pending;
+        next.clear_rest();
+        let room = State::PENDING.saturating_sub(s.pending);
         let mut joined: usize = 0;
         for j in 0..row.events {
-            let answer = guard(table, &memory, row.event, j);
+            let answer = guard(&memory, row.event, j);
             // Kept: (a) document 01 opens an evaluation answer by let .. else.
             let Ok(value) = answer else {
                 return Err(answer.unwrap_err());
@@ -380,8 +363,12 @@ impl Called<'_> {
             let Value::Integer(z) = value else {
                 return Err(Question::OperandKind);
             };
-            if not_before(clock, z) {
-                state::join(&mut next, pending(self.n, j, z));
+            if let Some(time) = not_before(s.clock, z) {
+                next.join(Pending {
+                    function: self.n as u8,
+                    event: j as u8,
+                    time,
+                });
                 joined += 1;
             }
         }
@@ -396,7 +383,7 @@ impl Called<'_> {
 
     // The body has run, and no question refused.
     fn finish(&self, s: &mut State, memory: &Memory) -> Result<(), Question>
-        ensures { (n : ℕ) → (ls : List Label) → ended_call result s.new ls n ≡ finished s.old self.now.n (function_at self.now.table.now self.now.n) memory.now.values.now (work_from memory.now.kinds.now memory.now.numbers.now memory.now.texts.now memory.now.holdings.now ls n None) }
+        ensures { (n : ℕ) → (ls : List Label) → ended_call result s.new ls n ≡ finished s.old self.now.n (function_at self.now.terms.table.now self.now.n) memory.now.values.now (work_from memory.now.kinds.now memory.now.numbers.now memory.now.texts.now memory.now.holdings.now ls n None) }
     {
         if holdings::parameters_empty(memory.holdings) {
             self.conclude(s, memory)
@@ -414,7 +401,7 @@ impl Called<'_> {
         labels: &mut [i64; Label::ROOM],
     ) -> Result<usize, Question>
         requires { labels_from labels.old ≡ no_labels }
-        ensures { stepped_in (reply_of result) s.new labels.new ≡ finished s.old self.now.n (function_at self.now.table.now self.now.n) values.now (ran values.now s.old.clock (work_from s.old.kinds s.old.numbers s.old.texts holdings.old no_labels 0 None) (function_at self.now.table.now self.now.n).body) }
+        ensures { stepped_in (reply_of result) s.new labels.new ≡ finished s.old self.now.n (function_at self.now.terms.table.now self.now.n) values.now (ran values.now s.old.clock (work_from s.old.kinds s.old.numbers s.old.texts holdings.old no_labels 0 None) (function_at self.now.terms.table.now self.now.n).body) }
     {
         let row = self.row;
         let mut kinds = s.kinds;
@@ -422,7 +409,7 @@ impl Called<'_> {
         let mut texts = s.texts;
         let from = row.first + row.precondition;
         let mut runner = Runner {
-            table: self.table,
+            table: self.terms.table,
             kinds: &mut kinds,
             numbers: &mut numbers,
             texts: &mut texts,
@@ -438,15 +425,7 @@ impl Called<'_> {
             clear(labels);
             return Err(question);
         }
-        let memory = Memory {
-            kinds: &kinds,
-            numbers: &numbers,
-            texts: &texts,
-            holdings: &*holdings,
-            values,
-            clock: s.clock,
-        };
-        if let Err(question) = self.finish(s, &memory) {
+        if let Err(question) = self.finish(s, &runner.memory()) {
             clear(labels);
             return Err(question);
         }
@@ -462,13 +441,10 @@ impl Called<'_> {
         labels: &mut [i64; Label::ROOM],
     ) -> Result<usize, Question>
         requires { labels_from labels.old ≡ no_labels }
-        ensures { stepped_in (reply_of result) s.new labels.new ≡ invoked s.old (arguments values.now assets.now) self.now.n (function_at self.now.table.now self.now.n) }
+        ensures { stepped_in (reply_of result) s.new labels.new ≡ invoked s.old (arguments values.now assets.now) self.now.n (function_at self.now.terms.table.now self.now.n) }
     {
         let row = self.row;
-        if values.len() != row.values {
-            return Err(Question::ArgumentCount);
-        }
-        if assets.len() != row.parameters {
+        if values.len() != row.values || assets.len() != row.parameters {
             return Err(Question::ArgumentCount);
         }
         if !holdings::none_negative(assets) {
@@ -476,6 +452,7 @@ impl Called<'_> {
         }
         let mut holdings = holdings::holdings_of(&s.assets, assets);
         let memory = Memory {
+            table: self.terms.table,
             kinds: &s.kinds,
             numbers: &s.numbers,
             texts: &s.texts,
@@ -483,7 +460,7 @@ impl Called<'_> {
             values,
             clock: s.clock,
         };
-        let truth = precondition(self.table, &memory, row.first, row.precondition);
+        let truth = precondition(&memory, row.first, row.precondition);
         // Kept: (a) document 01 opens an evaluation answer by let .. else.
         let Ok(holds) = truth else {
             return Err(truth.unwrap_err());
@@ -507,44 +484,46 @@ impl Whole<'_> {
         labels: &mut [i64; Label::ROOM],
     ) -> Result<usize, Question>
         requires { labels_from labels.old ≡ no_labels }
-        ensures { stepped_in (reply_of result) s.new labels.new ≡ called (contract_of self.now.table.now) s.old (record { caller = caller.now; function = function.now; values = values.now; assets = assets.now }) }
+        ensures { stepped_in (reply_of result) s.new labels.new ≡ called (contract_of self.now.terms.table.now) s.old (record { caller = caller.now; function = function.now; values = values.now; assets = assets.now }) }
     {
-        let table = self.table;
-        if !s.agreed {
-            return Err(Question::Agreed);
-        }
-        if state::first_due(table, s).is_some() {
-            return Err(Question::NothingDue);
-        }
+        let table = self.terms.table;
+        at_rest(table, s)?;
         let found = self.find_function(s.state, caller, function);
         let Some(n) = found else {
             return Err(Question::FunctionKnown);
         };
         let row = contract::function_at(table, n);
-        let called = Called { table, n, row };
+        let called = Called {
+            terms: self.terms,
+            n,
+            row,
+        };
         called.invoke(s, values, assets, labels)
     }
 }
 
 // ---- The steps.
 
-// The first question of every step that is answered by no.
-// Kept: (d) each public step, here and below, begins with the same three lines, a call of this: one function around the five would take a
-// closure, with a function of the contract beside it in its contract, in place of them.
-fn first_no(table: &[u64], s: &State, room: usize) -> Option<Question>
-    ensures { result ≡ first_no table.now room s.now }
-{
-    if !tables::table_passes(table) {
-        return Some(Question::TableCheck);
+impl<'a> Whole<'a> {
+    // The table, or the first question of every step that is answered by no.
+    // Kept: (d) each public step, here and below, begins with a call of this: one function around the five would take a closure, with a function
+    // of the contract beside it in its contract, in place of three lines.
+    #[tactic(auto, unfolding(crate::specs::Private::admission, laws::specs::Choice::pick))]
+    fn admit(table: &'a [u64], s: &State, room: usize) -> Result<Whole<'a>, Question>
+        ensures { admitted result ≡ admission table.now room s.now }
+    {
+        let Some(terms) = Passed::of(table) else {
+            return Err(Question::TableCheck);
+        };
+        if !s.in_range(table) {
+            return Err(Question::StateRanges);
+        }
+        let short = room < Label::MOST;
+        if short {
+            return Err(Question::LabelRoom);
+        }
+        Ok(Whole { terms })
     }
-    if !state::state_ok(table, s) {
-        return Some(Question::StateRanges);
-    }
-    let short = room < Label::MOST;
-    if short {
-        return Some(Question::LabelRoom);
-    }
-    None
 }
 
 // Agreement: the parties' clauses, with the fields' values.
@@ -561,10 +540,12 @@ pub fn agree(
 ) -> Stepped
     ensures { result ≡ step table.now room s (λ c. agreed_on c s (parts_in line.now (length parts.now / 4) parts.now spans.now values.now)) }
 {
-    if let Some(q) = first_no(table, &s, room) {
+    if let Err(q) = Whole::admit(table, &s, room) {
         return outcomes::refuse(s, q);
     }
-    agreements::agree_on(table, s, line, parts, spans, values)
+    let mut next = s;
+    let outcome = agreements::agree_on(table, &mut next, line, parts, spans, values);
+    outcomes::answer(outcome, next)
 }
 
 // A call by a party, with its values and assets.
@@ -579,12 +560,12 @@ pub fn call(
 ) -> Stepped
     ensures { result ≡ step table.now room s (λ c. called c s (record { caller = caller.now; function = function.now; values = values.now; assets = assets.now })) }
 {
-    if let Some(q) = first_no(table, &s, room) {
-        return outcomes::refuse(s, q);
-    }
+    let whole = match Whole::admit(table, &s, room) {
+        Ok(whole) => whole,
+        Err(q) => return outcomes::refuse(s, q),
+    };
     let mut next = s;
     let mut labels = [0i64; Label::ROOM];
-    let whole = Whole { table };
     let r = whole.call_on(&mut next, caller, function, values, assets, &mut labels);
     with_labels(call_reply(r), next, &labels)
 }
@@ -593,7 +574,7 @@ pub fn call(
 pub fn fire(table: &[u64], s: State, room: usize) -> Stepped
     ensures { result ≡ step table.now room s (λ c. fired c s) }
 {
-    if let Some(q) = first_no(table, &s, room) {
+    if let Err(q) = Whole::admit(table, &s, room) {
         return outcomes::refuse(s, q);
     }
     let mut next = s;
@@ -606,24 +587,24 @@ pub fn fire(table: &[u64], s: State, room: usize) -> Stepped
 pub fn tick(table: &[u64], s: State, room: usize) -> Stepped
     ensures { result ≡ step table.now room s (λ c. ticked c s) }
 {
-    if let Some(q) = first_no(table, &s, room) {
+    if let Err(q) = Whole::admit(table, &s, room) {
         return outcomes::refuse(s, q);
     }
     let mut next = s;
-    let outcome = tick_on(table, &mut next);
-    outcomes::answer(outcome, next)
+    let r = tick_on(table, &mut next);
+    outcomes::answer(passage(r), next)
 }
 
 // The clock rises until an event is due, and to `to` at most.
 pub fn jump(table: &[u64], s: State, room: usize, to: i64) -> Stepped
     ensures { result ≡ step table.now room s (λ c. jumped c s to) }
 {
-    if let Some(q) = first_no(table, &s, room) {
+    if let Err(q) = Whole::admit(table, &s, room) {
         return outcomes::refuse(s, q);
     }
     let mut next = s;
-    let outcome = jump_on(table, &mut next, to);
-    outcomes::answer(outcome, next)
+    let r = jump_on(table, &mut next, to);
+    outcomes::answer(passage(r), next)
 }
 
 // Whenever an event is due it is fired, else the next whole line of these bytes is taken, while there is room for the result lines of any
@@ -637,19 +618,12 @@ pub fn play(
     input: &[u8],
     numbers: &mut [u64],
     integers: &mut [i64],
-) -> Played
+) -> Result<Played, Question>
     ensures value { result ≡ played table.now s input.now (room_in (length numbers.old) (length integers.old)) }
     ensures numbers_after { numbers.new ≡ sets numbers.old 0 (coded_all (reports_of table.now s input.now (room_in (length numbers.old) (length integers.old)))) }
     ensures integers_after { integers.new ≡ sets integers.old 0 (integers_of (reports_of table.now s input.now (room_in (length numbers.old) (length integers.old)))) }
 {
     let room = turns::label_room(numbers, integers);
-    if let Some(q) = first_no(table, &s, room) {
-        return Played {
-            question: Some(q),
-            state: s,
-            used: 0,
-            many: 0,
-        };
-    }
-    turns::play_on(table, s, input, numbers, integers)
+    let whole = Whole::admit(table, &s, room)?;
+    Ok(whole.play_on(s, input, numbers, integers))
 }

@@ -1,7 +1,6 @@
 // A session: due events are fired, lines are taken, and the result lines of it are handed on as numbers.
-ghost use Rattle.std.specs.Prelude.{◌≡◌, true, ◌+◌, ◌-◌, ◌*◌, ◌≤◌, ◌<◌, ◌^◌, length, pos, IfSome, Ok};
+ghost use Rattle.std.specs.Prelude.{◌≡◌, ◌+◌, ◌-◌, ◌*◌, ◌≤◌, ◌<◌, ◌^◌, length, pos, IfSome, Ok};
 ghost use Rattle.contract.specs.Decode.{contract_of};
-ghost use Rattle.contract.specs.Check.{passes};
 ghost use Rattle.statements.specs.Running.{labels_from};
 ghost use Rattle.lines.specs.Lines.{asked};
 ghost use Rattle.lines.specs.Answers.{padded, request_of, numbers_of};
@@ -17,6 +16,7 @@ use outcomes::{Outcome, Stepped};
 use questions::Question;
 use state::State;
 use statements::Label;
+use step_reports::Done;
 
 // ---- A turn.
 
@@ -34,7 +34,7 @@ fn next(table: &[u64], s: &State, input: &[u8], at: usize) -> Option<Next>
     ensures turn { turn_at (contract_of table.now) input.now s.now at ≡ turn_of input.now at result }
     ensures within { IfSome result (λ n. EndsWithin (length input.now) n) }
 {
-    if state::first_due(table, s).is_some() {
+    if s.first_due(table).is_some() {
         return Some(Next::Event);
     }
     let end = line_end(input, at);
@@ -57,7 +57,7 @@ impl Whole<'_> {
         requires no_labels { labels_from labels.old ≡ no_labels }
         requires call { Ok (request.Call call) ≡ request_of (asked line.now) }
         requires numbers { numbers.now ≡ padded (pos 0) 256 (numbers_of (asked line.now)) }
-        ensures { stepped_in result s.new labels.new ≡ taken (contract_of self.now.table.now) s.old line.now }
+        ensures { stepped_in result s.new labels.new ≡ taken (contract_of self.now.terms.table.now) s.old line.now }
     {
         let caller = tokens::between(line, call.party.start, call.party.end);
         let function = tokens::between(line, call.function.start, call.function.end);
@@ -70,22 +70,15 @@ impl Whole<'_> {
     // A line that agrees, on a state that is not agreed yet.
     fn take_agreement(&self, s: &mut State, line: &[u8]) -> Outcome
         requires { Ok request.Agreement ≡ request_of (asked line.now) }
-        ensures { answered result s.new ≡ taken (contract_of self.now.table.now) s.old line.now }
+        ensures { answered result s.new ≡ taken (contract_of self.now.terms.table.now) s.old line.now }
     {
         if s.agreed {
             return Outcome::Refused(Question::NotAgreed);
         }
-        let a = lines::agreement_of(line);
-        let t = agreements::agree_on(
-            self.table,
-            *s,
-            line,
-            &a.heads[..4 * a.parts],
-            &a.spans[..2 * a.fields],
-            &a.values[..a.fields],
-        );
-        *s = t.state;
-        t.outcome
+        let Some(a) = lines::agreement_of(line) else {
+            return Outcome::Refused(Question::LineForm);
+        };
+        agreements::agree_on(self.terms.table, s, line, a.heads(), a.spans(), a.values())
     }
 
     // What a line asks for, as it was read, with its integers.
@@ -100,11 +93,12 @@ impl Whole<'_> {
         requires no_labels { labels_from labels.old ≡ no_labels }
         requires request { Ok request ≡ request_of (asked line.now) }
         requires numbers { numbers.now ≡ padded (pos 0) 256 (numbers_of (asked line.now)) }
-        ensures { stepped_in result s.new labels.new ≡ taken (contract_of self.now.table.now) s.old line.now }
+        ensures { stepped_in result s.new labels.new ≡ taken (contract_of self.now.terms.table.now) s.old line.now }
     {
+        let table = self.terms.table;
         match request {
-            Request::Tick => crate::silent(crate::tick_on(self.table, s)),
-            Request::Jump(to) => crate::silent(crate::jump_on(self.table, s, to)),
+            Request::Tick => crate::silent(crate::passage(crate::tick_on(table, s))),
+            Request::Jump(to) => crate::silent(crate::passage(crate::jump_on(table, s, to))),
             Request::Call(call) => self.take_call(s, line, call, numbers, labels),
             Request::Agreement => crate::silent(self.take_agreement(s, line)),
         }
@@ -113,7 +107,7 @@ impl Whole<'_> {
     // What a line, the bytes before its LF, does.
     fn take_line(&self, s: &mut State, line: &[u8], labels: &mut [i64; Label::ROOM]) -> Reply
         requires { labels_from labels.old ≡ no_labels }
-        ensures { stepped_in result s.new labels.new ≡ taken (contract_of self.now.table.now) s.old line.now }
+        ensures { stepped_in result s.new labels.new ≡ taken (contract_of self.now.terms.table.now) s.old line.now }
     {
         let mut numbers = [0i64; Line::NUMBERS];
         match lines::read(line, &mut numbers) {
@@ -132,10 +126,10 @@ impl Whole<'_> {
         labels: &mut [i64; Label::ROOM],
     ) -> Reply
         requires { labels_from labels.old ≡ no_labels }
-        ensures { stepped_in result s.new labels.new ≡ heard (contract_of self.now.table.now) s.old (said_of input.now at next) }
+        ensures { stepped_in result s.new labels.new ≡ heard (contract_of self.now.terms.table.now) s.old (said_of input.now at next) }
     {
         match next {
-            Next::Event => crate::fire_on(self.table, s, labels),
+            Next::Event => crate::fire_on(self.terms.table, s, labels),
             Next::Line(end) => self.take_line(s, tokens::between(input, at, end), labels),
         }
     }
@@ -173,48 +167,49 @@ pub(crate) fn label_room(numbers: &[u64], integers: &[i64]) -> usize
     step_reports::room_in(numbers, integers).saturating_sub(1)
 }
 
-// A session on a state within its ranges.
-// Kept: (a) the two lent lists of `play`.
-pub(crate) fn play_on(
-    table: &[u64],
-    s: State,
-    input: &[u8],
-    numbers: &mut [u64],
-    integers: &mut [i64],
-) -> Played
-    requires { passes table.now ≡ true }
-    ensures { PlayedIs (session (contract_of table.now) input.now (room_in (length numbers.old) (length integers.old)) s) result numbers.old integers.old numbers.new integers.new }
-{
-    let mut labels = [0i64; Label::ROOM];
-    let room = step_reports::room_in(numbers, integers);
-    let mut state = s;
-    let mut at: usize = 0;
-    let mut n: usize = 0;
-    // Kept: (d) each turn takes as many of the lent places as its step has reports, so that no range or iterator counts the turns; they go on
-    // while there is room for the reports of any step.
-    while Stepped::REPORTS <= room - n {
-        let Some(taken) = next(table, &state, input, at) else {
-            break;
-        };
-        let whole = Whole { table };
-        let r = whole.take_up(&mut state, input, at, taken, &mut labels);
-        at = place_after(at, taken);
-        n = step_reports::report(
-            numbers,
-            integers,
-            n,
-            r.outcome,
-            state.state,
-            state.clock,
-            &labels,
-            r.count,
-        );
-        clear_sent(&mut labels, r.count);
-    }
-    Played {
-        question: None,
-        state,
-        used: at,
-        many: n,
+impl Whole<'_> {
+    // A session on a state within its ranges.
+    // Kept: (a) the two lent lists of `play`.
+    pub(crate) fn play_on(
+        &self,
+        s: State,
+        input: &[u8],
+        numbers: &mut [u64],
+        integers: &mut [i64],
+    ) -> Played
+        ensures { PlayedIs (session (contract_of self.now.terms.table.now) input.now (room_in (length numbers.old) (length integers.old)) s) result numbers.old integers.old numbers.new integers.new }
+    {
+        let mut labels = [0i64; Label::ROOM];
+        let room = step_reports::room_in(numbers, integers);
+        let mut state = s;
+        let mut at: usize = 0;
+        let mut n: usize = 0;
+        // Kept: (d) each turn takes as many of the lent places as its step has reports, so that no range or iterator counts the turns; they go on
+        // while there is room for the reports of any step.
+        while Stepped::REPORTS <= room - n {
+            let Some(taken) = next(self.terms.table, &state, input, at) else {
+                break;
+            };
+            let r = self.take_up(&mut state, input, at, taken, &mut labels);
+            at = place_after(at, taken);
+            n = step_reports::report(
+                numbers,
+                integers,
+                n,
+                Done {
+                    outcome: r.outcome,
+                    state: state.state,
+                    clock: state.clock,
+                    labels: &labels,
+                    count: r.count,
+                },
+            );
+            clear_sent(&mut labels, r.count);
+        }
+        Played {
+            state,
+            used: at,
+            many: n,
+        }
     }
 }

@@ -25,8 +25,7 @@ use Rattle.contract.specs.Tree.{Holder, asset, asset_parameter, Expression, held
 use Rattle.evaluation.specs.Memory.{place_of}
 use Rattle.evaluation.specs.Meaning.{value_of}
 use Rattle.statements.specs.declared.Label.{Label}
-use Rattle.statements.specs.declared.Work.{Work}
-use Rattle.statements.specs.Running.{integer_label, string_label, asset_label, max_labels, max_holdings, memory_in, stored, labelled, sent, receiver, place, amount_at, moved, paid, performed}
+use Rattle.statements.specs.Running.{Work, integer_label, string_label, asset_label, max_labels, max_holdings, memory_in, stored, labelled, sent, receiver, place, amount_at, moved, paid, performed}
 use Rattle.statements.specs.Running as running
 use Rattle.history.proofs.RefusalNumbers.{Stops, AnswerStops, value_stops}
 use Rattle.published.specs.Published.{Statement, act, spelled, Table3, value_send, asset_send, field_update, asset_update, asset_update_self, NoAmount, refuses, string, negative, uncovered, Meets, send_meets, assign_meets, pay_meets, move_meets, move_full}

@@ -16,8 +16,7 @@ use Rattle.contract.specs.Sizes.{statements}
 use Rattle.evaluation.specs.Memory.{Memory}
 use Rattle.evaluation.specs.Meaning.{truth_of}
 use Rattle.statements.specs.declared.Label.{Label}
-use Rattle.statements.specs.declared.Work.{Work}
-use Rattle.statements.specs.Running.{max_labels, memory_in, onward, by_truth, ran}
+use Rattle.statements.specs.Running.{Work, max_labels, memory_in, onward, by_truth, ran}
 use Rattle.history.proofs.RefusalNumbers.{Stops, TruthStops, truth_stops}
 use Rattle.published.specs.Published.{Statement, when, in_order, cond_true, cond_false, Statements, stop, next, Meets, condition_meets}
 use Rattle.published.proofs.Runs.{then}

@@ -18,8 +18,7 @@ use Rattle.contract.specs.Sizes.{statements}
 use Rattle.evaluation.specs.Memory.{Memory}
 use Rattle.state.specs.declared.State.{State}
 use Rattle.statements.specs.declared.Label.{Label}
-use Rattle.statements.specs.declared.Work.{Work}
-use Rattle.statements.specs.Running.{max_labels, memory_in, ran}
+use Rattle.statements.specs.Running.{Work, max_labels, memory_in, ran}
 use Rattle.outcomes.specs.Outcomes.{no_label}
 use Rattle.machine.specs.Steps.{begun}
 use Rattle.history.proofs.RefusalNumbers.{Stops}

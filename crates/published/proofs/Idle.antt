@@ -19,8 +19,7 @@ use Rattle.state.specs.declared.Pending.{Pending}
 use Rattle.state.specs.States.{live, with_pending}
 use Rattle.state.proofs.Within.{live_with}
 use Rattle.statements.specs.declared.Label.{Label}
-use Rattle.statements.specs.declared.Work.{Work}
-use Rattle.statements.specs.Running.{memory_in}
+use Rattle.statements.specs.Running.{Work, memory_in}
 use Rattle.outcomes.specs.declared.Outcome.{Outcome}
 use Rattle.outcomes.specs.declared.Stepped.{Stepped}
 use Rattle.machine.specs.Steps.{begun, ended, unless_refused}

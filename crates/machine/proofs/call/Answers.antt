@@ -1,17 +1,21 @@
 -- `machine::call` meets its contract. Assumes nothing.
-use mathlib.Core.Path.{◌∙◌}
+use mathlib.Core.Path.{ap, ◌∙◌}
+use mathlib.Core.List.{List}
+use Prim.Native.Nat.{ℕ}
+use Rattle.contract.specs.Decode.{contract_of}
+use Rattle.outcomes.specs.declared.Stepped.{Stepped}
 use Rattle.contract.specs.Tree.{Contract}
 use Rattle.laws.specs.Lists.{repeated}
 use Rattle.machine.specs.Steps.{called}
-use Rattle.machine.proofs.Gates.{refused_first, asked, stepped}
+use Rattle.machine.proofs.Gates.{refused_first, same_table, stepped}
 use Rattle.outcomes.proofs.Labels.{no_labels_lem}
 use Rattle.machine.proofs.Replies.{in_reply}
 use Rattle.machine.proofs.call.Goals as goal
 
-pub returns-in-Some : goal.returns-in-Some
-returns-in-Some c =
+pub returns-in-Err : goal.returns-in-Err
+returns-in-Err c =
     let a = c.args in
-    c.refuse.ensures ∙ refused_first a.table.now a.room a.s _ c.first_no.ensures (λ (x : Contract). called x a.s (record { caller = a.caller.now; function = a.function.now; values = a.values.now; assets = a.assets.now })) c.in-Some.q c.in-Some.is
+    c.refuse.ensures ∙ refused_first a.table.now a.room a.s _ c.admit.ensures (λ (x : Contract). called x a.s (record { caller = a.caller.now; function = a.function.now; values = a.values.now; assets = a.assets.now })) c.in-Err.q c.in-Err.is
 
 pub call_on-r-requires : goal.call_on-r-requires
 unfolding repeated
@@ -21,9 +25,9 @@ call_on-r-requires c =
 pub returns : goal.returns
 returns c =
     let a = c.args in
+    let n = c.admit.ensures in
+    let does : Contract → Stepped = λ x. called x a.s (record { caller = a.caller.now; function = a.function.now; values = a.values.now; assets = a.assets.now }) in
     c.with_labels.ensures
     ∙ in_reply _ c.call_reply.ensures c.call_on-r.ensures
-    ∙ stepped a.table.now a.room a.s _ c.first_no.ensures (λ (x : Contract). called x a.s (record { caller = a.caller.now; function = a.function.now; values = a.values.now; assets = a.assets.now })) c.in_default.is
-
-pub invariant_of-whole : goal.invariant_of-whole
-invariant_of-whole c = record { whole = (asked c.args.table.now c.args.room c.args.s _ c.first_no.ensures c.in_default.is).0 }
+    ∙ ap (λ (w : List ℕ). does (contract_of w)) (same_table a.table.now a.room a.s _ n _ c.in-Ok.is)
+    ∙ stepped a.table.now a.room a.s _ n _ c.in-Ok.is does

@@ -7,9 +7,9 @@ use Rattle.machine.specs.Steps.{fired}
 use Rattle.machine.proofs.Gates.{refused_first, stepped}
 use Rattle.machine.proofs.fire.Goals as goal
 
-pub returns-in-Some : goal.returns-in-Some
-returns-in-Some c =
-    c.refuse.ensures ∙ refused_first c.args.table.now c.args.room c.args.s _ c.first_no.ensures (λ (x : Contract). fired x c.args.s) c.in-Some.q c.in-Some.is
+pub returns-in-Err : goal.returns-in-Err
+returns-in-Err c =
+    c.refuse.ensures ∙ refused_first c.args.table.now c.args.room c.args.s _ c.admit.ensures (λ (x : Contract). fired x c.args.s) c.in-Err.q c.in-Err.is
 
 pub fire_on-r-requires : goal.fire_on-r-requires
 unfolding repeated
@@ -18,4 +18,4 @@ fire_on-r-requires c =
 
 pub returns : goal.returns
 returns c =
-    c.with_labels.ensures ∙ c.fire_on-r.ensures ∙ stepped c.args.table.now c.args.room c.args.s _ c.first_no.ensures (λ (x : Contract). fired x c.args.s) c.in_default.is
+    c.with_labels.ensures ∙ c.fire_on-r.ensures ∙ stepped c.args.table.now c.args.room c.args.s _ c.admit.ensures _ c.in_default.is (λ (x : Contract). fired x c.args.s)

@@ -7,4 +7,4 @@ use Rattle.machine.proofs.guard.Goals as goal
 
 pub returns : goal.returns
 returns c =
-    c.value.ensures ∙ guard_at c.args.table.now (lent c.args.memory.now) (c.args.first + c.args.j) _ c.event_row-e.ensures _ c.node_at-node.ensures _ _ c.saturating_sub.ensures c.saturating_sub-k.ensures
+    c.value.ensures ∙ guard_at c.args.memory.now.table.now (lent c.args.memory.now) (c.args.first + c.args.j) _ c.event_row-e.ensures _ c.node_at-node.ensures _ _ c.saturating_sub.ensures c.saturating_sub-k.ensures

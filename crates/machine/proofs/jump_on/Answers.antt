@@ -1,32 +1,34 @@
 -- `machine::jump_on` meets its contract. Assumes nothing.
 use mathlib.Core.Path.{sym, ap, ◌∙◌}
 use Prim.Native.Nat.{ℕ, ◌+◌, ◌-◌}
-use lib.IntN.{pos, nat_abs}
-use lib.Signed.{le_z}
 use mir.Facts.{to_z-of_z}
+use Rattle.std.proofs.lemmas.Result.{err_from_is_err_and}
+use Rattle.std.specs.Prelude.{Result, Err}
+use Rattle.questions.specs.declared.Question.{Question}
 use Rattle.contract.specs.Decode.{contract_of}
 use Rattle.state.specs.States.{times_until_due}
-use Rattle.machine.proofs.Gates.{some_is, none_is}
-use Rattle.machine.proofs.Ticks.{jump_unagreed, jump_due, jump_past, jump_on}
+use Rattle.outcomes.specs.Outcomes.{answered}
+use Rattle.machine.specs.Private.{passage}
+use Rattle.machine.proofs.Gates.{rests}
+use Rattle.machine.proofs.Tests.{too_early, in_time}
+use Rattle.machine.proofs.Ticks.{jump_away, jump_past, jump_on}
 use Rattle.machine.proofs.jump_on.Goals as goal
 
-pub returns-then-not-s : goal.returns-then-not-s
-returns-then-not-s c = jump_unagreed _ c.args.s.now c.args.to c.if-not-s.true
+pub returns-in_err-at_rest : goal.returns-in_err-at_rest
+returns-in_err-at_rest c =
+    let p = err_from_is_err_and c.from_residual.result c.from_residual.ensures.1 in
+    ap (λ (r : Result Unit Question). answered (passage r) c.args.s.now) (p.1 ∙ ap Err p.2) ∙ jump_away _ c.args.s.now c.args.to (sym c.in_err-at_rest.was ∙ c.at_rest.ensures)
 
-pub returns-then-due : goal.returns-then-due
-returns-then-due c =
-    let k = some_is _ (sym c.is_some-due.ensures ∙ c.if-due.true) in
-    jump_due _ c.args.s.now c.args.to c.if-not-s.false k.0 (sym c.first_due.ensures ∙ k.1)
-
-pub returns-then-not-not_before : goal.returns-then-not-not_before
-returns-then-not-not_before c =
-    jump_past _ c.args.s.now c.args.to c.if-not-s.false (sym c.first_due.ensures ∙ none_is _ (sym c.is_some-due.ensures ∙ c.if-due.false))
-    (ap (le_z (pos c.args.s.now.clock)) (sym (to_z-of_z c.ranges.to)) ∙ sym c.not_before.ensures ∙ c.if-not-not_before.true)
+pub returns-in_default : goal.returns-in_default
+returns-in_default c =
+    let r = rests _ c.args.s.now (sym c.in_ok-at_rest.was ∙ c.at_rest.ensures) in
+    jump_past _ c.args.s.now c.args.to r.0 r.1
+    (too_early _ c.not_before.ensures (to_z-of_z c.ranges.to) c.in_default.is)
 
 pub returns : goal.returns
 returns c =
     let k = contract_of c.args.table.now in
     let x = c.args.s.now in
-    jump_on k x c.args.to c.if-not-s.false (sym c.first_due.ensures ∙ none_is _ (sym c.is_some-due.ensures ∙ c.if-due.false))
-    (ap (le_z (pos x.clock)) (sym (to_z-of_z c.ranges.to)) ∙ sym c.not_before.ensures ∙ c.if-not-not_before.false)
-    _ (c.next_stop-stop.ensures ∙ ap (λ (m : ℕ). x.clock + times_until_due k (m - x.clock) x) (c.magnitude.ensures ∙ ap nat_abs (to_z-of_z c.ranges.to))) _ c.pass.ensures
+    let r = rests _ x (sym c.in_ok-at_rest.was ∙ c.at_rest.ensures) in
+    let e = in_time _ c.not_before.ensures (to_z-of_z c.ranges.to) c.in-Some.is in
+    jump_on k x c.args.to r.0 r.1 e.0 _ (c.next_stop-stop.ensures ∙ ap (λ (m : ℕ). x.clock + times_until_due k (m - x.clock) x) e.1) _ c.pass.ensures

@@ -6,8 +6,8 @@ use Rattle.machine.proofs.precondition.Goals as goal
 
 pub returns-then-n-eq0 : goal.returns-then-n-eq0
 returns-then-n-eq0 c =
-    precondition_omitted c.args.table.now (lent c.args.memory.now) c.args.first c.args.n c.if-n-eq0.true
+    precondition_omitted c.args.memory.now.table.now (lent c.args.memory.now) c.args.first c.args.n c.if-n-eq0.true
 
 pub returns : goal.returns
 returns c =
-    c.truth.ensures ∙ precondition_given c.args.table.now (lent c.args.memory.now) c.args.first c.args.n c.if-n-eq0.false
+    c.truth.ensures ∙ precondition_given c.args.memory.now.table.now (lent c.args.memory.now) c.args.first c.args.n c.if-n-eq0.false

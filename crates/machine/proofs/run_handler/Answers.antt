@@ -6,8 +6,9 @@ use Rattle.std.specs.Prelude.{Option}
 use Rattle.std.specs.Result.{result_err}
 use Rattle.questions.specs.declared.Question.{Question}
 use Rattle.contract.specs.Decode.{block_between}
-use Rattle.statements.specs.declared.Work.{Work}
-use Rattle.statements.specs.Running.{ran, work_by}
+use Rattle.evaluation.specs.Memory.{Memory}
+use Rattle.statements.specs.Running.{Work, ran}
+use Rattle.statements.specs.Lending.{work_by}
 use Rattle.holdings.specs.Holdings.{amounts}
 use Rattle.machine.proofs.Firings.{handler_failed, handler_ends}
 use Rattle.machine.proofs.Replies.{started, quiet_as}
@@ -27,4 +28,4 @@ returns c =
     let b = started c.args.s.now [] _ _ c.holdings_of-holdings.ensures c.requires in
     let run = c.run-ran.ensures.value ∙ ap (λ (x : Work). ran [] c.args.s.now.clock x (block_between c.args.table.now c.args.h.from c.args.h.end)) b in
     let went = ap (λ (o : Option Question). work_by c.run-ran.new.self o) (sym (ap result_err c.in_default.is)) ∙ run in
-    handler_ends c.args.s.now c.args.h.last _ c.run-ran.new.self went c.reach.ensures (search rules) (search rules) (search rules) (search rules) (search rules)
+    handler_ends c.args.s.now c.args.h.last _ c.run-ran.new.self went c.reach.ensures (ap (λ (m : Memory). m.kinds) c.memory.ensures.value) (ap (λ (m : Memory). m.numbers) c.memory.ensures.value) (ap (λ (m : Memory). m.texts) c.memory.ensures.value) (ap (λ (m : Memory). m.holdings) c.memory.ensures.value) (search rules)

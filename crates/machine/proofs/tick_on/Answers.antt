@@ -1,21 +1,25 @@
 -- `machine::tick_on` meets its contract. Assumes nothing.
-use mathlib.Core.Path.{sym, ◌∙◌}
-use Rattle.machine.proofs.Gates.{some_is, none_is}
-use Rattle.machine.proofs.Ticks.{tick_unagreed, tick_due, tick_top, tick_on}
+use mathlib.Core.Path.{sym, ap, ◌∙◌}
+use Rattle.std.proofs.lemmas.Result.{err_from_is_err_and}
+use Rattle.std.specs.Prelude.{Result, Err}
+use Rattle.questions.specs.declared.Question.{Question}
+use Rattle.outcomes.specs.Outcomes.{answered}
+use Rattle.machine.specs.Private.{passage}
+use Rattle.machine.proofs.Gates.{rests}
+use Rattle.machine.proofs.Ticks.{tick_away, tick_top, tick_on}
 use Rattle.machine.proofs.tick_on.Goals as goal
 
-pub returns-then-not-s : goal.returns-then-not-s
-returns-then-not-s c = tick_unagreed _ c.args.s.now c.if-not-s.true
-
-pub returns-then-is_some : goal.returns-then-is_some
-returns-then-is_some c =
-    let k = some_is _ (sym c.is_some.ensures ∙ c.if-is_some.true) in
-    tick_due _ c.args.s.now c.if-not-s.false k.0 (sym c.first_due.ensures ∙ k.1)
+pub returns-in_err-at_rest : goal.returns-in_err-at_rest
+returns-in_err-at_rest c =
+    let p = err_from_is_err_and c.from_residual.result c.from_residual.ensures.1 in
+    ap (λ (r : Result Unit Question). answered (passage r) c.args.s.now) (p.1 ∙ ap Err p.2) ∙ tick_away _ c.args.s.now (sym c.in_err-at_rest.was ∙ c.at_rest.ensures)
 
 pub returns-then-clock-ge-TOP : goal.returns-then-clock-ge-TOP
 returns-then-clock-ge-TOP c =
-    tick_top _ c.args.s.now c.if-not-s.false (sym c.first_due.ensures ∙ none_is _ (sym c.is_some.ensures ∙ c.if-is_some.false)) c.if-clock-ge-TOP.true
+    let r = rests _ c.args.s.now (sym c.in_ok-at_rest.was ∙ c.at_rest.ensures) in
+    tick_top _ c.args.s.now r.0 r.1 c.if-clock-ge-TOP.true
 
 pub returns : goal.returns
 returns c =
-    tick_on _ c.args.s.now c.if-not-s.false (sym c.first_due.ensures ∙ none_is _ (sym c.is_some.ensures ∙ c.if-is_some.false)) _ c.pass.ensures c.if-clock-ge-TOP.false
+    let r = rests _ c.args.s.now (sym c.in_ok-at_rest.was ∙ c.at_rest.ensures) in
+    tick_on _ c.args.s.now r.0 r.1 _ c.pass.ensures c.if-clock-ge-TOP.false

@@ -7,4 +7,4 @@ use Rattle.machine.proofs.Called.conclude.Given as goal
 
 abbrev pub invariant-loop-j : goal.invariant-loop-j
 invariant-loop-j l =
-    Joined (lent l.memory) l.clock l.self.n (with_pending l.s (live l.s)) (function_at l.self.table.now l.self.n).events l.next l.joined l.j
+    Joined (lent l.memory) l.s.clock l.self.n (with_pending l.s (live l.s)) (function_at l.self.terms.table.now l.self.n).events l.next l.joined l.j

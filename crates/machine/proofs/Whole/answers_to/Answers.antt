@@ -13,35 +13,35 @@ use Rattle.machine.proofs.Whole.answers_to.Goals.{then-row-state, else-row-state
 
 pub overflow_mul-row : goal.overflow_mul-row
 overflow_mul-row c =
-    let p = placed c.args.self.now.table.now c.args.self.now.whole c.args.i c.requires in
+    let p = placed c.args.self.now.terms.table.now c.args.self.now.terms.whole c.args.i c.requires in
     omega (arith, p.party, p.parties, ap (λ (r : Function). r.party) c.function_at-row.ensures)
 
 pub overflow_add-row : goal.overflow_add-row
 overflow_add-row c =
-    let p = placed c.args.self.now.table.now c.args.self.now.whole c.args.i c.requires in
+    let p = placed c.args.self.now.terms.table.now c.args.self.now.terms.whole c.args.i c.requires in
     omega (arith, p.party, p.parties, ap (λ (r : Function). r.party) c.function_at-row.ensures)
 
 pub overflow_mul-i : goal.overflow_mul-i
 overflow_mul-i c =
-    let p = placed c.args.self.now.table.now c.args.self.now.whole c.args.i c.requires in
+    let p = placed c.args.self.now.terms.table.now c.args.self.now.terms.whole c.args.i c.requires in
     omega (arith, p.number)
 
 pub overflow_add-i : goal.overflow_add-i
 overflow_add-i c =
-    let p = placed c.args.self.now.table.now c.args.self.now.whole c.args.i c.requires in
+    let p = placed c.args.self.now.terms.table.now c.args.self.now.terms.whole c.args.i c.requires in
     omega (arith, p.number)
 
 pub overflow_add-i-then-same_name : goal.overflow_add-i-then-same_name
 overflow_add-i-then-same_name c =
-    let p = placed c.args.self.now.table.now c.args.self.now.whole c.args.i c.requires in
+    let p = placed c.args.self.now.terms.table.now c.args.self.now.terms.whole c.args.i c.requires in
     omega (arith, p.number)
 
 pub returns-then-same_name : goal.returns-then-same_name
 returns-then-same_name c =
     let a = c.args in
     let caller = a.caller.now in
-    let w = a.self.now.table.now in
-    let p = placed w a.self.now.whole a.i c.requires in
+    let w = a.self.now.terms.table.now in
+    let p = placed w a.self.now.terms.whole a.i c.requires in
     elim c.if-row-state.branch [
       | then-row-state t ↦
           c.same_name-then-same_name.ensures
@@ -53,8 +53,8 @@ pub returns-else-same_name : goal.returns-else-same_name
 returns-else-same_name c =
     let a = c.args in
     let caller = a.caller.now in
-    let w = a.self.now.table.now in
-    let p = placed w a.self.now.whole a.i c.requires in
+    let w = a.self.now.terms.table.now in
+    let p = placed w a.self.now.terms.whole a.i c.requires in
     c.if-same_name.false
     ∙ (elim c.if-row-state.branch [
       | then-row-state t ↦

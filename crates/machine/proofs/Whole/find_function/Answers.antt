@@ -11,7 +11,7 @@ use Rattle.machine.proofs.Whole.find_function.Goals as goal
 
 pub find-requires-clause-callable : goal.find-requires-clause-callable
 find-requires-clause-callable c =
-    let w = c.args.self.now.table.now in
+    let w = c.args.self.now.terms.table.now in
     let count : c.head-count.result.functions ≡ word_at w 6 = ap (λ (h : TableHead). h.functions) c.head-count.ensures in
     serves_from_Range (λ x q k. search rules)
     (λ x a b.
@@ -20,7 +20,7 @@ find-requires-clause-callable c =
 
 pub returns : goal.returns
 returns c =
-    let w = c.args.self.now.table.now in
+    let w = c.args.self.now.terms.table.now in
     let m = naming c.args.caller.now c.args.function.now in
     let test = λ (i : ℕ). answers_to (contract_of w) (in_state c.args.state) m (function_at w i) in
     found_first w c.args.state m _ _ (ap (λ (h : TableHead). h.functions) c.head-count.ensures)

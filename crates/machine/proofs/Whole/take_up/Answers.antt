@@ -7,4 +7,4 @@ use Rattle.machine.proofs.Whole.take_up.Goals as goal
 pub returns-in-Line : goal.returns-in-Line
 returns-in-Line c =
     c.take_line.ensures
-    ∙ line_heard (contract_of c.args.self.now.table.now) c.args.s.now c.args.input.now c.args.at c.in-Line.end c.between.ensures c.in-Line.is
+    ∙ line_heard (contract_of c.args.self.now.terms.table.now) c.args.s.now c.args.input.now c.args.at c.in-Line.end c.between.ensures c.in-Line.is

@@ -1,11 +1,11 @@
--- `machine::turns::play_on` meets its contract. Assumes nothing.
+-- `machine::Whole::play_on` meets its contract. Assumes nothing.
 use mathlib.Core.Path.{sym, ap, ◌∙◌}
 use Rattle.laws.specs.Lists.{repeated}
 use Rattle.outcomes.proofs.Labels.{no_labels_lem}
 use Rattle.machine.proofs.Playing.{going_first, goes_up, going_on, left_blank, ended_full, ended_wait}
 use Rattle.machine.specs.Sessions.{takes}
 use Rattle.machine.specs.Private.{said_of, place_after, turn_of}
-use Rattle.machine.proofs.turns.play_on.Goals as goal
+use Rattle.machine.proofs.Whole.play_on.Goals as goal
 
 pub loop-n-init : goal.loop-n-init
 unfolding repeated
