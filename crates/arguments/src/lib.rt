@@ -69,7 +69,7 @@ impl fmt::Display for Fault {
 }
 
 // What is asked so far.
-#[derive(Clone, Copy)]
+#[derive(Clone, Copy, Default)]
 pub struct Asked {
     pub help: bool,
     pub explain: bool,
@@ -80,25 +80,6 @@ pub struct Asked {
     pub option: Option<usize>,
     // Which argument the FILE is.
     pub file: Option<usize>,
-}
-
-impl Asked {
-    // The most bytes of an argument.
-    pub const ARGUMENT_BYTES: usize = 1024;
-
-    // No argument yet.
-    pub fn nothing() -> Asked
-        ensures { result ≡ nothing_asked }
-    {
-        Asked {
-            help: false,
-            explain: false,
-            review: false,
-            pages: None,
-            option: None,
-            file: None,
-        }
-    }
 }
 
 // What an argument is.
@@ -144,72 +125,84 @@ fn once(n: usize, given: bool, barred: bool, next: Asked) -> Result<Asked, Fault
     }
 }
 
-// One FILE.
-fn take_file(asked: Asked, n: usize) -> Result<Asked, Fault>
-    ensures { result ≡ with_file asked n }
-{
-    if asked.file.is_some() {
-        return wrong(n, Mistake::Many);
-    }
-    Ok(Asked {
-        file: Some(n),
-        ..asked
-    })
-}
+impl Asked {
+    // The most bytes of an argument.
+    pub const ARGUMENT_BYTES: usize = 1024;
 
-// The argument of the option before it, which stands at a place.
-fn take_out(asked: Asked, place: usize, n: usize, argument: &[u8]) -> Result<Asked, Fault>
-    ensures { result ≡ with_out asked place n argument.now }
-{
-    match argument {
-        _ if Asked::ARGUMENT_BYTES < argument.len() => wrong(n, Mistake::Long),
-        [b'-', ..] => wrong(place, Mistake::Without),
-        _ => Ok(Asked {
-            pages: Some(n),
-            option: None,
-            ..asked
-        }),
+    // No argument yet.
+    pub fn nothing() -> Asked
+        ensures { result ≡ nothing_asked }
+    {
+        Asked::default()
     }
-}
 
-// One more argument, the n-th.
-pub fn hear(asked: Asked, n: usize, argument: &[u8]) -> Result<Asked, Fault>
-    ensures { result ≡ heard asked n argument.now }
-{
-    if let Some(place) = asked.option {
-        return take_out(asked, place, n, argument);
+    // One FILE.
+    fn take_file(self, n: usize) -> Result<Asked, Fault>
+        ensures { result ≡ with_file self n }
+    {
+        if self.file.is_some() {
+            return wrong(n, Mistake::Many);
+        }
+        Ok(Asked {
+            file: Some(n),
+            ..self
+        })
     }
-    let mut next = asked;
-    match classify(argument) {
-        Argument::Help => {
-            next.help = true;
-            once(n, asked.help, asked.review, next)
-        }
-        Argument::Explain => {
-            next.explain = true;
-            once(n, asked.explain, asked.review, next)
-        }
-        Argument::Review => {
-            next.review = true;
-            let other = asked.help || asked.explain || asked.pages.is_some();
-            once(n, asked.review, other, next)
-        }
-        Argument::Pages => {
-            next.option = Some(n);
-            once(n, asked.pages.is_some(), asked.review, next)
-        }
-        Argument::File => take_file(asked, n),
-        Argument::Unknown => wrong(n, Mistake::Unknown),
-        Argument::Long => wrong(n, Mistake::Long),
-    }
-}
 
-// No argument is left: an option whose argument did not come is wrong.
-pub fn finish(asked: Asked) -> Result<Asked, Fault>
-    ensures { result ≡ ended asked }
-{
-    match asked.option {
-        Some(place) => wrong(place, Mistake::Without),
-        None => Ok(asked),
+    // The argument of the option before it, which stands at a place.
+    fn take_out(self, place: usize, n: usize, argument: &[u8]) -> Result<Asked, Fault>
+        ensures { result ≡ with_out self place n argument.now }
+    {
+        match argument {
+            _ if Asked::ARGUMENT_BYTES < argument.len() => wrong(n, Mistake::Long),
+            [b'-', ..] => wrong(place, Mistake::Without),
+            _ => Ok(Asked {
+                pages: Some(n),
+                option: None,
+                ..self
+            }),
+        }
+    }
+
+    // One more argument, the n-th.
+    pub fn hear(self, n: usize, argument: &[u8]) -> Result<Asked, Fault>
+        ensures { result ≡ heard self n argument.now }
+    {
+        if let Some(place) = self.option {
+            return self.take_out(place, n, argument);
+        }
+        let mut next = self;
+        match classify(argument) {
+            Argument::Help => {
+                next.help = true;
+                once(n, self.help, self.review, next)
+            }
+            Argument::Explain => {
+                next.explain = true;
+                once(n, self.explain, self.review, next)
+            }
+            Argument::Review => {
+                next.review = true;
+                let other = self.help || self.explain || self.pages.is_some();
+                once(n, self.review, other, next)
+            }
+            Argument::Pages => {
+                next.option = Some(n);
+                once(n, self.pages.is_some(), self.review, next)
+            }
+            Argument::File => self.take_file(n),
+            Argument::Unknown => wrong(n, Mistake::Unknown),
+            Argument::Long => wrong(n, Mistake::Long),
+        }
+    }
+
+    // No argument is left: an option whose argument did not come is wrong.
+    pub fn finish(self) -> Result<Asked, Fault>
+        ensures { result ≡ ended self }
+    {
+        match self.option {
+            Some(place) => wrong(place, Mistake::Without),
+            None => Ok(self),
+        }
     }
 }

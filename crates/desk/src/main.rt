@@ -55,25 +55,22 @@ fn explain(rt: &(impl Print + Errors), question: u8) -> Result<(), Said> {
 
 // ---- result lines
 
-// Result lines as numbers, four and an integer each, and the bytes that they print as: 128 for each, and no line is longer.
+// Result lines of the contract in a table, as numbers, four and an integer each, and the bytes that they print as: 128 for each, and no line is
+// longer.
 // Kept: (a) the lists that `machine::play` and `results::write_batch` are lent; what the desk holds is fixed, however long a session is.
 #[derive(Drop)]
-struct Reports {
+struct Reports<'a> {
+    table: &'a [u64],
     numbers: [u64; LINES * Report::WORDS],
     integers: [i64; LINES],
     out: [u8; LINES * Report::ROOM],
 }
 
-impl Reports {
+impl Reports<'_> {
     // Prints some of them.
-    fn print(
-        &mut self,
-        rt: &(impl Print + Errors),
-        table: &[u64],
-        lines: Range<usize>,
-    ) -> Result<(), Said> {
+    fn print(&mut self, rt: &(impl Print + Errors), lines: Range<usize>) -> Result<(), Said> {
         let batch = results::write_batch(
-            table,
+            self.table,
             &self.numbers,
             &self.integers,
             lines.start,
@@ -86,14 +83,9 @@ impl Reports {
     }
 
     // Prints the first ones one by one, and after each that has a question its words.
-    fn explain(
-        &mut self,
-        rt: &(impl Print + Errors),
-        table: &[u64],
-        many: usize,
-    ) -> Result<(), Said> {
+    fn explain(&mut self, rt: &(impl Print + Errors), many: usize) -> Result<(), Said> {
         for i in 0..many {
-            self.print(rt, table, i..i + 1)?;
+            self.print(rt, i..i + 1)?;
             if let Some(question) = desk_lines::question_of(&self.numbers, i) {
                 explain(rt, question)?;
             }
@@ -104,11 +96,12 @@ impl Reports {
 
 // ---- settlement pages
 
-// The settlement pages of a session: their file and its name, what is gathered for the next page, the page's bytes, and whether a page is
-// written.
-// Kept: (a) the lists that `pages::gather` and `pages::page` are lent, as many entries as one page has. (d) `begun` is no more than that truth.
+// The settlement pages of a session on the contract in a table: their file and its name, what is gathered for the next page, the page's bytes,
+// and whether a page is written.
+// Kept: (a) the lists that `Gathered::gather` and `pages::page` are lent, as many entries as one page has. (d) `begun` is no more than that truth.
 #[derive(Drop)]
 struct Settlement<'a, W> {
+    table: &'a [u64],
     name: &'a [u8],
     file: W,
     gathered: Gathered,
@@ -120,11 +113,11 @@ struct Settlement<'a, W> {
 
 impl<W: Write> Settlement<'_, W> {
     // Writes the page of what is gathered; then nothing is.
-    fn write_page(&mut self, rt: &impl Errors, table: &[u64]) -> Result<(), Said> {
+    fn write_page(&mut self, rt: &impl Errors) -> Result<(), Said> {
         let count = self.gathered.count.min(Sheet::LINES);
         let numbers = &self.entries[..Sheet::NUMBERS * count];
         let values = &self.values[..count];
-        let made = pages::page(table, numbers, values, 0, &mut self.page);
+        let made = pages::page(self.table, numbers, values, 0, &mut self.page);
         if made.is_err() || self.file.write_all(&self.page).is_err() {
             return Err(fail(rt, self.name, b"written"));
         }
@@ -134,16 +127,9 @@ impl<W: Write> Settlement<'_, W> {
     }
 
     // The first result lines, one by one; a page that one fills is written.
-    fn settle(
-        &mut self,
-        rt: &impl Errors,
-        table: &[u64],
-        reports: &Reports,
-        many: usize,
-    ) -> Result<(), Said> {
+    fn settle(&mut self, rt: &impl Errors, reports: &Reports, many: usize) -> Result<(), Said> {
         for i in 0..many {
-            self.gathered = pages::gather(
-                self.gathered,
+            self.gathered = self.gathered.gather(
                 &reports.numbers,
                 &reports.integers,
                 i,
@@ -151,16 +137,16 @@ impl<W: Write> Settlement<'_, W> {
                 &mut self.values,
             );
             if Sheet::LINES <= self.gathered.count {
-                self.write_page(rt, table)?;
+                self.write_page(rt)?;
             }
         }
         Ok(())
     }
 
     // The last page, if it has a payout or is the only one.
-    fn close(&mut self, rt: &impl Errors, table: &[u64]) -> Result<(), Said> {
+    fn close(&mut self, rt: &impl Errors) -> Result<(), Said> {
         if 0 < self.gathered.count || !self.begun {
-            self.write_page(rt, table)?;
+            self.write_page(rt)?;
         }
         let flushed = self.file.flush();
         flushed.map_err(|_| fail(rt, self.name, b"written"))
@@ -186,12 +172,14 @@ fn hold_streams<R: Files>(
 // Makes or empties OUT; what is said where it can't be written does not go into it.
 fn open_pages<'a, R: Files + Errors>(
     rt: &R,
+    table: &'a [u64],
     name: &'a [u8],
 ) -> Result<Settlement<'a, R::File>, Said> {
     let held = hold_streams(rt);
     let made = streams::create(rt, name);
     drop(held);
     Ok(Settlement {
+        table,
         name,
         file: made.map_err(|_| fail(rt, name, b"written"))?,
         gathered: Gathered::nothing(),
@@ -239,7 +227,6 @@ impl Session {
 // are asked for.
 fn take_session<W: Write>(
     rt: &(impl Input + Print + Errors),
-    table: &[u64],
     explained: bool,
     pages: &mut Option<Settlement<W>>,
     session: &mut Session,
@@ -249,26 +236,28 @@ fn take_session<W: Write>(
     // Until there is no line more: standard input may have no end, and a loop has to be shown to end.
     for _ in 0..u64::MAX {
         let input = tokens::between(&session.bytes, session.at, session.size);
-        let p = machine::play(
-            table,
+        let Ok(p) = machine::play(
+            reports.table,
             state,
             input,
             &mut reports.numbers,
             &mut reports.integers,
-        );
+        ) else {
+            break;
+        };
         state = p.state;
         session.at = desk_lines::past(session.at, p.used, session.size);
         if explained {
-            reports.explain(rt, table, p.many)?;
+            reports.explain(rt, p.many)?;
         } else {
-            reports.print(rt, table, 0..p.many)?;
+            reports.print(rt, 0..p.many)?;
         }
         if let Some(pages) = pages {
-            pages.settle(rt, table, reports, p.many)?;
+            pages.settle(rt, reports, p.many)?;
         }
         if p.many == 0 {
             let more = session.read_more(rt)?;
-            if !more || p.question.is_some() {
+            if !more {
                 break;
             }
         }
@@ -292,16 +281,17 @@ where
         size: 0,
     };
     let mut reports = Reports {
+        table,
         numbers: [0; LINES * Report::WORDS],
         integers: [0; LINES],
         out: [0; LINES * Report::ROOM],
     };
-    let state = take_session(rt, table, explained, &mut pages, &mut session, &mut reports)?;
+    let state = take_session(rt, explained, &mut pages, &mut session, &mut reports)?;
     if let Some(pages) = &mut pages {
-        pages.close(rt, table)?;
+        pages.close(rt)?;
     }
     let assets = desk_lines::held(table, state, &mut reports.numbers);
-    reports.print(rt, table, 0..assets)
+    reports.print(rt, 0..assets)
 }
 
 // A session, with its pages where they are asked for.
@@ -314,8 +304,8 @@ fn run<R: Env + Files + Input + Print + Errors>(
         return play(rt, table, asked.explain, None::<Settlement<R::File>>);
     };
     let mut name = [0u8; Asked::ARGUMENT_BYTES + 1];
-    let out = get_argument(rt, place, &mut name);
-    let pages = open_pages(rt, out)?;
+    let name = streams::argument(rt, place, &mut name).unwrap_or(&[]);
+    let pages = open_pages(rt, table, name)?;
     play(rt, table, asked.explain, Some(pages))
 }
 
@@ -386,23 +376,17 @@ fn start(
 
 // ---- arguments
 
-// Argument i; all of the buffer where it has no room for it.
-fn get_argument<'a>(rt: &impl Env, i: usize, buffer: &'a mut [u8]) -> &'a [u8] {
-    let n = streams::argument(rt, i, buffer).unwrap_or(0);
-    &buffer[..n]
-}
-
 // What the arguments ask for. There is room for one byte more than an argument may have, so that a longer one is told.
 fn ask(rt: &impl Env) -> Result<Asked, Fault> {
-    let mut argument = [0u8; Asked::ARGUMENT_BYTES + 1];
+    let mut buffer = [0u8; Asked::ARGUMENT_BYTES + 1];
     let mut asked = Asked::nothing();
     for i in 1..usize::MAX {
-        let Some(n) = streams::argument(rt, i, &mut argument) else {
+        let Some(argument) = streams::argument(rt, i, &mut buffer) else {
             break;
         };
-        asked = arguments::hear(asked, i, &argument[..n])?;
+        asked = asked.hear(i, argument)?;
     }
-    arguments::finish(asked)
+    asked.finish()
 }
 
 fn help(rt: &(impl Print + Errors)) -> Result<(), Said> {
@@ -427,7 +411,8 @@ fn answer(rt: &(impl Env + Files + Input + Print + Errors), asked: Asked) -> Res
         return start(rt, asked, b"terms.stipula");
     };
     let mut name = [0u8; Asked::ARGUMENT_BYTES + 1];
-    start(rt, asked, get_argument(rt, place, &mut name))
+    let name = streams::argument(rt, place, &mut name).unwrap_or(&[]);
+    start(rt, asked, name)
 }
 
 fn main(rt: HostRuntime) {

@@ -94,14 +94,14 @@ pub fn load<R: Files>(rt: &R, path: &[u8], bytes: &mut [u8]) -> io::Result<usize
     fill(&mut file, bytes)
 }
 
-/// Puts argument `i` at the buffer's start and answers its length: all of the buffer where it has no room for it, `None` past the last.
+/// Puts argument `i` at the buffer's start and answers it there: all of the buffer where it has no room for it, `None` past the last.
 /// Which arguments there are, and which bytes they have, std's contract of `Env::arg` does not say.
-pub fn argument<R: Env>(rt: &R, i: usize, bytes: &mut [u8]) -> Option<usize>
-    ensures { IfSome result (λ n. n ≤ length bytes.new) }
+pub fn argument<'a, R: Env>(rt: &R, i: usize, bytes: &'a mut [u8]) -> Option<&'a [u8]>
+    ensures { IfSome result (λ part. length part.now ≤ length bytes.old) }
 {
     match rt.arg(i, bytes) {
-        Ok(n) => Some(n),
-        Err(FillError::TooLong) => Some(bytes.len()),
+        Ok(n) => Some(&bytes[..n]),
+        Err(FillError::TooLong) => Some(bytes),
         Err(FillError::NotPresent) => None,
     }
 }

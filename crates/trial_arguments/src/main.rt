@@ -18,9 +18,9 @@ use std::{fs, io};
 fn ask(lines: &str) -> Result<Asked, Fault> {
     let mut asked = Asked::nothing();
     for (argument, n) in lines.lines().zip(1..usize::MAX) {
-        asked = arguments::hear(asked, n, argument.as_bytes())?;
+        asked = asked.hear(n, argument.as_bytes())?;
     }
-    arguments::finish(asked)
+    asked.finish()
 }
 
 // The argument with a number, the first with 1.
@@ -45,7 +45,8 @@ fn refuse(rt: &impl Print, name: &str, text: &[u8], refusal: Refusal) -> io::Res
 }
 
 // What the terms say before any session.
-// Kept: (a) the reason at `refuse`.
+// Kept: (a) the reason at `refuse`; (d) a line of `reviews` would be a definition, a public function with its two clauses, their proof and two
+// edits, in place of the words and the line end that are printed here and in the desk.
 fn review(rt: &impl Print, table: &[u64]) -> io::Result<()> {
     for x in 0..Contract::FIELDS {
         if reviews::never_agreed(table, x) {

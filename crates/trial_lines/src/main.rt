@@ -34,23 +34,16 @@ fn print_integers(rt: &impl Print, integers: &[i64]) -> io::Result<()> {
     Ok(())
 }
 
-// So many fields from a place on.
-fn print_fields(rt: &impl Print, a: &Agreement, from: usize, many: usize) -> io::Result<()> {
-    let (spans, _) = a.spans.as_chunks::<2>();
-    for ([start, end], value) in spans.iter().zip(&a.values).skip(from).take(many) {
-        print!(rt; " , {start} {end} {value}")?;
-    }
-    Ok(())
-}
-
 fn print_agreement(rt: &impl Print, a: &Agreement) -> io::Result<()> {
     print!(rt; "agreement {} {}", a.parts, a.fields)?;
-    let (heads, _) = a.heads.as_chunks::<4>();
-    let mut from = 0usize;
-    for [start, end, verb, many] in heads.iter().take(a.parts) {
+    let (heads, _) = a.heads().as_chunks::<4>();
+    let (spans, _) = a.spans().as_chunks::<2>();
+    let mut fields = spans.iter().zip(a.values());
+    for [start, end, verb, many] in heads {
         print!(rt; " || {start} {end} {verb}")?;
-        print_fields(rt, a, from, *many)?;
-        from = from.saturating_add(*many);
+        fields.by_ref().take(*many).try_for_each(|([start, end], value)| print!(rt;
+            " , {start} {end} {value}"
+        ))?;
     }
     println!(rt)
 }
@@ -63,7 +56,10 @@ fn show(rt: &impl Print, text: &[u8]) -> io::Result<()> {
         Ok(Request::Tick) => println!(rt; "tick"),
         Ok(Request::Jump(clock)) => println!(rt; "jump {clock}"),
         Ok(Request::Call(call)) => print_call(rt, call, &numbers),
-        Ok(Request::Agreement) => print_agreement(rt, &lines::agreement_of(text)),
+        Ok(Request::Agreement) => match lines::agreement_of(text) {
+            Some(a) => print_agreement(rt, &a),
+            None => Ok(()),
+        },
     }
 }
 

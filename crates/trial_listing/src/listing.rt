@@ -1,7 +1,5 @@
 // A contract as a text, from its table.
-ghost use Rattle.std.specs.Prelude.{◌≤◌};
-
-use crate::pieces::{Listing, Put, Section};
+use crate::pieces::{Listing, Parameters, Put, Section};
 use contract::{Function, Verb};
 
 // The arrow that stands for a verb.
@@ -54,7 +52,7 @@ impl Listing<'_> {
         let clause = contract::clause_at(self.table, i);
         self.put_line(2)?;
         self.put_name(Section::Parties, clause.party)?;
-        self.put_between(arrow_of(Verb::from(clause.verb)))?;
+        self.put_between(arrow_of(clause.verb()))?;
         self.put_fields(i, clause.fields)
     }
 
@@ -76,93 +74,114 @@ impl Listing<'_> {
         }
         self.put_end(false, 1, head.initial)
     }
+}
 
-    // ---- functions
+// ---- functions
 
-    // The n parameters of function f that stand from `from` on, with commas between them.
-    fn put_parameters(&mut self, f: usize, from: usize, n: usize) -> Put
-        requires { from ≤ 8 }
-    {
+// Function f of the contract, by its row, as it is put into the listing.
+#[derive(Drop)]
+pub struct Listed<'l, 'a> {
+    pub out: &'l mut Listing<'a>,
+    pub f: usize,
+    pub function: Function,
+}
+
+impl Listed<'_, '_> {
+    // The first n parameters of one kind, with commas between them.
+    fn put_parameters(&mut self, parameters: Parameters, n: usize) -> Put {
         for i in 0..n {
-            self.put_comma(i)?;
-            self.put_parameter(f, from, i)?;
+            self.out.put_comma(i)?;
+            self.out.put_parameter(self.f, parameters, i)?;
         }
         Ok(())
     }
 
     // Its value parameters. `(` straight after its name would open them, so that a precondition without parameters comes after ().
-    fn put_values(&mut self, f: usize) -> Put {
-        let function = contract::function_at(self.table, f);
+    fn put_values(&mut self) -> Put {
+        let function = self.function;
         let n = function.values;
         if n == 0 && (function.parameters != 0 || function.precondition == 0) {
             return Ok(());
         }
-        self.put_apart(words::OPEN_PAREN)?;
-        self.put_parameters(f, 0, n)?;
-        self.put_word(words::CLOSE_PAREN)
+        self.out.put_apart(words::OPEN_PAREN)?;
+        self.put_parameters(Parameters::Values, n)?;
+        self.out.put_word(words::CLOSE_PAREN)
     }
 
     // Its asset parameters.
-    fn put_assets(&mut self, f: usize) -> Put {
-        let function = contract::function_at(self.table, f);
-        let n = function.parameters;
+    fn put_assets(&mut self) -> Put {
+        let n = self.function.parameters;
         if n == 0 {
             return Ok(());
         }
-        self.put_apart(words::OPEN_BRACKET)?;
-        self.put_parameters(f, Function::VALUES, n)?;
-        self.put_word(words::CLOSE_BRACKET)
+        self.out.put_apart(words::OPEN_BRACKET)?;
+        self.put_parameters(Parameters::Assets, n)?;
+        self.out.put_word(words::CLOSE_BRACKET)
     }
 
-    fn put_precondition(&mut self, f: usize) -> Put {
-        let function = contract::function_at(self.table, f);
-        if function.precondition == 0 {
+    // The node after its precondition, where its statements start.
+    fn body(&self) -> usize {
+        let function = self.function;
+        function.first.saturating_add(function.precondition)
+    }
+
+    fn put_precondition(&mut self) -> Put {
+        if self.function.precondition == 0 {
             return Ok(());
         }
-        self.put_space()?;
-        self.put_test(f, function.first.saturating_add(function.precondition))
+        self.out.put_space()?;
+        self.put_test(self.body())
     }
 
     // @Q A : f
-    fn put_caller(&mut self, f: usize) -> Put {
-        let function = contract::function_at(self.table, f);
-        self.put_line(1)?;
-        self.put_state(function.state)?;
-        self.put_space()?;
-        self.put_name(Section::Parties, function.party)?;
-        self.put_between(words::COLON)?;
-        self.put_function_name(f)
+    fn put_caller(&mut self) -> Put {
+        self.out.put_line(1)?;
+        self.out.put_state(self.function.state)?;
+        self.out.put_space()?;
+        self.out.put_name(Section::Parties, self.function.party)?;
+        self.out.put_between(words::COLON)?;
+        self.out.put_function_name(self.f)
     }
 
     // @Q A : f (x) [y] (B) {
-    fn put_head(&mut self, f: usize) -> Put {
-        self.put_caller(f)?;
-        self.put_values(f)?;
-        self.put_assets(f)?;
-        self.put_precondition(f)?;
-        self.put_apart(words::OPEN_BRACE)
+    fn put_head(&mut self) -> Put {
+        self.put_caller()?;
+        self.put_values()?;
+        self.put_assets()?;
+        self.put_precondition()?;
+        self.out.put_apart(words::OPEN_BRACE)
     }
 
-    // The statements of function f, then its events.
-    fn put_body(&mut self, f: usize) -> Put {
-        let function = contract::function_at(self.table, f);
-        let first = function.first.saturating_add(function.precondition);
-        self.put_block(f, first, first.saturating_add(function.body), 2)?;
-        for i in 0..function.events {
-            self.put_event(f, function.event.saturating_add(i))?;
+    // Its statements, then its events.
+    fn put_body(&mut self) -> Put {
+        let first = self.body();
+        self.put_block(first, first.saturating_add(self.function.body), 2)?;
+        for i in 0..self.function.events {
+            self.put_event(self.function.event.saturating_add(i))?;
         }
         Ok(())
     }
 
+    fn put(&mut self) -> Put {
+        self.put_head()?;
+        self.put_body()?;
+        let empty = self.function.body == 0 && self.function.events == 0;
+        self.out.put_end(empty, 1, self.function.last)
+    }
+}
+
+// ---- the contract
+
+impl Listing<'_> {
     fn put_function(&mut self, f: usize) -> Put {
         let function = contract::function_at(self.table, f);
-        self.put_head(f)?;
-        self.put_body(f)?;
-        let empty = function.body == 0 && function.events == 0;
-        self.put_end(empty, 1, function.last)
+        let mut listed = Listed {
+            out: self,
+            f,
+            function,
+        };
+        listed.put()
     }
-
-    // ---- the contract
 
     // Its name, its assets and its fields.
     fn put_start(&mut self) -> Put {

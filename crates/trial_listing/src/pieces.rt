@@ -1,10 +1,11 @@
 // A listing as it is made: the table and the text so far. Here: bytes, fixed words and names, put after those that the text has.
 ghost use Rattle.std.specs.Prelude.{◌≤◌};
+ghost use Rattle.contract.specs.Table.{states_start};
+ghost use Rattle.contract.specs.Limits.{max_values};
 
 use contract::{Contract, Function};
-use printing::Writer;
-use std::alloc::AllocError;
-use tokens::Digits;
+use std::io;
+use std::io::Write;
 
 // The names that a table has in rows of one size.
 #[derive(Clone, Copy)]
@@ -18,13 +19,31 @@ pub enum Section {
 // Where a section stands.
 // Kept: (d) a place that a section has, and no number that it is: `usize::from(section)` would not say so.
 fn start_of(section: Section) -> usize
-    ensures { result ≤ 1891 }
+    ensures { result ≤ states_start }
 {
     match section {
         Section::Parties => contract::PARTIES,
         Section::Assets => contract::ASSETS,
         Section::Fields => contract::FIELDS,
         Section::States => contract::STATES,
+    }
+}
+
+// The parameters that a function has.
+#[derive(Clone, Copy)]
+pub enum Parameters {
+    Values,
+    Assets,
+}
+
+// Where they stand among its names.
+// Kept: (d) the reason at `start_of`.
+fn place_of(parameters: Parameters) -> usize
+    ensures { result ≤ max_values }
+{
+    match parameters {
+        Parameters::Values => 0,
+        Parameters::Assets => Function::VALUES,
     }
 }
 
@@ -35,11 +54,11 @@ pub struct Listing<'a> {
 }
 
 // Nothing, or no memory.
-pub type Put = Result<(), AllocError>;
+pub type Put = io::Result<()>;
 
 impl Listing<'_> {
     fn put_all(&mut self, bytes: &[u8]) -> Put {
-        self.text.extend_from_slice(bytes)
+        self.text.write_all(bytes)
     }
 
     pub(crate) fn put_word(&mut self, which: u8) -> Put {
@@ -80,29 +99,19 @@ impl Listing<'_> {
         Ok(())
     }
 
-    // Kept: (d) by `write!` into the text its io::Error would be turned into an AllocError again.
     pub(crate) fn put_number(&mut self, n: u64) -> Put {
-        let mut digits = [0u8; Digits::MOST];
-        let mut out = Writer::new(&mut digits);
-        out.put_number(n);
-        let many = out.at;
-        self.put_all(tokens::between(&digits, 0, many))
+        write!(self.text, "{n}")
     }
 
     // ---- names
 
-    // The name or the string whose length stands at word o; nothing where it is longer than a string may be.
-    pub(crate) fn put_row(&mut self, o: usize) -> Put
-        requires { o ≤ 24659 }
-    {
-        let n = contract::word(self.table, o) as usize;
-        if Contract::STRING < n {
-            return Ok(());
-        }
-        let start = o + 1;
-        let letters = self.table.get(start..start + n).unwrap_or(&[]);
-        self.text
-            .extend(letters.iter().map(|letter| (*letter % 256) as u8))
+    // The name or the string whose length stands at word o.
+    pub(crate) fn put_row(&mut self, o: usize) -> Put {
+        let letters = contract::bytes_at(self.table, o);
+        Ok(
+            self.text
+                .extend(letters.iter().map(|letter| (*letter % 256) as u8))?,
+        )
     }
 
     // Name i of a section.
@@ -132,18 +141,18 @@ impl Listing<'_> {
         self.put_row(end - contract::NAME_WORDS)
     }
 
-    // Parameter i of function f: of the value parameters, which stand from 0 on, or of the asset parameters, from Function::VALUES on.
-    pub(crate) fn put_parameter(&mut self, f: usize, from: usize, i: usize) -> Put
-        requires { from ≤ 8 }
-    {
+    // Parameter i of function f, of the values or of the assets.
+    pub(crate) fn put_parameter(&mut self, f: usize, parameters: Parameters, i: usize) -> Put {
         if Contract::FUNCTIONS <= f || Function::VALUES <= i {
             return Ok(());
         }
-        let row = f * Function::NAMES + from + i;
+        let row = f * Function::NAMES + place_of(parameters) + i;
         let n = contract::packed_length(self.table, row) as usize;
         let table = self.table;
-        self.text
-            .extend((0..n).map(|j| contract::packed_byte(table, row, j) as u8))
+        Ok(
+            self.text
+                .extend((0..n).map(|j| contract::packed_byte(table, row, j)))?,
+        )
     }
 
     // @Q

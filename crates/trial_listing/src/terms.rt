@@ -1,45 +1,9 @@
 // Expressions, conditions and statements, which stand in a table with their parts before them.
 ghost use Rattle.std.specs.Prelude.{◌≤◌, IfSome};
 
-use crate::pieces::{Listing, Put, Section};
-use contract::{Contract, Function, Node};
-
-// ---- nodes
-
-fn kind_at(table: &[u64], k: usize) -> u64 {
-    contract::node_at(table, k).kind
-}
-
-// Where the nodes start of what ends before node `end`.
-fn start_of(table: &[u64], end: usize) -> usize
-    ensures { result ≤ end }
-{
-    let node = contract::node_at(table, end.saturating_sub(1));
-    end.saturating_sub(node.size)
-}
-
-// Where the left part of node k, which has parts, ends: ~ has none.
-fn left_of(table: &[u64], k: usize) -> Option<usize>
-    ensures { IfSome result (λ end. end ≤ k) }
-{
-    match kind_at(table, k) {
-        Node::NOT => None,
-        _ => Some(start_of(table, k)),
-    }
-}
-
-// Where the first part of the statement or event at node k ends: before its block or its handler, before its source and its target, or before
-// its target.
-fn first_of(table: &[u64], k: usize) -> usize
-    ensures { result ≤ k }
-{
-    let node = contract::node_at(table, k);
-    match node.kind {
-        Node::CONDITIONAL | Node::EVENT => k.saturating_sub(node.argument as usize),
-        Node::ASSET_MOVE => k.saturating_sub(2),
-        _ => k.saturating_sub(1),
-    }
-}
+use crate::listing::Listed;
+use crate::pieces::{Listing, Parameters, Put, Section};
+use contract::{Contract, Node};
 
 // ---- expressions and conditions
 
@@ -103,23 +67,48 @@ const HANDLER: usize = 3;
 const DEEPEST: usize = HANDLER + Contract::LEVELS;
 
 impl Listing<'_> {
-    // Node k, which has no parts: a name, a constant, a string or a word.
-    fn put_leaf(&mut self, f: usize, k: usize) -> Put {
-        let node = contract::node_at(self.table, k);
-        let i = node.argument as usize;
-        match node.kind {
-            Node::CONSTANT => self.put_number(node.argument),
-            Node::STRING => self.put_string(i),
-            Node::VALUE => self.put_parameter(f, 0, i),
-            Node::PARAMETER => self.put_parameter(f, Function::VALUES, i),
-            Node::NOW | Node::TRUE | Node::FALSE => self.put_word(word_of(node.kind)),
-            _ => self.put_name(section_of(node.kind), i),
+    // ---- nodes
+
+    fn kind_at(&self, k: usize) -> u64 {
+        contract::node_at(self.table, k).kind
+    }
+
+    // Where the nodes start of what ends before node `end`.
+    fn start_of(&self, end: usize) -> usize
+        ensures { result ≤ end }
+    {
+        let node = contract::node_at(self.table, end.saturating_sub(1));
+        end.saturating_sub(node.size)
+    }
+
+    // Where the left part of node k, which has parts, ends: ~ has none.
+    fn left_of(&self, k: usize) -> Option<usize>
+        ensures { IfSome result (λ end. end ≤ k) }
+    {
+        match self.kind_at(k) {
+            Node::NOT => None,
+            _ => Some(self.start_of(k)),
         }
     }
 
+    // Where the first part of the statement or event at node k ends: before its block or its handler, before its source and its target, or
+    // before its target.
+    fn first_of(&self, k: usize) -> usize
+        ensures { result ≤ k }
+    {
+        let node = contract::node_at(self.table, k);
+        match node.kind {
+            Node::CONDITIONAL | Node::EVENT => k.saturating_sub(node.argument as usize),
+            Node::ASSET_MOVE => k.saturating_sub(2),
+            _ => k.saturating_sub(1),
+        }
+    }
+
+    // ---- operators, marks and braces
+
     // The operator at node k.
     fn put_operator(&mut self, k: usize) -> Put {
-        let kind = kind_at(self.table, k);
+        let kind = self.kind_at(k);
         if kind == Node::NOT {
             return self.put_word(words::NOT);
         }
@@ -134,45 +123,6 @@ impl Listing<'_> {
         Ok(())
     }
 
-    // The expression or condition that ends before node `end`, in parentheses if its rank is below the least.
-    fn put_term(&mut self, f: usize, end: usize, least: u8) -> Put {
-        let Some(k) = end.checked_sub(1) else {
-            return Ok(());
-        };
-        let rank = rank_of(kind_at(self.table, k));
-        if rank == LEAF {
-            return self.put_leaf(f, k);
-        }
-        self.put_mark(rank < least, words::OPEN_PAREN)?;
-        if let Some(left) = left_of(self.table, k) {
-            self.put_term(f, left, rank)?;
-        }
-        self.put_operator(k)?;
-        self.put_term(f, k, rank | 1)?;
-        self.put_mark(rank < least, words::CLOSE_PAREN)
-    }
-
-    // (B), B ending before node `end`.
-    pub(crate) fn put_test(&mut self, f: usize, end: usize) -> Put {
-        self.put_word(words::OPEN_PAREN)?;
-        self.put_term(f, end, 0)?;
-        self.put_word(words::CLOSE_PAREN)
-    }
-
-    // ---- statements
-
-    // The statement at node k, no conditional, whose first part ends before node `end`; the nodes from there up to k have no parts: a target, or
-    // a source and a target.
-    fn put_move(&mut self, f: usize, end: usize, k: usize) -> Put {
-        self.put_term(f, end, 0)?;
-        self.put_operator(k)?;
-        for (i, leaf) in (end..k).enumerate() {
-            self.put_comma(i)?;
-            self.put_leaf(f, leaf)?;
-        }
-        Ok(())
-    }
-
     // The brace that ends a block: on the same line if the block is empty.
     pub(crate) fn put_close(&mut self, empty: bool, depth: usize) -> Put {
         if empty {
@@ -182,49 +132,105 @@ impl Listing<'_> {
         self.put_word(words::CLOSE_BRACE)
     }
 
-    // The statements at the nodes from `first` up to, not including, `end`, each on a line. No text has one below DEEPEST.
-    pub(crate) fn put_block(&mut self, f: usize, first: usize, end: usize, depth: usize) -> Put {
-        if end <= first {
-            return Ok(());
-        }
-        let k = end - 1;
-        let part = first_of(self.table, k);
-        self.put_block(f, first, start_of(self.table, part), depth)?;
-        self.put_line(depth)?;
-        if kind_at(self.table, k) == Node::CONDITIONAL {
-            self.put_test(f, part)?;
-            self.put_apart(words::OPEN_BRACE)?;
-            self.put_block(f, part, k, depth % DEEPEST + 1)?;
-            return self.put_close(part == k, depth);
-        }
-        self.put_move(f, part, k)
-    }
-
-    // ---- events
-
     // } => @Q
     pub(crate) fn put_end(&mut self, empty: bool, depth: usize, state: usize) -> Put {
         self.put_close(empty, depth)?;
         self.put_between(words::STATE_ARROW)?;
         self.put_state(state)
     }
+}
 
-    // E >> @Q {, E ending before node `end`.
-    fn put_guard(&mut self, f: usize, end: usize, state: usize) -> Put {
-        self.put_line(2)?;
-        self.put_term(f, end, 0)?;
-        self.put_between(words::EVENT_MARK)?;
-        self.put_state(state)?;
-        self.put_apart(words::OPEN_BRACE)
+impl Listed<'_, '_> {
+    // Node k, which has no parts: a name, a constant, a string or a word.
+    fn put_leaf(&mut self, k: usize) -> Put {
+        let node = contract::node_at(self.out.table, k);
+        let i = node.argument as usize;
+        match node.kind {
+            Node::CONSTANT => self.out.put_number(node.argument),
+            Node::STRING => self.out.put_string(i),
+            Node::VALUE => self.out.put_parameter(self.f, Parameters::Values, i),
+            Node::PARAMETER => self.out.put_parameter(self.f, Parameters::Assets, i),
+            Node::NOW | Node::TRUE | Node::FALSE => self.out.put_word(word_of(node.kind)),
+            _ => self.out.put_name(section_of(node.kind), i),
+        }
     }
 
-    // Event i, of function f.
-    pub(crate) fn put_event(&mut self, f: usize, i: usize) -> Put {
-        let event = contract::event_at(self.table, i);
+    // The expression or condition that ends before node `end`, in parentheses if its rank is below the least.
+    fn put_term(&mut self, end: usize, least: u8) -> Put {
+        let Some(k) = end.checked_sub(1) else {
+            return Ok(());
+        };
+        let rank = rank_of(self.out.kind_at(k));
+        if rank == LEAF {
+            return self.put_leaf(k);
+        }
+        self.out.put_mark(rank < least, words::OPEN_PAREN)?;
+        if let Some(left) = self.out.left_of(k) {
+            self.put_term(left, rank)?;
+        }
+        self.out.put_operator(k)?;
+        self.put_term(k, rank | 1)?;
+        self.out.put_mark(rank < least, words::CLOSE_PAREN)
+    }
+
+    // (B), B ending before node `end`.
+    pub(crate) fn put_test(&mut self, end: usize) -> Put {
+        self.out.put_word(words::OPEN_PAREN)?;
+        self.put_term(end, 0)?;
+        self.out.put_word(words::CLOSE_PAREN)
+    }
+
+    // ---- statements
+
+    // The statement at node k, no conditional, whose first part ends before node `end`; the nodes from there up to k have no parts: a target, or
+    // a source and a target.
+    fn put_move(&mut self, end: usize, k: usize) -> Put {
+        self.put_term(end, 0)?;
+        self.out.put_operator(k)?;
+        for (i, leaf) in (end..k).enumerate() {
+            self.out.put_comma(i)?;
+            self.put_leaf(leaf)?;
+        }
+        Ok(())
+    }
+
+    // The statements at the nodes from `first` up to, not including, `end`, each on a line. No text has one below DEEPEST.
+    pub(crate) fn put_block(&mut self, first: usize, end: usize, depth: usize) -> Put {
+        if end <= first {
+            return Ok(());
+        }
+        let k = end - 1;
+        let part = self.out.first_of(k);
+        let before = self.out.start_of(part);
+        self.put_block(first, before, depth)?;
+        self.out.put_line(depth)?;
+        if self.out.kind_at(k) == Node::CONDITIONAL {
+            self.put_test(part)?;
+            self.out.put_apart(words::OPEN_BRACE)?;
+            self.put_block(part, k, depth % DEEPEST + 1)?;
+            return self.out.put_close(part == k, depth);
+        }
+        self.put_move(part, k)
+    }
+
+    // ---- events
+
+    // E >> @Q {, E ending before node `end`.
+    fn put_guard(&mut self, end: usize, state: usize) -> Put {
+        self.out.put_line(2)?;
+        self.put_term(end, 0)?;
+        self.out.put_between(words::EVENT_MARK)?;
+        self.out.put_state(state)?;
+        self.out.put_apart(words::OPEN_BRACE)
+    }
+
+    // Event i, one of its own.
+    pub(crate) fn put_event(&mut self, i: usize) -> Put {
+        let event = contract::event_at(self.out.table, i);
         let k = event.node;
-        let handler = first_of(self.table, k);
-        self.put_guard(f, handler, event.state)?;
-        self.put_block(f, handler, k, HANDLER)?;
-        self.put_end(handler == k, 2, event.last)
+        let handler = self.out.first_of(k);
+        self.put_guard(handler, event.state)?;
+        self.put_block(handler, k, HANDLER)?;
+        self.out.put_end(handler == k, 2, event.last)
     }
 }

@@ -29,7 +29,7 @@ use state::State;
 use std::alloc::{AllocError, Global};
 use std::{io, iter};
 use trial_states::{Part, Said};
-use trial_text::{number, number_at, store_line};
+use trial_text::{first_word, number, number_at, store_line};
 
 // One word more than a table has.
 const WORDS: usize = Contract::TABLE + 1;
@@ -104,8 +104,8 @@ impl Parts {
                 self.named = Named::Field;
                 self.spans.extend_from_slice(&[name, end])?;
             }
-            (_, Named::Party) => self.parts.push(number(Some(word)))?,
-            (_, Named::Field) => self.values.push(number(Some(word)))?,
+            (_, Named::Party) => self.parts.push(number(word))?,
+            (_, Named::Field) => self.values.push(number(word))?,
         }
         Ok(())
     }
@@ -127,10 +127,7 @@ fn parts_of(alloc: Global, line: &str) -> Result<Parts, AllocError> {
 }
 
 fn integers(alloc: Global, words: &str) -> Result<Vec<i64>, AllocError> {
-    words
-        .split_whitespace()
-        .map(|w| number(Some(w)))
-        .collect(alloc)
+    words.split_whitespace().map(number).collect(alloc)
 }
 
 // ---- printing
@@ -208,8 +205,8 @@ impl Trial {
     // The caller, the function and the values, and the assets behind a slash.
     fn call(&self, alloc: Global, room: usize, words: &str) -> Result<Stepped, AllocError> {
         let (names, assets) = words.split_once('/').unwrap_or((words, ""));
-        let (caller, names) = names.split_once(' ').unwrap_or((names, ""));
-        let (function, values) = names.split_once(' ').unwrap_or((names, ""));
+        let (caller, names) = first_word(names);
+        let (function, values) = first_word(names);
         Ok(machine::call(
             self.table(),
             self.state,
@@ -229,13 +226,13 @@ impl Trial {
         words: &str,
         line: &str,
     ) -> Result<Option<Stepped>, AllocError> {
-        let (room, rest) = words.split_once(' ').unwrap_or((words, ""));
-        let room = number(Some(room));
+        let (room, rest) = first_word(words);
+        let room = number(room);
         Ok(Some(match kind {
             "a" => self.agree(alloc, room, line)?,
             "c" => self.call(alloc, room, rest)?,
             "e" => machine::fire(self.table(), self.state, room),
-            "j" => machine::jump(self.table(), self.state, room, number(Some(rest))),
+            "j" => machine::jump(self.table(), self.state, room, number(rest)),
             "t" => machine::tick(self.table(), self.state, room),
             _ => return Ok(None),
         }))
@@ -266,7 +263,7 @@ impl Trial {
     }
 
     fn take(&mut self, rt: &(impl Print + AllocGlobal), line: &str) -> io::Result<()> {
-        let (kind, words) = line.split_once(' ').unwrap_or((line, ""));
+        let (kind, words) = first_word(line);
         match kind {
             "#" => println!(rt; "{line}")?,
             "p" => self.ask(rt, words)?,

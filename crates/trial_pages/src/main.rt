@@ -21,7 +21,7 @@ use questions::Question;
 use results::Report;
 use std::rt::Files;
 use std::{array, fs, io};
-use trial_text::{number_at, rest_word};
+use trial_text::{first_word, number_at, rest_word};
 
 // The entries that there is room for, and the bytes that there are for a buffer.
 const ENTRIES: usize = 130;
@@ -31,7 +31,7 @@ const ROOM: usize = 5200;
 // What the lines so far set up: the table, the buffer's bytes, the entries and their values, how many numbers and how many values are given,
 // and what is gathered.
 // Kept: (d) the counts are what a case gives, also more than there is, and not how many the arrays hold; (a) entries and values are the two
-// lists that `pages::gather` and `pages::page` are lent.
+// lists that `Gathered::gather` and `pages::page` are lent.
 #[derive(Drop)]
 struct Trial {
     table: Vec<u64>,
@@ -53,7 +53,13 @@ fn repeated(digit: u64, times: u64) -> u64 {
 // Entry i: a payout to party i mod 3 by rule 1 + i mod 2; its clock is the digit i mod 7, i mod 17 + 1 times, its amount the digit i mod 10,
 // i mod 19 + 1 times; the fifth number is i.
 fn make_entry(i: u64) -> [u64; Sheet::NUMBERS] {
-    [3, i % 3, 1 + i % 2, repeated(i % 7, i % 17 + 1), i]
+    [
+        Report::ASSET as u64,
+        i % 3,
+        Report::CALL as u64 + i % 2,
+        repeated(i % 7, i % 17 + 1),
+        i,
+    ]
 }
 
 fn make_value(i: u64) -> i64 {
@@ -118,8 +124,7 @@ impl Trial {
     fn gather(&mut self, rt: &impl Print, words: &str) -> io::Result<()> {
         let report: [u64; Report::WORDS] = array::from_fn(|k| number_at(words, k));
         let integers = [number_at(words, Report::WORDS)];
-        self.gathered = pages::gather(
-            self.gathered,
+        self.gathered = self.gathered.gather(
             &report,
             &integers,
             0,
@@ -167,7 +172,7 @@ impl Trial {
 
     fn take(&mut self, rt: &(impl Files + Print + AllocGlobal), line: &str) -> io::Result<()> {
         println!(rt; "{line}")?;
-        let (kind, words) = line.split_once(' ').unwrap_or((line, ""));
+        let (kind, words) = first_word(line);
         match kind {
             "t" => self.read_terms(rt)?,
             "s" => self.gathered = Gathered::nothing(),

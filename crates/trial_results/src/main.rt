@@ -20,7 +20,7 @@ use contract::Contract;
 use questions::Question;
 use results::{Batch, Report};
 use std::io;
-use trial_text::{number_at, rest_word, store, store_line};
+use trial_text::{first_word, number_at, rest_word, store, store_line};
 
 // The bytes that there are for a buffer, and the reports at once that there are numbers for.
 const ROOM: usize = 640;
@@ -132,7 +132,7 @@ impl Trial {
     }
 
     fn take(&mut self, rt: &impl Print, line: &str) -> io::Result<()> {
-        let (kind, words) = line.split_once(' ').unwrap_or((line, ""));
+        let (kind, words) = first_word(line);
         if kind == "w" {
             store_line(&mut self.table, words);
             return Ok(());

@@ -87,13 +87,15 @@ impl<'a> Session<'a> {
     // session is over.
     fn turn(&mut self, rt: &impl Print, file: &mut impl Read) -> io::Result<bool> {
         let input = tokens::between(&self.bytes, self.at, self.size);
-        let played = machine::play(
+        let Ok(played) = machine::play(
             self.table,
             self.state,
             input,
             &mut self.numbers,
             &mut self.integers,
-        );
+        ) else {
+            return Ok(false);
+        };
         self.print_lines(rt, played.many)?;
         self.state = played.state;
         self.at = desk_lines::past(self.at, played.used, self.size);
@@ -101,7 +103,7 @@ impl<'a> Session<'a> {
             return Ok(true);
         }
         self.read_more(file)?;
-        Ok(self.size != 0 && played.question.is_none())
+        Ok(self.size != 0)
     }
 
     // The session in a file, then what each asset holds.

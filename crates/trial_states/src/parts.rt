@@ -7,17 +7,33 @@ use std::str::FromStr;
 use trial_text::number_at;
 
 /// A part of a state that a case sets, in range or not.
-// Kept: (d) what a variant has stands in the order of a line's words, by which alone it is made, so that names would be said twice.
 #[derive(Clone, Copy)]
 pub enum Part {
-    /// Agreed or not, the state's number, the clock, and how many events are pending.
-    Head(bool, usize, u64, usize),
-    /// A place, and the kind, the integer and the string of the field there.
-    Field(usize, u8, i64, u8),
-    /// A place, and what the asset there holds.
-    Asset(usize, u64),
-    /// A place, and the pending event there.
-    Event(usize, Pending),
+    /// The state's own numbers; `pending` is how many events are.
+    // Kept: (d) `agreed` as `State` has it: question 4 judges it with the state and the pending events.
+    Head {
+        agreed: bool,
+        state: usize,
+        clock: u64,
+        pending: usize,
+    },
+    /// The kind, the integer and the string of the field at a place.
+    Field {
+        at: usize,
+        kind: u8,
+        number: i64,
+        text: u8,
+    },
+    /// What the asset at a place holds.
+    Asset {
+        at: usize,
+        amount: u64,
+    },
+    /// The pending event at a place.
+    Event {
+        at: usize,
+        event: Pending,
+    },
 }
 
 /// A text that names no part.
@@ -28,40 +44,45 @@ pub struct NoPart;
 fn head_of(s: &str) -> Part
     ensures { result ≡ head_of s.now }
 {
-    Part::Head(
-        number_at::<u64>(s, 1) != 0,
-        number_at(s, 2),
-        number_at(s, 3),
-        number_at(s, 4),
-    )
+    Part::Head {
+        agreed: number_at::<u64>(s, 1) != 0,
+        state: number_at(s, 2),
+        clock: number_at(s, 3),
+        pending: number_at(s, 4),
+    }
 }
 
 fn field_of(s: &str) -> Part
     ensures { result ≡ field_of s.now }
 {
-    Part::Field(
-        number_at(s, 1),
-        number_at(s, 2),
-        number_at(s, 3),
-        number_at(s, 4),
-    )
+    Part::Field {
+        at: number_at(s, 1),
+        kind: number_at(s, 2),
+        number: number_at(s, 3),
+        text: number_at(s, 4),
+    }
 }
 
 fn asset_of(s: &str) -> Part
     ensures { result ≡ asset_of s.now }
 {
-    Part::Asset(number_at(s, 1), number_at(s, 2))
+    Part::Asset {
+        at: number_at(s, 1),
+        amount: number_at(s, 2),
+    }
 }
 
 fn event_of(s: &str) -> Part
     ensures { result ≡ event_of s.now }
 {
-    let event = Pending {
-        function: number_at(s, 2),
-        event: number_at(s, 3),
-        time: number_at(s, 4),
-    };
-    Part::Event(number_at(s, 1), event)
+    Part::Event {
+        at: number_at(s, 1),
+        event: Pending {
+            function: number_at(s, 2),
+            event: number_at(s, 3),
+            time: number_at(s, 4),
+        },
+    }
 }
 
 impl FromStr for Part {
@@ -92,19 +113,29 @@ impl Part {
     {
         let mut next = s;
         match self {
-            Part::Head(agreed, state, clock, pending) => {
+            Part::Head {
+                agreed,
+                state,
+                clock,
+                pending,
+            } => {
                 next.agreed = agreed;
                 next.state = state;
                 next.clock = clock;
                 next.pending = pending;
             }
-            Part::Field(at, kind, number, text) => {
+            Part::Field {
+                at,
+                kind,
+                number,
+                text,
+            } => {
                 items::set(&mut next.kinds, at, kind);
                 items::set(&mut next.numbers, at, number);
                 items::set(&mut next.texts, at, text);
             }
-            Part::Asset(at, amount) => items::set(&mut next.assets, at, amount),
-            Part::Event(at, event) => items::set(&mut next.events, at, event),
+            Part::Asset { at, amount } => items::set(&mut next.assets, at, amount),
+            Part::Event { at, event } => items::set(&mut next.events, at, event),
         }
         next
     }

@@ -20,7 +20,7 @@ use statements::Label;
 use std::{array, io};
 use steps::Left;
 use trial_states::{Part, Said};
-use trial_text::{number_at, store_line};
+use trial_text::{first_word, number_at, store_line};
 
 // The entries that there are to lend.
 const ENTRIES: usize = 100;
@@ -124,7 +124,7 @@ impl Trial {
     }
 
     fn take(&mut self, rt: &impl Print, line: &str) -> io::Result<()> {
-        let (kind, rest) = line.split_once(' ').unwrap_or((line, ""));
+        let (kind, rest) = first_word(line);
         match kind {
             "#" => println!(rt; "{line}")?,
             "w" => store_line(&mut self.table, rest),

@@ -1,19 +1,14 @@
 -- What the words of a text stand for. Assumes nothing.
-use Rattle.std.proofs.Common.{◌≡◌, ℕ, ◌+◌, ◌<◌, ◌^◌, Bool, true, false, refl, if◌then◌else◌, List, [], length, Option, None, Some, IsNone, IfSome, MatchOption, Result, Ok, Err, Bor, subst, rules, arith, ℤ, pos, neg_ℤ, nat_lt, w64, zero, suc, lit<}
+use Rattle.std.proofs.Common.{◌≡◌, ℕ, ◌+◌, ◌<◌, ◌^◌, Bool, true, false, refl, if◌then◌else◌, List, [], length, Option, None, Some, MatchOption, Result, Ok, Err, arith, ℤ, pos, neg_ℤ, nat_lt, w64, zero, suc, lit<}
 use mir.Val.{SFits}
 use Rattle.std.specs.Bool.{Decides}
-use Rattle.std.specs.Option.{option_map, unwrap_or}
+use Rattle.std.specs.Option.{unwrap_or}
 use Rattle.std.specs.Result.{OkIff, ResultUnwrapsOrElse}
 use Rattle.std.specs.Str.{all_ascii_digits}
 use Rattle.std.specs.Str.Parse.{IsNumeral, ParsesUnsigned, ParsesSigned, digits_value, without_leading_plus, without_leading_sign, starts_with_minus, signed_digits_value}
 use Rattle.std.proofs.lemmas.Bool.Decides.{Decides-and, Decides-ltb, Decides-like}
 use Rattle.std.proofs.lemmas.Str.Parse.{IsNumeralModel, numerals_by_value, tells_all_ascii_digits}
 use Rattle.trial_text.specs.Numbers.{StandsFor, is_numeral_below, natural, integer}
-
--- what a word that is looked for in a list of words tells
-pub at_word : (N : Type 0) (S : List ℕ → Type 0) (o : Option (Bor (List ℕ))) (q : Option (List ℕ)) → option_map (λ x. x.now) o ≡ q → (IsNone o → N) → IfSome o (λ w. S w.now) → MatchOption q N S
-at_word N S None q e none some = subst (λ p. MatchOption p N S) e (none (search rules))
-at_word N S (Some w) q e none some = subst (λ p. MatchOption p N S) e some
 
 own : IsNumeralModel (λ ds. all_ascii_digits ds ≡ true) (digits_value 10)
 own = numerals_by_value _ tells_all_ascii_digits

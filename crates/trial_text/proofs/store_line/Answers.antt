@@ -8,7 +8,7 @@ use Rattle.trial_text.proofs.store_line.Goals as goal
 pub returns-in-Some : goal.returns-in-Some
 returns-in-Some c =
     let cut = split_once_first 32 c.args.line.now (Some (c.in-Some.place, c.in-Some.words)) c.in-Some.ensures.cases (lit< tt) in
-    let read = c.number.ensures.some in
+    let read = c.number.ensures in
     let from = natural_read 64 c.in-Some.place.now read.0 c.number.result read.1.0 read.2 in
     stored_behind c.args.line.now c.in-Some.place.now c.in-Some.words.now c.args.numbers.now c.number.result cut.0 cut.1 cut.2 from c.store.ensures
 
