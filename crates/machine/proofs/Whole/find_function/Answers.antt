@@ -9,15 +9,6 @@ use Rattle.machine.specs.Private.{naming, in_state}
 use Rattle.machine.proofs.Functions.{found_first}
 use Rattle.machine.proofs.Whole.find_function.Goals as goal
 
-pub find-requires-clause-callable : goal.find-requires-clause-callable
-find-requires-clause-callable c =
-    let w = c.args.self.now.terms.table.now in
-    let count : c.head-count.result.functions ≡ word_at w 6 = ap (λ (h : TableHead). h.functions) c.head-count.ensures in
-    serves_from_Range (λ x q k. search rules)
-    (λ x a b.
-    let below : x < word_at w 6 = omega (arith, b, count) in
-    λ y e l p n h t u v f g k. omega (arith, e, below))
-
 pub returns : goal.returns
 returns c =
     let w = c.args.self.now.terms.table.now in
