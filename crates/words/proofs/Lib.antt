@@ -1,2 +1,3 @@
+pub mod Packing
 pub mod Spellings
 pub mod Comparing

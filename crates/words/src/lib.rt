@@ -4,8 +4,9 @@
 ghost use Rattle.std.specs.Prelude.{◌≡◌, length, drop};
 ghost use Rattle.laws.specs.Bytes.{same_bytes, starts_with};
 ghost use Rattle.words.specs.Words.{spelled};
+ghost use Rattle.words.specs.Packed.{packed, starts, start_in};
 
-// A word's number is its place in SPELLINGS.
+// A word's number is the place of its start in STARTS.
 
 // Reserved words.
 
@@ -105,69 +106,57 @@ pub const REFUSED: u8 = 43;
 
 // What else a printed line holds.
 
+pub const EQUALS: u8 = 44;
+
 pub const QUOTE: u8 = 45;
+
+pub const SPACE: u8 = 46;
 
 pub const LINE_END: u8 = 47;
 
-// Kept: (a) the constants above are numbers and no enum: the public functions below answer for any u8, and a token's kind, which is one of
-// these numbers or a name's, a number's or a string's, is a byte of the cursor that the parsers pass on in a u64.
-// The words by number.
-static SPELLINGS: [&[u8]; 48] = [
-    b"legal_contract",
-    b"assets",
-    b"fields",
-    b"agreement",
-    b"now",
-    b"true",
-    b"false",
-    b"=SET=>",
-    b"=OK=>",
-    b"|->",
-    b"->",
-    b"-o",
-    b"=>",
-    b">>",
-    b"==",
-    b"!=",
-    b"<=",
-    b">=",
-    b"&&",
-    b"||",
-    b"(",
-    b")",
-    b"{",
-    b"}",
-    b"[",
-    b"]",
-    b",",
-    b":",
-    b"@",
-    b"_",
-    b"+",
-    b"-",
-    b"*",
-    b"/",
-    b"<",
-    b">",
-    b"~",
-    b"SET",
-    b"OK",
-    b"TICK",
-    b"AGREE",
-    b"FUNCTION",
-    b"EVENT MATCH",
-    b"refused",
-    b"=",
-    b"\"",
-    b" ",
-    b"\n",
+// Kept: (a) the constants are numbers and no enum: the functions below answer for any u8, and a token's kind is a byte of a cursor: a word's number, or
+// that of names, numbers or strings.
+
+// All words end to end, in the order of their numbers (document 02, F-6).
+static PACKED: [u8; 142] =
+    *b"legal_contractassetsfieldsagreementnowtruefalse=SET=>=OK=>|->->-o=>>>==!=<=>=&&||(){}[],:@_+-*/<>~SETOKTICKAGREEFUNCTIONEVENT MATCHrefused=\" \n";
+
+// Where each starts, in one byte; the last ends where the bytes end.
+static STARTS: [u8; 48] = [
+    0, 14, 20, 26, 35, 38, 42, 47, 53, 58, 61, 63, 65, 67, 69, 71, 73, 75, 77, 79, 81, 82, 83, 84,
+    85, 86, 87, 88, 89, 90, 91, 92, 93, 94, 95, 96, 97, 98, 101, 103, 107, 112, 120, 131, 138, 139,
+    140, 141,
 ];
 
-// The fixed word with a number, none past the last.
+// The bytes of all words.
+#[tactic(auto, unfolding(crate::specs::Packed::packed))]
+pub fn packed() -> &'static [u8]
+    ensures { result.now ≡ packed }
+{
+    &PACKED
+}
+
+// The places at which they start.
+#[tactic(auto, unfolding(crate::specs::Packed::starts))]
+pub fn starts() -> &'static [u8]
+    ensures { result.now ≡ starts }
+{
+    &STARTS
+}
+
+// The start with a number, or the end of the bytes where there is none.
+fn start(k: usize) -> usize
+    ensures { result ≡ start_in packed starts k }
+{
+    starts().get(k).map_or(packed().len(), |at| *at as usize)
+}
+
+// The fixed word with a number, none past the last: what stands from its start to the next, or to the end.
 pub fn spelling(which: u8) -> &'static [u8]
     ensures { result.now ≡ spelled which }
 {
-    items::get_or(&SPELLINGS, which as usize, &[])
+    let k = which as usize;
+    &packed()[start(k)..start(k + 1)]
 }
 
 // How many bytes a fixed word has.
