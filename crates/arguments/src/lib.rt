@@ -98,7 +98,7 @@ pub fn classify(argument: &[u8]) -> Argument
         Argument::Review
     } else if is(b"--pages") {
         Argument::Pages
-    } else if argument.starts_with(b"-") {
+    } else if argument.first() == Some(&b'-') {
         Argument::Unknown
     } else {
         Argument::File

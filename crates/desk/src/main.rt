@@ -34,9 +34,10 @@ fn say(rt: &impl Errors, bytes: &[u8]) {
 
 // Says of a file or a stream that it can't be read or written.
 fn fail(rt: &impl Errors, name: &[u8], done: &[u8]) -> Said {
-    for words in [b"desk: ", name, b" can't be ", done, b"\n"] {
-        say(rt, words);
+    for part in [b"desk: ", name, b" can't be ", done] {
+        say(rt, part);
     }
+    say(rt, words::spelling(words::LINE_END));
     Said
 }
 
@@ -50,7 +51,7 @@ fn print(rt: &(impl Print + Errors), bytes: &[u8]) -> Result<(), Said> {
 fn explain(rt: &(impl Print + Errors), question: u8) -> Result<(), Said> {
     print(rt, b"  ")?;
     print(rt, question_words::words(question))?;
-    print(rt, b"\n")
+    print(rt, words::spelling(words::LINE_END))
 }
 
 // ---- result lines
@@ -153,7 +154,7 @@ impl<W: Write> Settlement<'_, W> {
     }
 }
 
-// Takes the numbers of standard streams that are closed, so that OUT gets none of them.
+// Takes the numbers of standard streams that are closed, so that OUT gets none of them. `/.` is `/`, which alone would spell a word.
 // Kept: (c) an array of three: that it has room in memory is not proved of files of any type; (a) a Vec of them, since memory could end here.
 fn hold_streams<R: Files>(
     rt: &R,
@@ -163,9 +164,9 @@ fn hold_streams<R: Files>(
     io::Result<R::File>,
 ) {
     (
-        streams::open(rt, b"/"),
-        streams::open(rt, b"/"),
-        streams::open(rt, b"/"),
+        streams::open(rt, b"/."),
+        streams::open(rt, b"/."),
+        streams::open(rt, b"/."),
     )
 }
 
@@ -340,7 +341,7 @@ fn review(rt: &(impl Print + Errors), table: &[u64]) -> Result<(), Said> {
             let n = reviews::field_name(table, x, &mut name);
             print(rt, b"// never agreed: ")?;
             print(rt, tokens::between(&name, 0, n))?;
-            print(rt, b"\n")?;
+            print(rt, words::spelling(words::LINE_END))?;
         }
     }
     Ok(())

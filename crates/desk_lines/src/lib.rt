@@ -44,7 +44,7 @@ pub fn close(bytes: &mut [u8], size: usize) -> usize
     ensures bytes_after { bytes.new ≡ closed bytes.old size }
 {
     if 0 < size && size < bytes.len() {
-        bytes[size] = b'\n';
+        items::store_all(bytes, size, words::spelling(words::LINE_END));
         return size + 1;
     }
     0

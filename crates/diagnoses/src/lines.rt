@@ -16,9 +16,9 @@ pub(crate) fn put_where(out: &mut Writer, file: &[u8], line: usize, column: usiz
     ensures same_buffer { out.new.buffer.ghost_name ≡ out.old.buffer.ghost_name }
 {
     out.put_bytes(file);
-    out.put_byte(b':');
+    out.put_word(words::COLON);
     out.put_number(line as u64);
-    out.put_byte(b':');
+    out.put_word(words::COLON);
     out.put_number(column as u64);
     out.put_bytes(b": ");
 }
@@ -56,6 +56,6 @@ pub(crate) fn put_source(out: &mut Writer, text: &[u8], p: Place)
     ensures same_buffer { out.new.buffer.ghost_name ≡ out.old.buffer.ghost_name }
 {
     put_shown(out, tokens::between(text, p.start, p.end));
-    out.put_byte(b'\n');
+    out.put_word(words::LINE_END);
     put_mark(out, p.column);
 }

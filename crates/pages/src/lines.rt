@@ -63,9 +63,9 @@ fn put_step(out: &mut Writer, clock: u64, rule: u64)
     ensures same_buffer { out.new.buffer.ghost_name ≡ out.old.buffer.ghost_name }
 {
     put_right(out, clock);
-    out.put_byte(b' ');
+    out.put_word(words::SPACE);
     put_rule(out, rule);
-    out.put_byte(b' ');
+    out.put_word(words::SPACE);
 }
 
 // Party, a space, the amount and LF.
@@ -76,9 +76,9 @@ fn put_payee(out: &mut Writer, terms: &Passed, party: usize, amount: u64)
     ensures same_buffer { out.new.buffer.ghost_name ≡ out.old.buffer.ghost_name }
 {
     put_party(out, terms, party);
-    out.put_byte(b' ');
+    out.put_word(words::SPACE);
     put_right(out, amount);
-    out.put_byte(b'\n');
+    out.put_word(words::LINE_END);
 }
 
 impl Entry {
@@ -102,7 +102,7 @@ pub(crate) fn put_blank(out: &mut Writer)
     ensures same_buffer { out.new.buffer.ghost_name ≡ out.old.buffer.ghost_name }
 {
     out.put_spaces(Sheet::LINE);
-    out.put_byte(b'\n');
+    out.put_word(words::LINE_END);
 }
 
 // How many payouts there are on the page.
@@ -114,5 +114,5 @@ pub(crate) fn put_foot(out: &mut Writer, n: usize)
     out.put_spaces(Sheet::FOOT);
     out.put_byte(b'0' + (n / 10) as u8);
     out.put_byte(b'0' + (n % 10) as u8);
-    out.put_byte(b'\n');
+    out.put_word(words::LINE_END);
 }

@@ -120,15 +120,20 @@ impl Writer<'_> {
     }
 
     // The digits of a number.
-    // Kept: (a) no Display: a lent buffer takes a piece as a whole or nothing of it.
+    // Kept: (a) no Display: a lent buffer takes a piece as a whole or nothing of it. (b) One digit has its own way: without it a desk takes 1.9 per cent
+    // more instructions for a mixed session, and 8.9 for one of labels alone (two builds without proof of one tree).
     pub fn put_number(&mut self, n: u64)
         ensures place { self.new.at ≡ place_after self.old.buffer.now self.old.at (decimal n) }
         ensures bytes { self.new.buffer.now ≡ put self.old.buffer.now self.old.at (decimal n) }
         ensures same_buffer { self.new.buffer.ghost_name ≡ self.old.buffer.ghost_name }
     {
-        let count = digit_count(n);
-        if self.has_room(count) {
-            self.store_digits(count, n);
+        if n < 10 {
+            self.put_byte(b'0' + n as u8);
+        } else {
+            let count = digit_count(n);
+            if self.has_room(count) {
+                self.store_digits(count, n);
+            }
         }
     }
 
@@ -140,7 +145,7 @@ impl Writer<'_> {
     {
         let count = digit_count(n);
         if self.has_room(count + 1) {
-            self.put_byte(b'-');
+            self.put_word(words::MINUS);
             self.store_digits(count, n);
         }
     }

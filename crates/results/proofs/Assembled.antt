@@ -103,11 +103,11 @@ module _ {old new : List ℕ} {at end : ℕ} where
   line_same : {u v : List ℕ} → u ≡ v → PutLine old at u end new → PutLine old at v end new
   line_same {u} {v} e p = subst (λ (l : List ℕ). PutLine old at l end new) e p
 
-  pub ruled_line : {s1 s2 s3 s4 : Type 0} {w : List ℕ} {rule state clock : ℕ} {l1 l2 l3 l4 : List ℕ} {a1 a2 a3 a4 : ℕ} → passes w ≡ true → Ready w (Ruled rule state clock) old at → clock < 2 ^ 64
-      → Put old at (bytes "[" ++ (rule_name rule ++ bytes "] ")) a1 l1 → Puts l1 a1 (name_bytes w (1891 + state * 33)) a2 l2 s1 → Puts l2 a2 (bytes ", ") a3 l3 s2
-      → Puts l3 a3 (decimal clock) a4 l4 s3 → Puts l4 a4 (bytes "\n") end new s4 → PutLine old at (line_of (contract_of w) (Ruled rule state clock)) end new
+  pub ruled_line : {s1 s2 s3 s4 s5 : Type 0} {w : List ℕ} {rule state clock : ℕ} {l1 l2 l3 l4 l5 : List ℕ} {a1 a2 a3 a4 a5 : ℕ} → passes w ≡ true → Ready w (Ruled rule state clock) old at → clock < 2 ^ 64
+      → Put old at (bytes "[" ++ (rule_name rule ++ bytes "] ")) a1 l1 → Puts l1 a1 (name_bytes w (1891 + state * 33)) a2 l2 s1 → Puts l2 a2 (bytes ",") a3 l3 s2 → Puts l3 a3 (bytes " ") a4 l4 s3
+      → Puts l4 a4 (decimal clock) a5 l5 s4 → Puts l5 a5 (bytes "\n") end new s5 → PutLine old at (line_of (contract_of w) (Ruled rule state clock)) end new
   unfolding line_of spelled
-  ruled_line {w} {rule} {state} {clock} t r k p1 p2 p3 p4 p5 =
+  ruled_line {w} {rule} {state} {clock} t r k p1 p2 p3 p4 p5 p6 =
       let row = ready_state t r in
       let head : List ℕ = bytes "[" ++ (rule_name rule ++ bytes "] ") in
       let tail : List ℕ = decimal clock ++ bytes "\n" in
@@ -124,7 +124,7 @@ module _ {old new : List ℕ} {at end : ℕ} where
         word_short clock k,
       ) in
       line_same (in_three (bytes "[") (rule_name rule) (bytes "] ") rest ∙ ap (λ (l : List ℕ). bytes "[" ++ (rule_name rule ++ (bytes "] " ++ (l ++ (bytes ", " ++ tail))))) (sym row.name))
-      (line_put h r.room λ h. part h p1 λ h. piece name h p2 λ h. piece (bytes ", ") h p3 λ h. piece (decimal clock) h p4 λ h. put_of (bytes "\n") p5 h)
+      (line_put h r.room λ h. part h p1 λ h. piece name h p2 λ h. piece (bytes ",") h p3 λ h. piece (bytes " ") h p4 λ h. piece (decimal clock) h p5 λ h. put_of (bytes "\n") p6 h)
 
   -- x is the value as its bits give it
   pub sent_line : {s1 s2 : Type 0} {w : List ℕ} {kind party : ℕ} {x z : ℤ} {l1 l2 l3 : List ℕ} {a1 a2 a3 : ℕ} → passes w ≡ true → x ≡ z → SFits w64 z → Ready w (Sent kind party z) old at
@@ -151,18 +151,19 @@ module _ {old new : List ℕ} {at end : ℕ} where
       ∙ ap (λ (l : List ℕ). value ++ (bytes " " ++ (arrow kind ++ (bytes " " ++ (l ++ bytes "\n"))))) (sym row.name))
       (line_put h r.room λ h. part h (same (ap (value_text (contract_of w) kind) q) p1) λ h. part h p2 λ h. piece name h p3 λ h. put_of (bytes "\n") p4 h)
 
-  pub held_line : {s1 s2 s3 s4 : Type 0} {w : List ℕ} {asset amount : ℕ} {l1 l2 l3 : List ℕ} {a1 a2 a3 : ℕ} → passes w ≡ true → Ready w (Held asset amount) old at → amount < 2 ^ 64
-      → Puts old at (name_bytes w (307 + asset * 33)) a1 l1 s1 → Puts l1 a1 (bytes " = ") a2 l2 s2 → Puts l2 a2 (decimal amount) a3 l3 s3 → Puts l3 a3 (bytes "\n") end new s4
+  pub held_line : {s1 s2 s3 s4 s5 s6 : Type 0} {w : List ℕ} {asset amount : ℕ} {l1 l2 l3 l4 l5 : List ℕ} {a1 a2 a3 a4 a5 : ℕ} → passes w ≡ true → Ready w (Held asset amount) old at → amount < 2 ^ 64
+      → Puts old at (name_bytes w (307 + asset * 33)) a1 l1 s1 → Puts l1 a1 (bytes " ") a2 l2 s2 → Puts l2 a2 (bytes "=") a3 l3 s3 → Puts l3 a3 (bytes " ") a4 l4 s4
+      → Puts l4 a4 (decimal amount) a5 l5 s5 → Puts l5 a5 (bytes "\n") end new s6
       → PutLine old at (line_of (contract_of w) (Held asset amount)) end new
   unfolding line_of spelled
-  held_line {w} {asset} {amount} t r k p1 p2 p3 p4 =
+  held_line {w} {asset} {amount} t r k p1 p2 p3 p4 p5 p6 =
       let row = ready_asset t r in
       let tail : List ℕ = decimal amount ++ bytes "\n" in
       let name : List ℕ = name_bytes w (307 + asset * 33) in
       let h : length (name ++ (bytes " = " ++ tail)) ≤ 128 =
       omega (arith, length-append name (bytes " = " ++ tail), length-append (decimal amount) (bytes "\n"), row.short, word_short amount k) in
       line_same (ap (λ (l : List ℕ). l ++ (bytes " = " ++ tail)) (sym row.name))
-      (line_put h r.room λ h. piece name h p1 λ h. piece (bytes " = ") h p2 λ h. piece (decimal amount) h p3 λ h. put_of (bytes "\n") p4 h)
+      (line_put h r.room λ h. piece name h p1 λ h. piece (bytes " ") h p2 λ h. piece (bytes "=") h p3 λ h. piece (bytes " ") h p4 λ h. piece (decimal amount) h p5 λ h. put_of (bytes "\n") p6 h)
 
   pub refused_line : {s1 : Type 0} {k : ℕ} {l1 : List ℕ} {a1 : ℕ} → k < 256 → at + 128 ≤ length old → Put old at (refused_text k) a1 l1 → Puts l1 a1 (bytes "\n") end new s1
       → PutLine old at (refused_text k ++ spelled line_end) end new
@@ -223,11 +224,11 @@ module _ {old new : List ℕ} {at end : ℕ} where
       let h : at + length (refused_text k) ≤ length old = omega (arith, refused_short k f, r) in
       piece (spelled refused) h p1 λ h. piece (bytes " ") h p2 λ h. put_of (decimal k) p3 h
 
-  pub rule_piece : {s1 s2 s3 : Type 0} (rule : ℕ) {l1 l2 : List ℕ} {a1 a2 : ℕ} → at + 14 ≤ length old → Puts old at (bytes "[") a1 l1 s1 → Puts l1 a1 (rule_name rule) a2 l2 s2
-      → Puts l2 a2 (bytes "] ") end new s3 → Put old at (bytes "[" ++ (rule_name rule ++ bytes "] ")) end new
-  rule_piece rule r p1 p2 p3 =
+  pub rule_piece : {s1 s2 s3 s4 : Type 0} (rule : ℕ) {l1 l2 l3 : List ℕ} {a1 a2 a3 : ℕ} → at + 14 ≤ length old → Puts old at (bytes "[") a1 l1 s1 → Puts l1 a1 (rule_name rule) a2 l2 s2
+      → Puts l2 a2 (bytes "]") a3 l3 s3 → Puts l3 a3 (bytes " ") end new s4 → Put old at (bytes "[" ++ (rule_name rule ++ bytes "] ")) end new
+  rule_piece rule r p1 p2 p3 p4 =
       let h : at + length (bytes "[" ++ (rule_name rule ++ bytes "] ")) ≤ length old = omega (arith, rule_short rule, r) in
-      piece (bytes "[") h p1 λ h. piece (rule_name rule) h p2 λ h. put_of (bytes "] ") p3 h
+      piece (bytes "[") h p1 λ h. piece (rule_name rule) h p2 λ h. piece (bytes "]") h p3 λ h. put_of (bytes " ") p4 h
 
   pub arrow_piece : {s1 s2 s3 : Type 0} (kind : ℕ) {l1 l2 : List ℕ} {a1 a2 : ℕ} → at + 4 ≤ length old → Puts old at (bytes " ") a1 l1 s1 → Puts l1 a1 (arrow kind) a2 l2 s2
       → Puts l2 a2 (bytes " ") end new s3 → Put old at (bytes " " ++ (arrow kind ++ bytes " ")) end new

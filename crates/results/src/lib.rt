@@ -151,9 +151,9 @@ pub fn write_text_refusal(number: u8, place: usize, buffer: &mut [u8]) -> Result
     }
     let mut out = Writer::new(buffer);
     reports::put_refused(&mut out, number);
-    out.put_byte(b' ');
+    out.put_word(words::SPACE);
     out.put_number(place as u64);
-    out.put_byte(b'\n');
+    out.put_word(words::LINE_END);
     Ok(out.at)
 }
 

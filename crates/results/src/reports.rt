@@ -94,7 +94,7 @@ pub(crate) fn put_refused(out: &mut Writer, n: u8)
     ensures same_buffer { out.new.buffer.ghost_name ≡ out.old.buffer.ghost_name }
 {
     out.put_word(words::REFUSED);
-    out.put_byte(b' ');
+    out.put_word(words::SPACE);
     out.put_number(n as u64);
 }
 
@@ -119,9 +119,10 @@ fn put_rule(out: &mut Writer, rule: u8)
     ensures written { Wrote out.old (bytes "[" ++ (rule_name rule ++ bytes "] ")) out.new }
     ensures same_buffer { out.new.buffer.ghost_name ≡ out.old.buffer.ghost_name }
 {
-    out.put_byte(b'[');
+    out.put_word(words::OPEN_BRACKET);
     out.put_word(rule_word(rule));
-    out.put_bytes(b"] ");
+    out.put_word(words::CLOSE_BRACKET);
+    out.put_word(words::SPACE);
 }
 
 // Kept: (c) the writer and the terms beside each other, here and below: with both in a struct (tried, with these as its methods) each contract has one
@@ -133,9 +134,10 @@ fn put_ruled(out: &mut Writer, terms: &Passed, rule: u8, state: usize, clock: u6
 {
     put_rule(out, rule);
     out.put_name(terms.table, contract::STATES + state * contract::NAME_WORDS);
-    out.put_bytes(b", ");
+    out.put_word(words::COMMA);
+    out.put_word(words::SPACE);
     out.put_number(clock);
-    out.put_byte(b'\n');
+    out.put_word(words::LINE_END);
 }
 
 // A label's value.
@@ -146,9 +148,9 @@ fn put_value(out: &mut Writer, terms: &Passed, kind: u8, value: i64)
 {
     if kind == Report::STRING {
         let row = contract::STRINGS + (value.unsigned_abs() as usize) * contract::STRING_WORDS;
-        out.put_byte(b'"');
+        out.put_word(words::QUOTE);
         out.put_name(terms.table, row);
-        out.put_byte(b'"');
+        out.put_word(words::QUOTE);
     } else {
         out.put_integer(value);
     }
@@ -173,9 +175,9 @@ fn put_arrow(out: &mut Writer, kind: u8)
     ensures written { Wrote out.old (bytes " " ++ (arrow kind ++ bytes " ")) out.new }
     ensures same_buffer { out.new.buffer.ghost_name ≡ out.old.buffer.ghost_name }
 {
-    out.put_byte(b' ');
+    out.put_word(words::SPACE);
     out.put_word(arrow_word(kind));
-    out.put_byte(b' ');
+    out.put_word(words::SPACE);
 }
 
 fn put_sent(out: &mut Writer, terms: &Passed, kind: u8, party: usize, value: i64)
@@ -189,7 +191,7 @@ fn put_sent(out: &mut Writer, terms: &Passed, kind: u8, party: usize, value: i64
         terms.table,
         contract::PARTIES + party * contract::NAME_WORDS,
     );
-    out.put_byte(b'\n');
+    out.put_word(words::LINE_END);
 }
 
 fn put_held(out: &mut Writer, terms: &Passed, asset: usize, amount: u64)
@@ -198,9 +200,11 @@ fn put_held(out: &mut Writer, terms: &Passed, asset: usize, amount: u64)
     ensures same_buffer { out.new.buffer.ghost_name ≡ out.old.buffer.ghost_name }
 {
     out.put_name(terms.table, contract::ASSETS + asset * contract::NAME_WORDS);
-    out.put_bytes(b" = ");
+    out.put_word(words::SPACE);
+    out.put_word(words::EQUALS);
+    out.put_word(words::SPACE);
     out.put_number(amount);
-    out.put_byte(b'\n');
+    out.put_word(words::LINE_END);
 }
 
 #[inline(always)]
@@ -210,7 +214,7 @@ fn put_refusal(out: &mut Writer, n: u8)
     ensures same_buffer { out.new.buffer.ghost_name ≡ out.old.buffer.ghost_name }
 {
     put_refused(out, n);
-    out.put_byte(b'\n');
+    out.put_word(words::LINE_END);
 }
 
 fn put_failed(out: &mut Writer, n: u8)
@@ -220,7 +224,7 @@ fn put_failed(out: &mut Writer, n: u8)
 {
     put_rule(out, Report::FIRING);
     put_refused(out, n);
-    out.put_byte(b'\n');
+    out.put_word(words::LINE_END);
 }
 
 // The line of a report.

@@ -66,7 +66,7 @@ impl Listing<'_> {
     }
 
     pub(crate) fn put_space(&mut self) -> Put {
-        self.put_all(b" ")
+        self.put_word(words::SPACE)
     }
 
     // A fixed word after a space.

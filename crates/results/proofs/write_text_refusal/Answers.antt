@@ -6,6 +6,7 @@ use native.Mathlib.Omega.{arith}
 use lib.ListN.{length}
 use Rattle.printing.proofs.Puts.{from_start}
 use Rattle.results.proofs.Assembled.{text_line_lem, text_no_space, text_no_kind, text_wrote}
+use Rattle.words.specs.Words.{spelled}
 use Rattle.results.proofs.write_text_refusal.Goals as goal
 
 pub returns-then-buffer-lt-ROOM : goal.returns-then-buffer-lt-ROOM
@@ -21,8 +22,9 @@ returns-then-not-is_text_refusal c =
     text_no_kind _ _ _ c.if-buffer-lt-ROOM.false (sym c.is_text_refusal.ensures ∙ c.if-not-is_text_refusal.true)
 
 pub returns : goal.returns
+unfolding spelled
 returns c =
     text_wrote _ _ _ c.if-buffer-lt-ROOM.false (sym c.is_text_refusal.ensures ∙ c.if-not-is_text_refusal.false)
     (from_start c.new-out.ensures.place c.new-out.ensures.bytes
     (text_line_lem c.ranges.number.fits c.ranges.place.fits (omega (arith, c.new-out.ensures.place, ap length c.new-out.ensures.bytes, c.if-buffer-lt-ROOM.false)) c.put_refused.ensures.written
-    c.put_byte.ensures c.put_number.ensures c.put_byte-2.ensures) (search rules))
+    c.put_word.ensures c.put_number.ensures c.put_word-2.ensures) (search rules))

@@ -4,6 +4,7 @@ use mir.Facts.{to_z-of_z}
 use Rattle.numbers.proofs.Whole.{again}
 use Rattle.printing.proofs.Puts.{kept}
 use Rattle.results.proofs.Assembled.{ready_value, ready_party, value_short, sent_line}
+use Rattle.words.specs.Words.{spelled}
 use Rattle.results.proofs.reports.put_sent.Goals as goal
 
 pub put_value-requires : goal.put_value-requires
@@ -21,6 +22,7 @@ pub overflow_add-party : goal.overflow_add-party
 overflow_add-party c = record { fits = omega (arith, (ready_party c.args.terms.now.whole c.requires).low) }
 
 pub returns-clause-written : goal.returns-clause-written
+unfolding spelled
 returns-clause-written c =
     sent_line c.args.terms.now.whole (to_z-of_z c.ranges.value) c.ranges.value c.requires c.put_value.ensures.written c.put_arrow.ensures.written c.put_name.ensures
-    c.put_byte.ensures
+    c.put_word.ensures
