@@ -33,7 +33,7 @@ stands p s i z e = go (ltb i (length s)) refl
     go true q = ltb-true i (length s) q
     go false q = true_false (sym e ∙ ap p (get_or-eq_default s 0 (ltb-false i (length s) q)) ∙ z)
 
-starts_short : (t m : List ℕ) → starts_with t m ≡ true → length m ≤ length t
+pub starts_short : (t m : List ℕ) → starts_with t m ≡ true → length m ≤ length t
 unfolding starts_with pick
 starts_short t [] e = omega arith
 starts_short [] (y ∷ ys) e = true_false (sym e)

@@ -1,26 +1,25 @@
 -- The forms of a line exclude each other; what they hold fits the arrays. Assumes nothing.
 use mathlib.Core.Path.{◌≡◌, refl, sym, ap, subst, ◌∙◌}
 use mathlib.Core.Bool.{Bool, true, false}
-use mathlib.Core.List.{List, [], ◌∷◌, ◌++◌, append-nil}
-use Prim.Native.Nat.{ℕ, zero, suc, ◌+◌, ◌-◌, ◌*◌, ◌^◌, ◌<◌, ◌≤◌}
+use mathlib.Core.List.{List, [], ◌∷◌, ◌++◌}
+use Prim.Native.Nat.{ℕ, zero, suc, ◌+◌, ◌-◌, ◌*◌, ◌<◌, ◌≤◌}
 use native.Mathlib.Nat.{add-zero}
 use native.Mathlib.Omega.{arith}
-use lib.ListN.{length, get_or, take, drop, replicate, length-replicate, length-append, length-take}
+use lib.ListN.{length, get_or, take, drop, replicate, length-replicate, length-append}
 use lib.Seq.{sets, sets-eq, get_or-drop, take-append_seam}
 use lib.Dec.{eqb, leb}
 use lib.IntN.{ℤ, pos}
-use borrow.Author.Tests.{eqb-true, le-leb, lt-leb}
+use borrow.Author.Tests.{eqb-true, leb-true, le-leb, lt-leb}
 use Rattle.questions.specs.declared.Question.TheVariants as ask
 use Rattle.laws.specs.Choice.{pick}
 use Rattle.laws.specs.Bytes.{bytes, starts_with}
-use Rattle.laws.proofs.Choice.{true_false, pick_true, pick_false}
+use Rattle.laws.proofs.Choice.{true_false, pick_true, pick_false, by_cases}
 use Rattle.tokens.specs.Classes.{within as in_range, is_letter}
 use Rattle.lines.specs.Lines.{Span, Part, Names, Lists, Asked, refused, tick, jump, call, agreement, Parsed, done, no, and_then, give, otherwise, skipped, is_next, mark, end, name_from, name, verb, integer, list, names, lists, part, parts, tick_line, call_line, agreement_line, or_refused, asked}
-use Rattle.lines.specs.Answers.{padded, request_of, numbers_of, fields_of, heads_of, spans_of, values_of, agreement_of, agreement_in}
-use Rattle.std.specs.Prelude.{Option, Some, None, Result, Ok, Err, ok_or}
+use Rattle.lines.specs.Answers.{padded, request_of, numbers_of, numbers_after, fields_of, heads_of, spans_of, values_of, agreement_of, agreement_in}
+use Rattle.std.specs.Prelude.{Option, Some, None, Ok, Err, ok_or}
 use Rattle.std.specs.Option.{MatchOption, IsSomeAnd}
-use Rattle.questions.specs.declared.Question.{Question}
-use Rattle.lines.specs.Private.{Spot, given, count_of, span_from, CallIs, Integers, with_integers}
+use Rattle.lines.specs.Private.{Spot, given, span_from, CallIs, Integers, with_integers}
 use Rattle.lines.specs.declared.Span as declared
 use Rattle.lines.specs.declared.Request.{Request}
 use Rattle.lines.specs.declared.Request.TheVariants as request
@@ -208,19 +207,16 @@ module _ (s : List ℕ) (short : length s ≤ 512) where
       let c : length (values_of (fields_of ps)) ≤ 86 = omega (arith, values_length (fields_of ps), fields_fit s short ps n e) in
       λ j. record { parts = length ps; fields = length (fields_of ps); heads = padded_by 0 256 (heads_of ps) a j; spans = padded_by 0 172 (spans_of (fields_of ps)) b j; values = padded_by (pos 0) 86 (values_of (fields_of ps)) c j }
 
--- a tick or a jump has no integers
-pub timed_numbers : {a : Asked} → Timed a → numbers_of a ≡ []
-timed_numbers ticks = refl
-timed_numbers (jumps z) = refl
+-- a tick or a jump leaves a list as it was
+pub timed_numbers : {a : Asked} (old : List ℤ) → Timed a → numbers_after a old ≡ old
+timed_numbers old ticks = refl
+timed_numbers old (jumps z) = refl
 
 -- ---- what a line asks for, told by the first form that reads it
 
--- a list has the integers of a line in front
-abbrev Front : List ℤ → Asked → Type 0
-Front new a = take (length (numbers_of a)) new ≡ numbers_of a
-
-none_front : (new : List ℤ) (a : Asked) → numbers_of a ≡ [] → Front new a
-none_front new a e = rw e
+-- a list after a line
+abbrev Left : List ℤ → List ℤ → Asked → Type 0
+Left old new a = new ≡ numbers_after a old
 
 module _ (s : List ℕ) (short : length s ≤ 512) where
   pub time_told : {x : Request} → Some (Ok x) ≡ given request_of (tick_line s 0) → Ok x ≡ request_of (asked s)
@@ -232,21 +228,21 @@ module _ (s : List ℕ) (short : length s ≤ 512) where
           k ∙ sym (ap request_of (asked_timed s short e))
       go no e h = cc
 
-  pub time_front : (new : List ℤ) {x : Request} → Some (Ok x) ≡ given request_of (tick_line s 0) → Front new (asked s)
-  time_front new {x} q = go (tick_line s 0) refl q
+  pub time_left : (old : List ℤ) {x : Request} → Some (Ok x) ≡ given request_of (tick_line s 0) → Left old old (asked s)
+  time_left old {x} q = go (tick_line s 0) refl q
     where
-      go : (p : Parsed Asked) → tick_line s 0 ≡ p → Some (Ok x) ≡ given request_of p → Front new (asked s)
-      go (done a n) e h = none_front new (asked s) (ap numbers_of (asked_timed s short e) ∙ timed_numbers (tick_alone s e).0)
+      go : (p : Parsed Asked) → tick_line s 0 ≡ p → Some (Ok x) ≡ given request_of p → Left old old (asked s)
+      go (done a n) e h = subst (Left old old) (sym (asked_timed s short e)) (sym (timed_numbers old (tick_alone s e).0))
       go no e h = cc
 
   module _ (t : tick_line s 0 ≡ no) where
-    pub call_told : {x : Call} (new : List ℤ) → CallIs (call_line s 0) (Some x) new → (Ok (request.Call x) ≡ request_of (asked s)) × Front new (asked s)
-    call_told {x} new q = go (call_line s 0) refl q
+    pub call_told : {x : Call} (old new : List ℤ) → CallIs (call_line s 0) old (Some x) new → (Ok (request.Call x) ≡ request_of (asked s)) × Left old new (asked s)
+    call_told {x} old new q = go (call_line s 0) refl q
       where
-        go : (p : Parsed Asked) → call_line s 0 ≡ p → CallIs p (Some x) new → (Ok (request.Call x) ≡ request_of (asked s)) × Front new (asked s)
+        go : (p : Parsed Asked) → call_line s 0 ≡ p → CallIs p old (Some x) new → (Ok (request.Call x) ≡ request_of (asked s)) × Left old new (asked s)
         go (done a n) e h =
             let k : Ok (request.Call x) ≡ request_of a = let w = h.0 in cc in
-            (k ∙ sym (ap request_of (asked_called s short t e)), subst (Front new) (sym (asked_called s short t e)) h.1)
+            (k ∙ sym (ap request_of (asked_called s short t e)), subst (Left old new) (sym (asked_called s short t e)) h.1)
         go no e h = cc
 
     module _ (c : call_line s 0 ≡ no) where
@@ -261,48 +257,75 @@ module _ (s : List ℕ) (short : length s ≤ 512) where
           go no e (Some y) n h w = cc
           go no e None n h w = ap (λ (o : Option Request). ok_or o ask.LineForm) w ∙ sym (ap request_of (asked_none s short t c e))
 
-      -- what is no tick, no jump and no call has no integers
-      pub other_front : (new : List ℤ) → Front new (asked s)
-      other_front new = go (parts s 0) refl
+      -- what is no tick, no jump and no call has no numbers
+      pub other_left : (old : List ℤ) → Left old old (asked s)
+      other_left old = go (parts s 0) refl
         where
-          go : (p : Parsed (List Part)) → parts s 0 ≡ p → Front new (asked s)
-          go (done ps n) e = none_front new (asked s) (ap numbers_of (asked_agreed s short t c e))
-          go no e = none_front new (asked s) (ap numbers_of (asked_none s short t c e))
+          go : (p : Parsed (List Part)) → parts s 0 ≡ p → Left old old (asked s)
+          go (done ps n) e = subst (Left old old) (sym (asked_agreed s short t c e)) refl
+          go no e = subst (Left old old) (sym (asked_none s short t c e)) refl
 
 -- a line that is too long
 pub long_told : (s : List ℕ) → 512 < length s → Err ask.LineLength ≡ request_of (asked s)
 unfolding request_of
 long_told s h = sym (ap request_of (asked_long s h))
 
-pub long_front : (s : List ℕ) (new : List ℤ) → 512 < length s → Front new (asked s)
-long_front s new h = none_front new (asked s) (ap numbers_of (asked_long s h))
+pub long_left : (s : List ℕ) (old : List ℤ) → 512 < length s → Left old old (asked s)
+long_left s old h = subst (Left old old) (sym (asked_long s h)) refl
 
--- ---- the rest of the list
+-- ---- how many integers a line has
 
--- a line has as many integers as its request says
-counted : (a : Asked) → count_of (request_of a) ≡ length (numbers_of a)
+module _ (s : List ℕ) where
+  abbrev Few : Asked → Type 0
+  Few a = length (numbers_of a) ≤ 255
+
+  timed_few : {a : Asked} → Timed a → Few a
+  timed_few ticks = omega arith
+  timed_few (jumps z) = omega arith
+
+  call_few : {a : Asked} {n : ℕ} → length s ≤ 512 → call_line s 0 ≡ done a n → Few a
+  unfolding call_line after_names
+  call_few {a} {n} short e =
+      let x = then_done (names s 0) (after_names s) e in
+      let y = then_done (lists s x.place) (λ l. give (call (record { names = x.got; lists = l }))) x.rest in
+      let q : call (record { names = x.got; lists = y.got }) ≡ a = cc in
+      subst Few q (lists_fit s short x.place y.got y.place y.first)
+
+  short_few : length s ≤ 512 → Few (or_refused (otherwise (tick_line s 0) (otherwise (call_line s 0) (agreement_line s 0))))
+  unfolding agreement_line
+  short_few short = go (tick_line s 0) (call_line s 0) (parts s 0) refl refl
+    where
+      go : (p q : Parsed Asked) (r : Parsed (List Part)) → tick_line s 0 ≡ p → call_line s 0 ≡ q → Few (or_refused (otherwise p (otherwise q (and_then r (λ ps. give (agreement ps))))))
+      go (done a n) q r e f = timed_few (tick_alone s e).0
+      go no (done a n) r e f = call_few short f
+      go no no (done ps n) e f = omega arith
+      go no no no e f = omega arith
+
+  pub numbers_fit : Few (asked s)
+  unfolding asked
+  numbers_fit = by_cases Few _ _ _ (λ e. short_few (leb-true (length s) 512 e)) (λ e. omega arith)
+
+-- a call that was read into a list of its own, and stored into another from there
+pub call_put : (x : Call) (s : List ℕ) (old own new : List ℤ) → length s ≤ 512 → length own ≡ 256 → CallIs (call_line s 0) own (Some x) new
+    → (x.values + x.assets ≤ 255) × CallIs (call_line s 0) old (Some x) (sets old 0 (take (x.values + x.assets) new))
 unfolding request_of
-counted (refused q) = refl
-counted tick = refl
-counted (jump T) = refl
-counted (agreement ps) = refl
-counted (call c) = sym (length-append c.lists.values c.lists.assets)
-
-module _ (a : Asked) (r : Result Request Question) (e : r ≡ request_of a) (new : List ℤ) (full : length new ≡ 256) (front : Front new a) where
-  pub counted_as : count_of r ≡ length (numbers_of a)
-  counted_as = ap count_of e ∙ counted a
-
-  pub count_fits : count_of r ≤ 256
-  count_fits = omega (arith, counted_as, ap length front, length-take (length (numbers_of a)) new)
-
-  pub count_small : count_of r < 2 ^ 63
-  count_small = let h = count_fits in let k : 256 < 2 ^ 63 = omega arith in omega arith
-
-  pub cleared : (k : ℕ) → k ≡ count_of r → (rest tail : List ℤ) → rest ≡ replicate (256 - k) (pos 0) → tail ≡ [] → take k new ++ (rest ++ tail) ≡ padded (pos 0) 256 (numbers_of a)
-  cleared k f rest tail g z =
-      let q : k ≡ length (numbers_of a) = f ∙ counted_as in
-      (λ i. take (q i) new ++ (g i ++ z i))
-      ∙ (λ i. front i ++ append-nil (replicate (256 - q i) (pos 0)) i)
+call_put x s old own new short full q = go (call_line s 0) refl q
+  where
+    go : (p : Parsed Asked) → call_line s 0 ≡ p → CallIs p own (Some x) new → (x.values + x.assets ≤ 255) × CallIs p old (Some x) (sets old 0 (take (x.values + x.assets) new))
+    go (done (call c) n) e h =
+        let zs = c.lists.values ++ c.lists.assets in
+        let few : length zs ≤ 255 = call_few s short e in
+        let w = h.0 in
+        let v : x.values ≡ length c.lists.values = cc in
+        let a : x.assets ≡ length c.lists.assets = cc in
+        let k : x.values + x.assets ≡ length zs = omega (arith, v, a, length-append c.lists.values c.lists.assets) in
+        let front : take (length zs) new ≡ zs = ap (take (length zs)) (h.1 ∙ sets-eq zs own 0 (omega (arith, few, full))) ∙ take-append_seam zs _ in
+        (omega (arith, k, few), (w, ap (sets old 0) (ap (λ (j : ℕ). take j new) k ∙ front)))
+    go (done tick n) e h = let w = h.0 in cc
+    go (done (jump z) n) e h = let w = h.0 in cc
+    go (done (agreement ps) n) e h = let w = h.0 in cc
+    go (done (refused q) n) e h = let w = h.0 in cc
+    go no e h = cc
 
 -- ---- a call
 
@@ -340,22 +363,15 @@ module _ (s : List ℕ) {m : Names} {d : ℕ} (e : names s 0 ≡ done m d) where
       unfolding call_line lists
       call_more f = rw (e, v, w, f)
 
-      module _ (f : end s j ≡ done tt j) where
-        call_whole : call_line s 0 ≡ done (call (record { names = m; lists = record { values = vs; assets = hs } })) j
-        unfolding call_line lists
-        call_whole = rw (e, v, w, f)
+      call_whole : end s j ≡ done tt j → call_line s 0 ≡ done (call (record { names = m; lists = record { values = vs; assets = hs } })) j
+      unfolding call_line lists
+      call_whole f = rw (e, v, w, f)
 
-        call_front : length s ≤ 512 → (old : List ℤ) → length old ≡ 256 → take (length (vs ++ hs)) (sets old 0 (vs ++ hs)) ≡ vs ++ hs
-        unfolding lists
-        call_front short old full =
-            let h : length (vs ++ hs) ≤ 256 = omega (arith, lists_fit s short d (record { values = vs; assets = hs }) j (rw (v, w, f))) in
-            ap (take (length (vs ++ hs))) (sets-eq (vs ++ hs) old 0 (omega arith)) ∙ take-append_seam (vs ++ hs) _
-
-pub call_made : {party function : declared.Span} {d : ℕ} {old : List ℤ} {first second : Integers} {middle last : Spot} (s : List ℕ) → length s ≤ 512 → length old ≡ 256 → names s 0 ≡ done (record { party = span_from party; function = span_from function }) d
+pub call_made : {party function : declared.Span} {d : ℕ} {old : List ℤ} {first second : Integers} {middle last : Spot} (s : List ℕ) → names s 0 ≡ done (record { party = span_from party; function = span_from function }) d
     → Filled (with_integers (record { count = 0; all = old })) (list s (40 ∷ []) (integer s) (41 ∷ []) d) s middle first → Filled (with_integers first) (list s (91 ∷ []) (integer s) (93 ∷ []) middle.at) s last second → end s last.at ≡ done tt last.at
-    → CallIs (call_line s 0) (Some (record { party = party; function = function; values = first.count; assets = second.count - first.count })) second.all
+    → CallIs (call_line s 0) old (Some (record { party = party; function = function; values = first.count; assets = second.count - first.count })) second.all
 unfolding request_of
-call_made {party} {function} {d} {old} {first} {second} {middle} {last} s short full e v w f =
+call_made {party} {function} {d} {old} {first} {second} {middle} {last} s e v w f =
     let u : first ≡ with_integers (record { count = 0; all = old }) v.read = v.out_is in
     let a : first.count ≡ length v.read = ap (λ (y : Integers). y.count) u ∙ (let n : 0 + length v.read ≡ length v.read = omega arith in n) in
     let b : second.count - first.count ≡ length w.read = omega (arith, ap (λ (y : Integers). y.count) w.out_is) in
@@ -363,13 +379,13 @@ call_made {party} {function} {d} {old} {first} {second} {middle} {last} s short 
     ap (λ (y : Integers). y.all) (w.out_is ∙ ap (λ (y : Integers). with_integers y w.read) u)
     ∙ sym (sets_append old 0 v.read w.read) in
     rw (call_whole s e v.is.parsed w.is.parsed f)
-    (λ t. Some (Ok (request.Call (record { party = party; function = function; values = a t; assets = b t }))), ap (take (length (v.read ++ w.read))) n ∙ call_front s e v.is.parsed w.is.parsed f short old full)
+    (λ t. Some (Ok (request.Call (record { party = party; function = function; values = a t; assets = b t }))), n)
 
 -- the same list
-pub call_as : (p : Parsed Asked) (r : Option Call) {old new : List ℤ} → CallIs p r old → new ≡ old → CallIs p r new
-call_as p r w e = subst (CallIs p r) (sym e) w
+pub call_as : (p : Parsed Asked) (old : List ℤ) (r : Option Call) {new now : List ℤ} → CallIs p old r new → now ≡ new → CallIs p old r now
+call_as p old r w e = subst (CallIs p old r) (sym e) w
 
 -- a line that is no call
-pub call_missed : (new : List ℤ) (p : Parsed Asked) → CallIs p None new → p ≡ no
-call_missed new (done a n) w = let h = w.0 in cc
-call_missed new no w = refl
+pub call_missed : (old new : List ℤ) (p : Parsed Asked) → CallIs p old None new → p ≡ no
+call_missed old new (done a n) w = let h = w.0 in cc
+call_missed old new no w = refl

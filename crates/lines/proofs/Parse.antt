@@ -5,11 +5,9 @@ use mathlib.Core.List.{List, [], ◌∷◌}
 use Prim.Native.Nat.{ℕ, zero, suc, ◌+◌, ◌^◌, ◌<◌, ◌≤◌, min}
 use native.Mathlib.Omega.{arith}
 use lib.ListN.{length, get_or, drop, get_or-eq_default}
-use lib.Dec.{ltb, eqb, leb}
+use lib.Dec.{ltb, leb}
 use lib.IntN.{ℤ, pos, neg_ℤ}
-use borrow.Author.Tests.{le-ltb, eq-eqb, ne_eqb, eqb-true, eqb-false, ltb-true, ltb-false, leb-true, leb-false}
-use Rattle.std.specs.List.{between, starts_with as within_text}
-use Rattle.std.proofs.lemmas.Slice.{between_to_end}
+use borrow.Author.Tests.{le-ltb, eq-eqb, ne_eqb, ltb-true, ltb-false, leb-true, leb-false}
 use Rattle.laws.specs.Choice.{pick}
 use Rattle.laws.specs.Bytes.{starts_with}
 use Rattle.laws.proofs.Choice.{pick_true, pick_false}
@@ -46,20 +44,6 @@ module _ (s : List ℕ) (at : ℕ) where
   unfolding mark
   mark_not m e = pick_false _ _ _ e
 
--- the library compares from the other side
-starts_same : (t m : List ℕ) → within_text eqb t m ≡ starts_with t m
-unfolding starts_with pick
-starts_same t [] = refl
-starts_same [] (y ∷ ys) = refl
-starts_same (x ∷ t) (y ∷ m) = go (eqb x y) refl (starts_same t m)
-  where
-    go : (b : Bool) → eqb x y ≡ b → within_text eqb t m ≡ starts_with t m → within_text eqb (x ∷ t) (y ∷ m) ≡ pick b (starts_with t m) false
-    go true e q = rw (eq-eqb y x (sym (eqb-true x y e))) q
-    go false e q = rw (ne_eqb y x (λ h. eqb-false x y e (sym h)))
-
-pub starts_at : (s m : List ℕ) (i : ℕ) {t : List ℕ} {b : Bool} → t ≡ between i (length s) s → b ≡ within_text eqb t m → b ≡ starts_with (drop i s) m
-starts_at s m i e q = q ∙ ap (λ (x : List ℕ). within_text eqb x m) (e ∙ between_to_end s i (length s) (omega arith)) ∙ starts_same (drop i s) m
-
 -- the same by a place i that code found
 module _ (s : List ℕ) (at : ℕ) {i : ℕ} (skip : i ≡ skipped s at) where
   here_is : (b : ℕ) → i < length s → get_or s i 0 ≡ b → is_next s (b ∷ []) at ≡ true
@@ -82,10 +66,6 @@ module _ (s : List ℕ) (at : ℕ) {i : ℕ} (skip : i ≡ skipped s at) where
 
     pub mark_else : {t : Bool} → t ≡ starts_with (drop i s) m → t ≡ false → mark s m at ≡ no
     mark_else e q = mark_not s at m (goes e ∙ q)
-
-  pub mark_past : (m : List ℕ) → 0 < length m → length s ≤ i → mark s m at ≡ no
-  mark_past [] n h = absurd (omega arith)
-  mark_past (b ∷ m) n h = mark_not s at (b ∷ m) (here_past b m h)
 
   pub end_is : leb (length s) i ≡ is_done (end s at)
   unfolding end pick

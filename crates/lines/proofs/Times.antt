@@ -1,7 +1,7 @@
 -- What a line asks for that is read as a tick or a jump. Assumes nothing.
 use mathlib.Core.Path.{◌≡◌, refl, subst}
 use mathlib.Core.Bool.{Bool, true, false}
-use mathlib.Core.List.{List, []}
+use mathlib.Core.List.{List}
 use Rattle.std.specs.Prelude.{None}
 use Prim.Native.Nat.{ℕ}
 use lib.IntN.{ℤ}

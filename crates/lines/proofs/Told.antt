@@ -1,15 +1,17 @@
 -- For callers: what a line asks for, told by its request, and what its arrays hold. Assumes nothing.
-use mathlib.Core.Path.{◌≡◌, refl, ap, ◌∙◌}
+use mathlib.Core.Path.{◌≡◌, refl, sym, ap, ◌∙◌}
 use mathlib.Core.List.{List, ◌++◌, append_assoc}
-use Prim.Native.Nat.{ℕ, ◌-◌, ◌≤◌}
+use Prim.Native.Nat.{ℕ, ◌+◌, ◌-◌, ◌≤◌}
 use native.Mathlib.Omega.{arith}
-use lib.ListN.{length, take, drop, replicate, length-append}
+use lib.ListN.{length, take, drop, replicate, length-append, length-take}
 use lib.IntN.{ℤ}
-use lib.Seq.{take-append_seam, drop-append_seam}
+use Rattle.std.proofs.lemmas.List.{take-append-drop}
+use lib.Seq.{sets-eq, take-append_seam, drop-append_seam}
 use Rattle.questions.specs.declared.Question.{Question}
-use Rattle.lines.specs.Lines.{Part, Call, Asked, refused, tick, jump, call, agreement}
-use Rattle.lines.specs.Answers.{padded, request_of}
+use Rattle.lines.specs.Lines.{Part, Call, Asked, refused, tick, jump, call, agreement, asked}
+use Rattle.lines.specs.Answers.{padded, request_of, numbers_of, numbers_after}
 use Rattle.std.specs.Prelude.{Ok, Err}
+use Rattle.lines.proofs.Forms.{numbers_fit}
 use Rattle.lines.specs.declared.Call as declared
 use Rattle.lines.specs.declared.Request.TheVariants as request
 
@@ -63,24 +65,40 @@ told_agreement (jump y) e = let z : ◌≡◌ {A = ℕ} 0 1 = cc in absurd (omeg
 told_agreement (call c) e = let z : ◌≡◌ {A = ℕ} 0 1 = cc in absurd (omega arith)
 told_agreement (agreement ps) e = record { asks = ps; is = refl }
 
+-- ---- a call's integers
+
+-- They come first in the list that was lent.
+pub numbers_first : (s : List ℕ) (old new : List ℤ) → length old ≡ 256 → new ≡ numbers_after (asked s) old → take (length (numbers_of (asked s))) new ≡ numbers_of (asked s)
+numbers_first s old new full e = ap (take (length (numbers_of (asked s)))) e ∙ go (asked s) (numbers_fit s)
+  where
+    go : (a : Asked) → length (numbers_of a) ≤ 255 → take (length (numbers_of a)) (numbers_after a old) ≡ numbers_of a
+    go (call c) few =
+        let zs = c.lists.values ++ c.lists.assets in
+        ap (take (length zs)) (sets-eq zs old 0 (omega (arith, few, full))) ∙ take-append_seam zs _
+    go tick few = refl
+    go (jump z) few = refl
+    go (agreement ps) few = refl
+    go (refused q) few = refl
+
 -- ---- the arrays
 
-module _ {A : Type 0} (a : A) (n : ℕ) where
-  -- an array of n entries has room for what it holds
-  pub padded_room : (xs : List A) → length (padded a n xs) ≡ n → length xs ≤ n
-  padded_room xs e = omega (arith, length-append xs (replicate (n - length xs) a))
+-- what a padded array holds
+pub padded_front : {A : Type 0} (a : A) (n : ℕ) (xs : List A) → take (length xs) (padded a n xs) ≡ xs
+padded_front a n xs = take-append_seam xs (replicate (n - length xs) a)
 
-  pub padded_front : (xs : List A) → take (length xs) (padded a n xs) ≡ xs
-  padded_front xs = take-append_seam xs (replicate (n - length xs) a)
+-- two lists, one after the other, in front of a list
+module _ {A : Type 0} (l xs ys : List A) (front : take (length (xs ++ ys)) l ≡ xs ++ ys) where
+  pub front_room : length xs + length ys ≤ length l
+  front_room = omega (arith, ap length front, length-take (length (xs ++ ys)) l, length-append xs ys)
 
-  -- of two lists, one after the other
-  pub padded_first : (xs ys : List A) → take (length xs) (padded a n (xs ++ ys)) ≡ xs
-  padded_first xs ys =
-      ap (take (length xs)) (append_assoc xs ys (replicate (n - length (xs ++ ys)) a))
-      ∙ take-append_seam xs (ys ++ replicate (n - length (xs ++ ys)) a)
+  in_front : l ≡ xs ++ (ys ++ drop (length (xs ++ ys)) l)
+  in_front = sym (take-append-drop (length (xs ++ ys)) l) ∙ ap (λ (t : List A). t ++ drop (length (xs ++ ys)) l) front ∙ append_assoc xs ys (drop (length (xs ++ ys)) l)
 
-  pub padded_second : (xs ys : List A) → take (length ys) (drop (length xs) (padded a n (xs ++ ys))) ≡ ys
-  padded_second xs ys =
-      ap (λ (l : List A). take (length ys) (drop (length xs) l)) (append_assoc xs ys (replicate (n - length (xs ++ ys)) a))
-      ∙ ap (take (length ys)) (drop-append_seam xs (ys ++ replicate (n - length (xs ++ ys)) a))
-      ∙ take-append_seam ys (replicate (n - length (xs ++ ys)) a)
+  pub front_first : take (length xs) l ≡ xs
+  front_first = ap (take (length xs)) in_front ∙ take-append_seam xs (ys ++ drop (length (xs ++ ys)) l)
+
+  pub front_second : take (length ys) (drop (length xs) l) ≡ ys
+  front_second =
+      ap (λ (t : List A). take (length ys) (drop (length xs) t)) in_front
+      ∙ ap (take (length ys)) (drop-append_seam xs (ys ++ drop (length (xs ++ ys)) l))
+      ∙ take-append_seam ys (drop (length (xs ++ ys)) l)

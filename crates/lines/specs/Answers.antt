@@ -1,5 +1,6 @@
 -- What `read` and `agreement_of` answer for what a line asks.
 use Rattle.std.specs.Prelude.{ℕ, ◌-◌, List, [], ◌∷◌, ◌++◌, length, replicate, ℤ, pos, Option, Some, None, Result, Ok, Err}
+use Rattle.std.proofs.lemmas.List.Edits.{sets}
 use Rattle.lines.specs.Lines.{Span, Verb, set, ok, Field, Part, Asked, refused, tick, jump, call, agreement}
 use Rattle.questions.specs.declared.Question.{Question}
 use Rattle.lines.specs.declared.Span as declared
@@ -38,6 +39,10 @@ numbers_of tick = []
 numbers_of (jump T) = []
 numbers_of (agreement ps) = []
 numbers_of (call c) = c.lists.values ++ c.lists.assets
+
+-- what the lent list holds after a line: a call's numbers come first, over what was there; any other line writes nothing
+abbrev pub numbers_after : Asked → List ℤ → List ℤ
+numbers_after a old = sets old 0 (numbers_of a)
 
 -- ---- an agreement's parts
 

@@ -1,12 +1,12 @@
 -- What private functions answer: serves their contracts only.
-use Rattle.std.specs.Prelude.{ℕ, ◌+◌, ◌*◌, ◌≡◌, Bool, true, false, List, [], ◌∷◌, length, ℤ, neg_ℤ, take, Option, Some, None, Result, Ok, Err}
+use Rattle.std.specs.Prelude.{ℕ, ◌+◌, ◌*◌, ◌≡◌, Bool, true, false, List, [], ◌∷◌, length, ℤ, neg_ℤ, Option, Some, None, Result, Ok}
 use Rattle.std.proofs.lemmas.List.Edits.{sets}
 use Rattle.laws.specs.Choice.{pick}
 use Rattle.numbers.specs.Numbers.{within}
 use Rattle.lines.specs.Lines as lines
 use Rattle.lines.specs.Lines.{Part, Asked, Parsed, done, no, Parser, mark}
 use Rattle.questions.specs.declared.Question.{Question}
-use Rattle.lines.specs.Answers.{span_in, request_of, numbers_of, verb_number, spans_of, values_of}
+use Rattle.lines.specs.Answers.{span_in, request_of, numbers_after, verb_number, spans_of, values_of}
 use Rattle.lines.specs.declared.Request.{Request}
 use Rattle.lines.specs.declared.Request.TheVariants as request
 use Rattle.lines.specs.declared.Call.{Call}
@@ -93,14 +93,6 @@ abbrev pub asked_in : Option Request → Option (Result Request Question)
 asked_in None = None
 asked_in (Some x) = Some (Ok x)
 
--- how many integers it has
-abbrev pub count_of : Result Request Question → ℕ
-count_of (Ok (request.Call x)) = x.values + x.assets
-count_of (Ok request.Agreement) = 0
-count_of (Ok request.Tick) = 0
-count_of (Ok (request.Jump T)) = 0
-count_of (Err q) = 0
-
 -- an integer, if it is within 64 bits
 abbrev pub ranged : ℤ → Option ℤ
 ranged z = pick (within z) (Some z) None
@@ -110,14 +102,14 @@ abbrev pub sign_of : Bool → ℤ → ℤ
 sign_of true z = neg_ℤ z
 sign_of false z = z
 
--- a call, and its integers in front of a list; after a no what was lent is free
+-- a call, and the list with its integers; after a no what was lent is free
 abbrev pub called_in : Option Call → Option (Result Request Question)
 called_in None = None
 called_in (Some x) = Some (Ok (request.Call x))
 
-abbrev pub CallIs : Parsed Asked → Option Call → List ℤ → Type 0
-CallIs (done a n) r new = (called_in r ≡ Some (request_of a)) × (take (length (numbers_of a)) new ≡ numbers_of a)
-CallIs no r new = r ≡ None
+abbrev pub CallIs : Parsed Asked → List ℤ → Option Call → List ℤ → Type 0
+CallIs (done a n) old r new = (called_in r ≡ Some (request_of a)) × (new ≡ numbers_after a old)
+CallIs no old r new = r ≡ None
 
 -- ---- what was read so far
 

@@ -4,7 +4,6 @@ use mathlib.Core.Path.{◌≡◌, refl, ap}
 use mir.Syntax.{w64}
 use mir.Val.{to_z, of_z}
 use lib.IntN.{ℤ}
-use native.Mathlib.Omega.{arith}
 use Rattle.std.specs.Prelude.{Option, Some}
 use Rattle.words.specs.Words.{spelled}
 use Rattle.lines.specs.Lines.{field}
@@ -21,22 +20,17 @@ unfolding field
 returns-in_err-name c =
     rw (name_missed _ _ refl c.in_err-name.ensures) c.from_residual.ensures
 
-pub word_mark-requires : goal.word_mark-requires
-unfolding spelled
-word_mark-requires c =
-    omega arith
-
-pub returns-in_err-word_mark : goal.returns-in_err-word_mark
+pub returns-in_err-mark : goal.returns-in_err-mark
 unfolding field spelled
-returns-in_err-word_mark c =
+returns-in_err-mark c =
     let a = name_got _ refl c.in_ok-name.ensures in
-    rw (a.parsed, (mark_missed _ _ a.line c.in_err-word_mark.ensures).parsed) c.from_residual-in_err-word_mark.ensures
+    rw (a.parsed, (mark_missed _ _ a.line c.in_err-mark.ensures).parsed) c.from_residual-in_err-mark.ensures
 
 pub returns-in_err-value : goal.returns-in_err-value
 unfolding field spelled
 returns-in_err-value c =
     let a = name_got _ refl c.in_ok-name.ensures in
-    let b = mark_got _ _ a.line c.in_ok-word_mark.ensures in
+    let b = mark_got _ _ a.line c.in_ok-mark.ensures in
     rw (a.parsed, b.parsed, integer_missed _ _ b.line c.in_err-value.ensures) c.from_residual-in_err-value.ensures
 
 pub returns : goal.returns
@@ -44,7 +38,7 @@ unfolding field spelled
 returns c =
     let e : to_z w64 (of_z w64 c.in_ok-value.value) ≡ c.in_ok-value.value = search rules in
     let a = name_got _ refl c.in_ok-name.ensures in
-    let b = mark_got _ _ a.line c.in_ok-word_mark.ensures in
+    let b = mark_got _ _ a.line c.in_ok-mark.ensures in
     let d = integer_got _ b.line c.in_ok-value.ensures in
     let x = c.in_ok-name.name in
     rw (a.parsed, b.parsed, d.parsed) (ap (some_field x) e, stands d.line)

@@ -10,25 +10,30 @@ use Rattle.lines.proofs.Got.{mark_got, mark_missed, mark_past_is, mark_not_is, s
 use Rattle.lines.proofs.Ahead.{mark_size}
 use Rattle.lines.proofs.Turns.{list_none, list_empty, list_some}
 use Rattle.lines.proofs.Loops.{no_fields}
+use Rattle.words.specs.Words.{spelled}
 use Rattle.lines.proofs.Reader.field_list.Goals as goal
 
 pub returns-in_err-mark : goal.returns-in_err-mark
+unfolding spelled
 returns-in_err-mark c =
     stored_none _ _ _ _ (list_none _ _ _ _ _ (mark_missed _ _ refl c.in_err-mark.ensures).parsed) c.from_residual.ensures
 
 pub returns-then-is_some : goal.returns-then-is_some
+unfolding spelled
 returns-then-is_some c =
     let a = mark_got _ _ refl c.in_ok-mark.ensures in
     let b = mark_past_is _ _ _ a.line c.mark-2.ensures (sym c.if-is_some.ensures) in
     stored _ _ (record { parsed = list_empty _ _ _ _ _ a.parsed b.parsed; line = b.line }) refl (no_fields _)
 
 pub fields-requires : goal.fields-requires
+unfolding spelled
 fields-requires c =
     let a = mark_got _ _ refl c.in_ok-mark.ensures in
     let b = mark_not_is _ _ _ a.line c.mark-2.ensures (sym c.if-is_some.ensures) in
     omega (arith, c.requires, mark_size _ _ _ a.parsed, ap (λ (x : Spot). x.at) b.here)
 
 pub returns : goal.returns
+unfolding spelled
 returns c =
     let a = mark_got _ _ refl c.in_ok-mark.ensures in
     let b = mark_not_is _ _ _ a.line c.mark-2.ensures (sym c.if-is_some.ensures) in

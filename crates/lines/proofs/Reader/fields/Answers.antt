@@ -8,6 +8,7 @@ use Rattle.lines.specs.declared.Agreement.{Agreement}
 use Rattle.lines.proofs.Got.{field_got, field_missed, mark_past_is, mark_not_is, stored_none, closed_by}
 use Rattle.lines.proofs.Ahead.{field_ahead, mark_ahead}
 use Rattle.lines.proofs.Loops.{started, item_missing, one_more, closing, never_closed, no_fields, field_more}
+use Rattle.words.specs.Words.{spelled}
 use Rattle.lines.proofs.Reader.fields.Goals as goal
 
 pub loop-self-init : goal.loop-self-init
@@ -26,6 +27,7 @@ add_field-requires c =
     omega (arith, v.behind, a.more, a.inside, ap (λ (x : Agreement). x.fields) v.stored, c.requires)
 
 pub returns-then-is_none : goal.returns-then-is_none
+unfolding spelled
 returns-then-is_none c =
     let v = c.loop-self.invariant in
     let got = field_got _ v.line c.in_ok-field.ensures in
@@ -35,6 +37,7 @@ returns-then-is_none c =
     closed_by _ _ _ _ _ _ _ _ got.line k.here c.mark-then-is_none.ensures (λ g. closing _ _ _ _ _ v got a w k.parsed g) (λ g. never_closed _ _ _ _ _ v got a w k.parsed g)
 
 pub loop-self-smaller : goal.loop-self-smaller
+unfolding spelled
 loop-self-smaller c =
     let v = c.loop-self.invariant in
     let got = field_got _ v.line c.in_ok-field.ensures in
@@ -44,6 +47,7 @@ loop-self-smaller c =
     h
 
 pub loop-self-preserved : goal.loop-self-preserved
+unfolding spelled
 loop-self-preserved c =
     let v = c.loop-self.invariant in
     let got = field_got _ v.line c.in_ok-field.ensures in

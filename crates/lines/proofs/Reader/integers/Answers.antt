@@ -12,6 +12,7 @@ use Rattle.lines.specs.Private.{Integers, integers_in, with_integers}
 use Rattle.lines.proofs.Got.{integer_got, integer_missed, mark_past_is, mark_not_is, stored_none, closed_by}
 use Rattle.lines.proofs.Ahead.{integer_ahead, mark_ahead}
 use Rattle.lines.proofs.Loops.{started, item_missing, one_more, closing, never_closed, no_integers, integer_more}
+use Rattle.words.specs.Words.{spelled}
 use Rattle.lines.proofs.Reader.integers.Goals as goal
 
 pub loop-self-init : goal.loop-self-init
@@ -30,6 +31,7 @@ add-requires c =
     omega (arith, v.behind, a.more, a.inside, ap (λ (x : Integers). x.count) v.stored, c.requires)
 
 pub returns-then-is_none-clause-value : goal.returns-then-is_none-clause-value
+unfolding spelled
 returns-then-is_none-clause-value c =
     let e : to_z w64 (of_z w64 c.in_ok-integer.field-0) ≡ c.in_ok-integer.field-0 = search rules in
     let v = c.loop-self.invariant.0 in
@@ -40,6 +42,7 @@ returns-then-is_none-clause-value c =
     closed_by _ _ _ _ _ _ _ _ got.line k.here c.mark-then-is_none.ensures (λ g. closing _ _ _ _ _ v got a w k.parsed g) (λ g. never_closed _ _ _ _ _ v got a w k.parsed g)
 
 pub loop-self-smaller : goal.loop-self-smaller
+unfolding spelled
 loop-self-smaller c =
     let v = c.loop-self.invariant.0 in
     let got = integer_got _ v.line c.in_ok-integer.ensures in
@@ -49,6 +52,7 @@ loop-self-smaller c =
     h
 
 pub loop-self-preserved : goal.loop-self-preserved
+unfolding spelled
 loop-self-preserved c =
     let e : to_z w64 (of_z w64 c.in_ok-integer.field-0) ≡ c.in_ok-integer.field-0 = search rules in
     let v = c.loop-self.invariant.0 in

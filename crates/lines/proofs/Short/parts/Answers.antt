@@ -34,11 +34,6 @@ returns-in_err-part c =
     let v = c.loop-reader.invariant.so_far in
     c.from_residual.ensures ∙ sym (ap (given agreement_of) (item_missing _ _ _ _ _ v (added_missed (with_part c.loop-reader.read) part _ _ _ v.line c.in_err-part.ensures)))
 
-pub word_mark-requires : goal.word_mark-requires
-unfolding spelled
-word_mark-requires c =
-    omega arith
-
 pub returns-then-is_none : goal.returns-then-is_none
 unfolding parts spelled
 returns-then-is_none c =
@@ -47,7 +42,7 @@ returns-then-is_none c =
     let g = added_got (with_part c.loop-reader.read) part _ _ _ v.line c.in_ok-part.ensures in
     let a = part_ahead s _ g.is.parsed in
     let w = part_more _ _ v.stored g.out_is in
-    let k = mark_not_is _ _ _ g.is.line c.word_mark.ensures c.if-is_none.ensures in
+    let k = mark_not_is _ _ _ g.is.line c.mark.ensures c.if-is_none.ensures in
     let l = ap (λ (x : Spot). x.line) k.here ∙ g.is.line in
     let at = ap (λ (x : Spot). x.at) k.here in
     let shut = λ (q : c.ends.result ≡ true). closing _ _ _ _ _ v g.is a w k.parsed (record { parsed = subst (λ (n : ℕ). end s n ≡ done tt n) at (ended l _ c.ends.ensures q); line = g.is.line }) in
@@ -60,8 +55,8 @@ loop-reader-smaller c =
     let v = c.loop-reader.invariant.so_far in
     let g = added_got (with_part c.loop-reader.read) part _ _ _ v.line c.in_ok-part.ensures in
     let a = part_ahead c.args.self.now.line.now _ g.is.parsed in
-    let or = mark_past_is _ _ _ g.is.line c.word_mark.ensures c.if-is_none.ensures in
-    let h : length c.args.self.now.line.now - c.word_mark.new.self.at < length c.args.self.now.line.now - c.loop-reader.reader.at = omega (arith, a.more, a.inside, (mark_ahead _ 124 (124 ∷ []) _ or.parsed).more) in
+    let or = mark_past_is _ _ _ g.is.line c.mark.ensures c.if-is_none.ensures in
+    let h : length c.args.self.now.line.now - c.mark.new.self.at < length c.args.self.now.line.now - c.loop-reader.reader.at = omega (arith, a.more, a.inside, (mark_ahead _ 124 (124 ∷ []) _ or.parsed).more) in
     h
 
 pub loop-reader-preserved : goal.loop-reader-preserved
@@ -70,7 +65,7 @@ loop-reader-preserved c =
     let v = c.loop-reader.invariant.so_far in
     let g = added_got (with_part c.loop-reader.read) part _ _ _ v.line c.in_ok-part.ensures in
     let a = part_ahead c.args.self.now.line.now _ g.is.parsed in
-    let or = mark_past_is _ _ _ g.is.line c.word_mark.ensures c.if-is_none.ensures in
+    let or = mark_past_is _ _ _ g.is.line c.mark.ensures c.if-is_none.ensures in
     let m = mark_ahead _ 124 (124 ∷ []) _ or.parsed in
     record {
       so_far = one_more _ _ _ _ _ v g.is a (part_more _ _ v.stored g.out_is) or (omega (arith, m.more));

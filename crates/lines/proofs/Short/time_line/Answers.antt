@@ -8,21 +8,22 @@ use Rattle.lines.specs.Answers.{request_of}
 use Rattle.lines.specs.Private.{Spot, spot, given, asked_in}
 use Rattle.lines.proofs.Got.{name_got, name_missed, mark_got, mark_missed, mark_past_is, mark_not_is, word_told, ended, unended}
 use Rattle.lines.proofs.Turns.{next_yes, next_no}
+use Rattle.words.specs.Words.{spelled}
 use Rattle.lines.proofs.Short.time_line.Goals as goal
 
 pub returns-in_err-mark : goal.returns-in_err-mark
-unfolding tick_line
+unfolding tick_line spelled
 returns-in_err-mark c =
     rw (mark_missed _ _ refl c.in_err-mark.ensures).parsed (ap asked_in c.from_residual.ensures)
 
 pub returns-in_err-word : goal.returns-in_err-word
-unfolding tick_line word
+unfolding tick_line word spelled
 returns-in_err-word c =
     let a = mark_got _ _ refl c.in_ok-mark.ensures in
     rw (a.parsed, name_missed _ _ a.line c.in_err-word.ensures) (ap asked_in c.from_residual-in_err-word.ensures)
 
 pub returns-then-is_none : goal.returns-then-is_none
-unfolding tick_line word pick
+unfolding tick_line word pick spelled
 returns-then-is_none c =
     let a = mark_got _ _ refl c.in_ok-mark.ensures in
     let b = name_got _ a.line c.in_ok-word.ensures in
@@ -31,7 +32,7 @@ returns-then-is_none c =
     (c.jump_end.ensures ∙ ap (λ (x : Spot). given request_of (jump_end x.line x.at)) d.here ∙ ap (λ (t : List ℕ). given request_of (jump_end t (spot c.name.new.self).at)) b.line)
 
 pub returns-then-ends : goal.returns-then-ends
-unfolding tick_line word pick closed request_of
+unfolding tick_line word pick closed request_of spelled
 returns-then-ends c =
     let a = mark_got _ _ refl c.in_ok-mark.ensures in
     let b = name_got _ a.line c.in_ok-word.ensures in
@@ -39,7 +40,7 @@ returns-then-ends c =
     rw (a.parsed, b.parsed, word_told b.line _ _ c.is_word.ensures c.if-is_word.true, next_yes _ _ _ d.parsed, d.parsed, ended d.line _ c.ends.ensures c.if-ends.true)
 
 pub returns-else-ends : goal.returns-else-ends
-unfolding tick_line word pick closed
+unfolding tick_line word pick closed spelled
 returns-else-ends c =
     let a = mark_got _ _ refl c.in_ok-mark.ensures in
     let b = name_got _ a.line c.in_ok-word.ensures in
@@ -47,7 +48,7 @@ returns-else-ends c =
     rw (a.parsed, b.parsed, word_told b.line _ _ c.is_word.ensures c.if-is_word.true, next_yes _ _ _ d.parsed, d.parsed, unended d.line _ c.ends.ensures c.if-ends.false)
 
 pub returns-else-is_word : goal.returns-else-is_word
-unfolding tick_line word pick
+unfolding tick_line word pick spelled
 returns-else-is_word c =
     let a = mark_got _ _ refl c.in_ok-mark.ensures in
     let b = name_got _ a.line c.in_ok-word.ensures in
