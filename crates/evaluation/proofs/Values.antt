@@ -13,6 +13,7 @@ use Rattle.laws.proofs.Choice.{pick_true, pick_false, by_cases}
 use Rattle.numbers.specs.declared.Value.{Value}
 use Rattle.numbers.specs.Numbers.{Answer, applied}
 use Rattle.numbers.specs.declared.Operator.{Operator}
+use Rattle.contract.specs.Tree.{apply, broken_expression}
 use Rattle.contract.specs.declared.Node.{Node}
 use Rattle.contract.specs.Rows.{node_of}
 use Rattle.contract.specs.Table.{kind_at}
@@ -63,29 +64,33 @@ module _ (m : Memory) (w : List ℕ) (k : ℕ) (n : Node) (e : n ≡ node_of w k
       let g : 11 < kind_at w k = subst (λ (x : Node). 11 < x.kind) e h in
       sym (ap (value_of m) (expression_step w k ∙ pick_false _ _ _ (le-ltb (kind_at w k) 8 (omega arith)) ∙ pick_false _ _ _ (lt-leb _ _ g)))
 
-  pub uncounted_at : 8 ≤ n.kind → n.kind ≤ 11 → counts_two w k ≡ false → Err ask.TableCheck ≡ value_of m (expression_at w k)
-  unfolding value_of
-  uncounted_at h h' u =
-      sym (ap (value_of m) (expression_step w k ∙ pick_false _ _ _ (le-ltb _ _ (subst (λ (x : Node). 8 ≤ x.kind) e h))
-      ∙ pick_true _ _ _ (le-leb _ _ (subst (λ (x : Node). x.kind ≤ 11) e h')) ∙ pick_false _ _ _ u))
+-- an operator's node, of this kind
+module _ (m : Memory) (w : List ℕ) (k kind : ℕ) (e : kind ≡ kind_at w k) (h : 8 ≤ kind) (h' : kind ≤ 11) where
+  operator : expression_at w k ≡ pick (counts_two w k) (apply (operator_of (kind_at w k)) (expression_at w (left_at w k)) (expression_at w (k - 1))) broken_expression
+  operator =
+      expression_step w k ∙ pick_false _ _ _ (le-ltb _ _ (subst (λ (x : ℕ). 8 ≤ x) e h))
+      ∙ pick_true _ _ _ (le-leb _ _ (subst (λ (x : ℕ). x ≤ 11) e h'))
 
-  -- an operator's node, whose left part ends at node j and gives x
-  module _ (j : ℕ) (x : Answer) (h : 8 ≤ n.kind) (h' : n.kind ≤ 11) (c : Counted w k j) (ex : x ≡ value_of m (expression_at w j)) where
-    joined_at : (y : Answer) → y ≡ value_of m (expression_at w (k - 1)) → value_of m (expression_at w k) ≡ joined (operator_of n.kind) x y
+  pub uncounted_at : counts_two w k ≡ false → Err ask.TableCheck ≡ value_of m (expression_at w k)
+  unfolding value_of
+  uncounted_at u = sym (ap (value_of m) (operator ∙ pick_false _ _ _ u))
+
+  -- whose left part ends at node j and gives x
+  module _ (j : ℕ) (x : Answer) (c : Counted w k j) (ex : x ≡ value_of m (expression_at w j)) where
+    joined_at : (y : Answer) → y ≡ value_of m (expression_at w (k - 1)) → value_of m (expression_at w k) ≡ joined (operator_of kind) x y
     unfolding value_of
     joined_at y ey =
-        ap (value_of m) (expression_step w k ∙ pick_false _ _ _ (le-ltb _ _ (subst (λ (v : Node). 8 ≤ v.kind) e h))
-        ∙ pick_true _ _ _ (le-leb _ _ (subst (λ (v : Node). v.kind ≤ 11) e h')) ∙ pick_true _ _ _ c.two)
-        ∙ sym (λ i. joined (operator_of (e i).kind) ((ex ∙ ap (λ (v : ℕ). value_of m (expression_at w v)) c.left) i) (ey i))
+        ap (value_of m) (operator ∙ pick_true _ _ _ c.two)
+        ∙ sym (λ i. joined (operator_of (e i)) ((ex ∙ ap (λ (v : ℕ). value_of m (expression_at w v)) c.left) i) (ey i))
 
     pub refused_left : (a : Question) → x ≡ Err a → x ≡ value_of m (expression_at w k)
     refused_left a ax =
         let y = value_of m (expression_at w (k - 1)) in
-        ax ∙ sym (ap (λ (v : Answer). joined (operator_of n.kind) v y) ax) ∙ sym (joined_at y refl)
+        ax ∙ sym (ap (λ (v : Answer). joined (operator_of kind) v y) ax) ∙ sym (joined_at y refl)
 
     pub refused_right : (y : Answer) (a : Value) (b : Question) → x ≡ Ok a → y ≡ Err b → y ≡ value_of m (expression_at w (k - 1)) → y ≡ value_of m (expression_at w k)
-    refused_right y a b ax ay ey = ay ∙ sym (λ i. joined (operator_of n.kind) (ax i) (ay i)) ∙ sym (joined_at y ey)
+    refused_right y a b ax ay ey = ay ∙ sym (λ i. joined (operator_of kind) (ax i) (ay i)) ∙ sym (joined_at y ey)
 
     pub applied_both : (y r : Answer) (a b : Value) (o : Operator) → x ≡ Ok a → y ≡ Ok b → y ≡ value_of m (expression_at w (k - 1))
-        → o ≡ operator_of n.kind → r ≡ applied o a b → r ≡ value_of m (expression_at w k)
+        → o ≡ operator_of kind → r ≡ applied o a b → r ≡ value_of m (expression_at w k)
     applied_both y r a b o ax ay ey eo er = er ∙ sym (λ i. joined (sym eo i) (ax i) (ay i)) ∙ sym (joined_at y ey)

@@ -1,13 +1,13 @@
 -- The loops that put the kept events in front: one turn, and the end. Assumes nothing.
-use mathlib.Core.Path.{◌≡◌, refl, sym, ap, subst, ◌∙◌}
+use mathlib.Core.Path.{◌≡◌, refl, sym, ap, ◌∙◌}
 use mathlib.Core.Bool.{Bool, true, false}
 use mathlib.Core.List.{List, [], ◌∷◌, ◌++◌, append-nil}
 use Prim.Native.Nat.{ℕ, zero, suc, ◌+◌, ◌-◌, ◌<◌, ◌≤◌}
 use native.Mathlib.Numerals.{add-one}
 use native.Mathlib.Omega.{arith}
-use lib.ListN.{length, take, drop, get_or, set, replicate, length-append, length-take, length-drop, drop_of_length-le}
+use lib.ListN.{length, take, drop, get_or, set, replicate, length-append, length-set, length-take, length-drop, drop_of_length-le}
 use lib.Seq.{take-suc, take-take, take_all, set-append_seam, append_snoc, paste, take-paste}
-use Rattle.std.proofs.lemmas.List.{drop-take}
+use Rattle.std.proofs.lemmas.List.{drop-take, drop-set-lt, drop_more, take_more_set}
 use Rattle.laws.specs.Choice.{pick}
 use Rattle.state.specs.States.{max_pending, blank, live, with_times, with_pending, removed}
 use Rattle.laws.specs.Lists.{repeated, keep}
@@ -18,9 +18,6 @@ use Rattle.state.specs.declared.State.{State}
 pub record Holds (ps : List Pending) (out : List Pending) (count : ℕ) : Type 0 where
   pub many : count ≡ length ps
   pub slots : out ≡ ps ++ repeated (max_pending - length ps) blank
-
-pub holds_none : Holds [] (repeated max_pending blank) 0
-holds_none = record { many = refl; slots = refl }
 
 pub holds_more : {ps out : List Pending} {count : ℕ} (x : Pending) → Holds ps out count → count < 64 → Holds (ps ++ (x ∷ [])) (set out count x) (count + 1)
 unfolding repeated
@@ -38,21 +35,13 @@ holds_more {ps} {out} {count} x h k =
           ∙ (λ i. (ps ++ (x ∷ [])) ++ repeated (64 - sym l i) blank);
     }
 
-pub holds_same : {ps qs out : List Pending} {count : ℕ} → ps ≡ qs → Holds ps out count → Holds qs out count
-holds_same {ps} {qs} {out} {count} e h = subst (λ (l : List Pending). Holds l out count) e h
-
--- at a clock, with these slots
-pub held : {ps out : List Pending} {count : ℕ} (s : State) (clock : ℕ) → Holds ps out count
-    → with_times s clock count out ≡ with_times s clock (length ps) (ps ++ repeated (max_pending - length ps) blank)
-held s clock h = λ i. with_times s clock (h.many i) (h.slots i)
-
 -- ---- the slots after the last pending event made blank
 replicated : {A : Type 0} (n : ℕ) (x : A) → replicate n x ≡ repeated n x
 unfolding repeated
 replicated zero x = refl
 replicated (suc n) x = ap (λ l. x ∷ l) (replicated n x)
 
-taken_again : {A : Type 0} (n : ℕ) (l : List A) → take (length (take n l)) l ≡ take n l
+pub taken_again : {A : Type 0} (n : ℕ) (l : List A) → take (length (take n l)) l ≡ take n l
 taken_again zero l = refl
 taken_again (suc n) [] = refl
 taken_again (suc n) (x ∷ l) = ap (λ r. x ∷ r) (taken_again n l)
@@ -120,3 +109,44 @@ module _ {A : Type 0} (p : A → Bool) where
 
     pub more_no : p (get_or l i d) ≡ false → keep p (take i l) ≡ keep p (take (i + 1) l)
     more_no e = sym (ap (keep p) (one_more l i d h) ∙ keep_no (take i l) (get_or l i d) e)
+
+-- ---- those that pass a test moved to the front: `count` of the first i elements of l stand in front of `now`, and from i on it is as l was
+pub record Front {A : Type 0} (p : A → Bool) (l now : List A) (i count : ℕ) : Type 0 where
+  pub below : count ≤ i
+  pub front : take count now ≡ keep p (take i l)
+  pub rest : drop i now ≡ drop i l
+  pub long : length now ≡ length l
+
+module _ {A : Type 0} (p : A → Bool) (l : List A) where
+  pub front_none : Front p l l 0 0
+  unfolding keep
+  front_none = record { below = omega arith; front = refl; rest = refl; long = refl }
+
+  module _ (now : List A) (i count : ℕ) (d : A) (f : Front p l now i count) (h : i < length l) where
+    here : drop i now ≡ get_or now i d ∷ drop (i + 1) now
+    here = drop_more now i d (omega (arith, f.long))
+
+    there : get_or now i d ∷ drop (i + 1) now ≡ get_or l i d ∷ drop (i + 1) l
+    there = sym here ∙ f.rest ∙ drop_more l i d h
+
+    same : get_or now i d ≡ get_or l i d
+    same = ap (λ (xs : List A). get_or xs 0 d) there
+
+    left : drop (i + 1) now ≡ drop (i + 1) l
+    left = ap (drop 1) there
+
+    pub front_yes : p (get_or now i d) ≡ true → Front p l (set now count (get_or now i d)) (i + 1) (count + 1)
+    front_yes e =
+        let k = f.below in
+        record {
+          below = omega arith;
+          front =
+              take_more_set now count (get_or now i d) (omega (arith, f.long))
+              ∙ (λ j. f.front j ++ (same j ∷ []))
+              ∙ more_yes p l i d h (ap p (sym same) ∙ e);
+          rest = drop-set-lt (i + 1) now count (get_or now i d) (omega arith) ∙ left;
+          long = length-set now count (get_or now i d) ∙ f.long;
+        }
+
+    pub front_no : p (get_or now i d) ≡ false → Front p l now (i + 1) count
+    front_no e = let k = f.below in record { below = omega arith; front = f.front ∙ more_no p l i d h (ap p (sym same) ∙ e); rest = left; long = f.long }

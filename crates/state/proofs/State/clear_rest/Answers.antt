@@ -5,8 +5,8 @@ use lib.Seq.{length-take-le}
 use Rattle.state.proofs.Kept.{rest_blank}
 use Rattle.state.proofs.State.clear_rest.Goals as goal
 
-pub returns : goal.returns
-returns c =
+pub returns-clause-value : goal.returns-clause-value
+returns-clause-value c =
     let n = length c.live-n.result.now in
     let full : length c.args.self.now.events ≡ 64 = search rules in
     let many = length-take-le (64 - n) (drop n c.args.self.now.events) (simp (length-drop, full) (omega arith)) in

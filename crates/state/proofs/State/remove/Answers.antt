@@ -9,7 +9,7 @@ use Rattle.state.proofs.State.remove.Goals as goal
 pub returns : goal.returns
 returns c =
     let full : length c.args.self.now.events ≡ 64 = search rules in
-    c.clear_rest.ensures
+    c.clear_rest.ensures.value
     ∙ elim c.if-i-n.branch [
       | then-i-n w ↦ ap (λ (s : State). with_pending s (live s)) w.self-is ∙ taken_out c.args.self.now c.args.i _ _ w.if-i-n.true (ap length c.live-n.ensures.value) full w.copy_within.ensures.after
       | else-i-n w ↦ ap (λ (s : State). with_pending s (live s)) w.self-is ∙ past_last c.args.self.now c.args.i (omega (arith, w.if-i-n.false, ap length c.live-n.ensures.value))
