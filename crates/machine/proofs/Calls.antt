@@ -16,8 +16,8 @@ use Rattle.laws.specs.Lists.{every}
 use Rattle.evaluation.specs.Memory.{Memory}
 use Rattle.evaluation.specs.Meaning.{truth_of}
 use Rattle.state.specs.declared.State.{State}
-use Rattle.std.specs.Prelude.{Option, Some, None, Ok, Err}
 use Rattle.state.specs.States.{due_in}
+use Rattle.std.specs.Prelude.{Option, Some, None, Ok, Err}
 use Rattle.statements.specs.Running.{Work, memory_in, ran}
 use Rattle.outcomes.specs.declared.Stepped.{Stepped}
 use Rattle.outcomes.specs.Outcomes.{refused}
@@ -96,16 +96,19 @@ module _ (s : State) (v a : List ℤ) (n : ℕ) (f : Function) where
         precondition_true e x r = sym (by_truth_lem ∙ ap (by_precondition s n f v w) e ∙ ap (finished s n f v) (sym r))
 
 -- ---- who calls
-pub call_away : (c : Contract) (s : State) (i : Invocation) {q : Question} → Err q ≡ at_rest c s → refused s q ≡ called c s i
-unfolding called
-call_away c s i e = away c s (call_by_due c s i) (λ k. refl) e
-
-module _ (w : List ℕ) (s : State) (i : Invocation) (e : s.agreed ≡ true) where
-  by_due : called (contract_of w) s i ≡ call_by_due (contract_of w) s i (due_in (contract_of w) s)
+module _ (c : Contract) (s : State) (i : Invocation) (due : Option ℕ) (so : due ≡ due_in c s) where
+  by_its_due : pick s.agreed (call_by_due c s i due) (refused s ask.Agreed) ≡ called c s i
   unfolding called
-  by_due = pick_true s.agreed _ _ e
+  by_its_due = ap (λ (d : Option ℕ). pick s.agreed (call_by_due c s i d) (refused s ask.Agreed)) so
 
-  module _ (d : due_in (contract_of w) s ≡ None) (r : Option ℕ) (f : FoundIn w s.state (naming i.caller i.function) r) where
+  pub call_away : {q : Question} → Err q ≡ at_rest s due → refused s q ≡ called c s i
+  call_away e = away s due (call_by_due c s i) (λ k. refl) e ∙ by_its_due
+
+module _ (w : List ℕ) (s : State) (i : Invocation) (due : Option ℕ) (so : due ≡ due_in (contract_of w) s) (e : s.agreed ≡ true) where
+  by_due : called (contract_of w) s i ≡ call_by_due (contract_of w) s i due
+  by_due = sym (by_its_due (contract_of w) s i due so) ∙ pick_true s.agreed _ _ e
+
+  module _ (d : due ≡ None) (r : Option ℕ) (f : FoundIn w s.state (naming i.caller i.function) r) where
     by_found : called (contract_of w) s i ≡ by_chosen s i (chosen_in w r)
     by_found =
         by_due ∙ ap (call_by_due (contract_of w) s i) d

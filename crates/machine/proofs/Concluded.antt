@@ -1,10 +1,10 @@
 -- The end of a call on a state that has room for its pending events, whatever stands in the slots after them. Assumes nothing.
-use mathlib.Core.Path.{◌≡◌, refl, sym, ap, subst, ◌∙◌}
+use mathlib.Core.Path.{◌≡◌, refl, sym, ap, ◌∙◌}
 use mathlib.Core.List.{List, [], ◌∷◌, ◌++◌, append-nil, append_assoc}
 use Prim.Native.Nat.{ℕ, suc, ◌+◌, ◌-◌, ◌<◌, ◌≤◌}
 use native.Mathlib.Numerals.{add-one}
 use native.Mathlib.Omega.{arith}
-use lib.ListN.{length, length-append, length-take}
+use lib.ListN.{length, length-append}
 use borrow.Author.Tests.{le-leb, lt-leb, lt-ltb}
 use Rattle.laws.proofs.Choice.{pick_true, pick_false}
 use Rattle.contract.specs.Tree.{Event}
@@ -17,15 +17,17 @@ use Rattle.state.proofs.Kept.{Holds, holds_more}
 use Rattle.statements.specs.Running.{Work}
 use Rattle.outcomes.specs.declared.Rule.TheVariants.{Call}
 use Rattle.outcomes.specs.Outcomes.{refused}
-use Rattle.machine.specs.Steps.{accepted, ended, Scheduled, times, with_scheduled}
+use Rattle.machine.specs.Steps.{accepted, ended, Scheduled, times, no, schedule, with_scheduled}
+use Rattle.machine.specs.Private.{scheduled_state}
+use Rattle.questions.specs.declared.Question.{Question}
+use Rattle.std.specs.Prelude.{Ok, Err}
+use mathlib.Core.Bool.{Bool, true, false}
+use lib.Dec.{leb}
+use Rattle.laws.specs.Choice.{pick}
 use Rattle.holdings.specs.Holdings.{reached}
 use Rattle.machine.proofs.Firings.{with_reached}
-use Rattle.machine.proofs.Schedules.{joined_all, Joined, joined_none}
+use Rattle.machine.proofs.Schedules.{joined_all}
 use Rattle.questions.specs.declared.Question.TheVariants as ask
-
-pub joined_first : (m : Memory) (t n : ℕ) (s : State) (es : List Event) (next : State) → next ≡ with_pending s (live s) → Joined m t n (with_pending s (live s)) es next 0 0
-joined_first m t n s es next e =
-    subst (λ (x : State). Joined m t n (with_pending s (live s)) es x 0 0) (sym e) (joined_none m t n (with_pending s (live s)) es)
 
 -- ---- events join those that are pending
 one_more : (s : State) (qs : List Pending) (p : Pending) → length qs < 64 → joined_by (with_pending s qs) p ≡ with_pending s (qs ++ (p ∷ []))
@@ -56,23 +58,38 @@ all_more s qs (p ∷ ps) h =
     ∙ ap (with_pending s) (append_assoc qs (p ∷ []) ps)
 
 -- ---- the call's end
--- how many are pending, and how many more there is room for
-pub left_few : (s : State) → length s.events ≡ 64 → length (live s) ≤ 64
-left_few s full = omega (arith, length-take s.pending s.events)
+module _ (s : State) (x : Scheduled) (ps : List Pending) (e : x ≡ times ps) where
+  pub over_full : 64 < length (live s) + length ps → Err ask.PendingRoom ≡ scheduled_state s x
+  over_full h = sym (ap (scheduled_state s) e ∙ pick_false _ _ _ (lt-leb (length (live s) + length ps) 64 h))
 
-pub left_room : (s : State) {room : ℕ} → length s.events ≡ 64 → room ≡ 64 - s.pending → room ≡ 64 - length (live s)
-left_room s full e = omega (arith, length-take s.pending s.events)
+  pub all_join : length (live s) + length ps ≤ 64 → (next : State) → next ≡ joined_all (with_pending s (live s)) ps → Ok next ≡ scheduled_state s x
+  all_join h next y =
+      ap Ok (y ∙ all_more s (live s) ps h)
+      ∙ sym (ap (scheduled_state s) e ∙ pick_true _ _ _ (le-leb (length (live s) + length ps) 64 h))
 
-module _ (s : State) (w : Work) (q : ℕ) (room n : ℕ) (so : n ≡ length (live s)) (few : n ≤ 64) (left : room ≡ 64 - n) (x : Scheduled) (ps : List Pending) (e : x ≡ times ps) where
-  pub over_full : room < length ps → refused s ask.PendingRoom ≡ with_scheduled s w q x
-  over_full h =
-      let l : 64 < length (live s) + length ps = omega (arith, so) in
-      sym (ap (with_scheduled s w q) e ∙ pick_false _ _ _ (lt-leb (length (live s) + length ps) 64 l))
+-- where there is no event, none joins
+pub none_join : (m : Memory) (s : State) (n : ℕ) (es : List Event) → length es ≡ 0 → length (live s) ≤ 64 → (next : State) → next ≡ with_pending s (live s) → Ok next ≡ scheduled_state s (schedule m s.clock n 0 es)
+unfolding schedule joined_all
+none_join m s n [] e few next y = all_join s (times []) [] refl (omega arith) next y
+none_join m s n (x ∷ es) e few next y = absurd (omega arith)
 
-  pub call_ends : length ps ≤ room → (next r : State) → next ≡ joined_all (with_pending s (live s)) ps → r ≡ reached next w q → accepted Call r w ≡ with_scheduled s w q x
-  call_ends h next r y z =
-      let l : length (live s) + length ps ≤ 64 = omega (arith, so) in
-      let a : r ≡ ended s w q (live s ++ ps) =
-      z ∙ ap (λ (i : State). reached i w q) (y ∙ all_more s (live s) ps l) ∙ with_reached s w q (live s ++ ps) in
-      ap (λ (i : State). accepted Call i w) a
-      ∙ sym (ap (with_scheduled s w q) e ∙ pick_true _ _ _ (le-leb (length (live s) + length ps) 64 l))
+module _ (s : State) (w : Work) (q : ℕ) where
+  pub call_refused : (x : Scheduled) (n : Question) → Err n ≡ scheduled_state s x → refused s n ≡ with_scheduled s w q x
+  unfolding pick
+  call_refused (no p) n e = let h : n ≡ p = cc in ap (refused s) h
+  call_refused (times ps) n e = go (leb (length (live s) + length ps) max_pending) e
+    where
+      go : (b : Bool) → Err n ≡ pick b (Ok (with_pending s (live s ++ ps))) (Err ask.PendingRoom) → refused s n ≡ pick b (accepted Call (ended s w q (live s ++ ps)) w) (refused s ask.PendingRoom)
+      go true e = cc
+      go false e = let h : n ≡ ask.PendingRoom = cc in ap (refused s) h
+
+  pub call_ends : (x : Scheduled) (next r : State) → Ok next ≡ scheduled_state s x → r ≡ reached next w q → accepted Call r w ≡ with_scheduled s w q x
+  unfolding pick
+  call_ends (no p) next r e f = cc
+  call_ends (times ps) next r e f = go (leb (length (live s) + length ps) max_pending) e
+    where
+      go : (b : Bool) → Ok next ≡ pick b (Ok (with_pending s (live s ++ ps))) (Err ask.PendingRoom) → accepted Call r w ≡ pick b (accepted Call (ended s w q (live s ++ ps)) w) (refused s ask.PendingRoom)
+      go true e =
+          let h : next ≡ with_pending s (live s ++ ps) = cc in
+          ap (λ (i : State). accepted Call i w) (f ∙ ap (λ (i : State). reached i w q) h ∙ with_reached s w q (live s ++ ps))
+      go false e = cc

@@ -6,7 +6,6 @@ use Prim.Native.Nat.{ℕ}
 use native.Mathlib.Omega.{arith}
 use lib.Dec.{leb}
 use Rattle.laws.specs.Choice.{pick}
-use Rattle.laws.proofs.Choice.{true_false}
 use Rattle.contract.specs.Tree.{Contract}
 use Rattle.contract.specs.Decode.{contract_of}
 use Rattle.contract.specs.Check.{passes}
@@ -14,12 +13,12 @@ use Rattle.state.specs.declared.State.{State}
 use Rattle.state.specs.States.{state_ok, due_in}
 use Rattle.outcomes.specs.declared.Stepped.{Stepped}
 use Rattle.outcomes.specs.Outcomes.{refused}
-use Rattle.std.specs.Prelude.{Option, Some, None, is_some, Result, Ok, Err}
+use Rattle.std.specs.Prelude.{Option, Some, None, Result, Ok, Err}
 use Rattle.machine.specs.declared.Whole.{Whole}
 use Rattle.questions.specs.declared.Question.{Question}
 use Rattle.questions.specs.declared.Question.TheVariants as ask
-use Rattle.machine.specs.Steps.{step}
-use Rattle.machine.specs.Private.{admission, admitted, rest_by, at_rest}
+use Rattle.machine.specs.Steps.{ticked, step}
+use Rattle.machine.specs.Private.{admission, admitted, rest_by, at_rest, ticked_with}
 
 -- the table, or the first of the three tests that fails
 abbrev pub first_of : List ℕ → Bool → Bool → Bool → Result (List ℕ) Question
@@ -30,15 +29,6 @@ same_question p q e = cc
 
 pub none_some : {A : Type 0} (q : Question) → Some q ≡ None → A
 none_some q e = let z : ◌≡◌ {A = ℕ} 0 1 = cc in absurd (omega arith)
-
--- whether there is one, by a test
-pub some_is : (d : Option ℕ) → is_some d ≡ true → (k : ℕ) × (d ≡ Some k)
-some_is (Some k) e = (k, refl)
-some_is None e = true_false (sym e)
-
-pub none_is : (d : Option ℕ) → is_some d ≡ false → d ≡ None
-none_is (Some k) e = true_false e
-none_is None e = refl
 
 -- the three tests, and what they lead to
 module _ {A : Type 0} (no : Question → A) (x : A) where
@@ -76,21 +66,27 @@ module _ (w : List ℕ) (room : ℕ) (s : State) (r : Result Whole Question) (e 
 
 -- ---- the questions of a tick, a jump and a call
 
-module _ (c : Contract) (s : State) where
-  pub rests : {u : Unit} → Ok u ≡ at_rest c s → (s.agreed ≡ true) × (due_in c s ≡ None)
+module _ (s : State) (due : Option ℕ) where
+  pub rests : {u : Unit} → Ok u ≡ at_rest s due → (s.agreed ≡ true) × (due ≡ None)
   unfolding at_rest pick
-  rests {u} e = go s.agreed (due_in c s) refl refl e
+  rests {u} e = go s.agreed due refl refl e
     where
-      go : (b : Bool) (d : Option ℕ) → s.agreed ≡ b → due_in c s ≡ d → Ok u ≡ pick b (rest_by d) (Err ask.Agreed) → (s.agreed ≡ true) × (due_in c s ≡ None)
+      go : (b : Bool) (d : Option ℕ) → s.agreed ≡ b → due ≡ d → Ok u ≡ pick b (rest_by d) (Err ask.Agreed) → (s.agreed ≡ true) × (due ≡ None)
       go true None p q r = (p, q)
       go true (Some k) p q r = cc
       go false d p q r = cc
 
-  pub away : (g : Option ℕ → Stepped) → ((k : ℕ) → g (Some k) ≡ refused s ask.NothingDue) → {q : Question} → Err q ≡ at_rest c s → refused s q ≡ pick s.agreed (g (due_in c s)) (refused s ask.Agreed)
+  pub away : (g : Option ℕ → Stepped) → ((k : ℕ) → g (Some k) ≡ refused s ask.NothingDue) → {q : Question} → Err q ≡ at_rest s due → refused s q ≡ pick s.agreed (g due) (refused s ask.Agreed)
   unfolding at_rest pick
-  away g h {q} e = go s.agreed (due_in c s) e
+  away g h {q} e = go s.agreed due e
     where
       go : (b : Bool) (d : Option ℕ) → Err q ≡ pick b (rest_by d) (Err ask.Agreed) → refused s q ≡ pick b (g d) (refused s ask.Agreed)
       go true None r = cc
       go true (Some k) r = let p : q ≡ ask.NothingDue = cc in ap (refused s) p ∙ sym (h k)
       go false d r = let p : q ≡ ask.Agreed = cc in ap (refused s) p
+
+-- ---- a tick by the event that is due
+module _ (c : Contract) (s : State) {due : Option ℕ} (e : due ≡ due_in c s) where
+  pub ticks_so : ticked_with s due ≡ ticked c s
+  unfolding ticked
+  ticks_so = ap (ticked_with s) e

@@ -13,3 +13,4 @@ pub mod Taken
 pub mod Pendings
 pub mod Playing
 pub mod Refusals
+pub mod Cleared

@@ -1,9 +1,11 @@
--- Steps keep the labels of an answer at their number. Assumes nothing.
-use mathlib.Core.Path.{◌≡◌, refl, ◌∙◌}
+-- Steps keep the labels of an answer at their number, and blank after those sent. Assumes nothing.
+use mathlib.Core.Path.{◌≡◌, refl, sym, ap, ◌∙◌}
+use native.Mathlib.Omega.{arith}
 use mathlib.Core.Bool.{true, false}
 use mathlib.Core.List.{List, [], ◌∷◌, ◌++◌}
-use Prim.Native.Nat.{ℕ, suc, ◌+◌, ◌-◌, ◌≤◌}
-use lib.ListN.{length, get_or, length-set, drop}
+use Prim.Native.Nat.{ℕ, zero, suc, ◌+◌, ◌-◌, ◌≤◌}
+use lib.ListN.{length, get_or, set, length-set, drop}
+use Rattle.std.proofs.lemmas.List.{drop-set-lt}
 use lib.Dec.{eqb}
 use lib.IntN.{ℤ, pos, negsuc, nat_abs}
 use borrow.Author.Tests.{leb-true}
@@ -18,7 +20,7 @@ use Rattle.std.specs.Prelude.{Option, Some, None, Ok, Err}
 use Rattle.state.specs.States.{blank, live, event_of, due_in, removed, opened, time_passed, passed_times, times_until_due}
 use Rattle.laws.specs.Lists.{every}
 use Rattle.statements.specs.Running.{Work, integer_label, string_label, asset_label, memory_in, onward, stored, labelled, sent, receiver, place, moved, paid, with_value, with_amount, performed, by_truth, ran}
-use Rattle.statements.proofs.Silent.{ran_silent}
+use Rattle.statements.specs.declared.Label.{Label}
 use Rattle.lines.specs.Lines.{Asked, asked}
 use Rattle.lines.specs.Lines as lines
 use Rattle.outcomes.specs.declared.Rule.TheVariants.{Agree, Call, EventMatch, Tick}
@@ -140,12 +142,25 @@ module _ (c : Contract) (s : State) where
 
 -- ---- the labels
 
+-- there is one for each place, and those after the ones that were sent are blank
+abbrev pub Left : List Label → ℕ → Type 0
+Left ls n = (length ls ≡ 64) × (drop n ls ≡ drop n no_labels)
+
 abbrev Labels : Work → Type 0
-Labels w = length w.labels ≡ 64
+Labels w = Left w.labels w.count
+
+drop_more : (n : ℕ) (l : List Label) → drop (suc n) l ≡ drop 1 (drop n l)
+drop_more zero l = refl
+drop_more (suc n) [] = refl
+drop_more (suc n) (x ∷ l) = drop_more n l
+
+left_more : (ls : List Label) (n : ℕ) (l : Label) → Left ls n → Left (set ls n l) (suc n)
+left_more ls n l h =
+    (length-set ls n l ∙ h.0, drop-set-lt (suc n) ls n l (omega arith) ∙ drop_more n ls ∙ ap (drop 1) h.1 ∙ sym (drop_more n no_labels))
 
 labelled_labels : (w : Work) (kind party : ℕ) (value : ℤ) → Labels w → Labels (labelled w kind party value)
 unfolding labelled
-labelled_labels w kind party value h = by_cases Labels _ _ _ (λ _. length-set w.labels w.count _ ∙ h) (λ _. h)
+labelled_labels w kind party value h = by_cases Labels _ _ _ (λ _. left_more w.labels w.count _ h) (λ _. h)
 
 sent_labels : (w : Work) (a : ℕ) (v : Value) → Labels w → Labels (sent w a v)
 sent_labels w a (Integer z) h = labelled_labels w integer_label a z h
@@ -202,36 +217,23 @@ module _ (v : List ℤ) (t : ℕ) where
       (λ g. truth_labels (ran v t w b) (ran v t (ran v t w b) s) (truth_of (memory_in v t (ran v t w b)) u) g (ran_labels (ran v t w b) s g))
   ran_labels w broken_block h = h
 
-outcome_labels : {s : State} {r : Stepped} → Outcomes s r → length r.labels ≡ 64
-outcome_labels (refusal n) = repeated_length 64 no_label
-outcome_labels (agrees c ps) = repeated_length 64 no_label
-outcome_labels {s} (calls v hs b q ps l) = ran_labels v s.clock (begun s hs) b (repeated_length 64 no_label)
-outcome_labels {s} (fires k b q) = ran_labels [] s.clock (begun s []) b (repeated_length 64 no_label)
-outcome_labels (fails k n) = repeated_length 64 no_label
-outcome_labels ticks = repeated_length 64 no_label
-outcome_labels (jumps n) = repeated_length 64 no_label
+none_left : Left no_labels 0
+none_left = (repeated_length 64 no_label, refl)
 
--- a step that sent no label left none
-outcome_blank : {s : State} {r : Stepped} → Outcomes s r → r.count ≡ 0 → r.labels ≡ no_labels
-outcome_blank (refusal n) e = refl
-outcome_blank (agrees c ps) e = refl
-outcome_blank {s} (calls v hs b q ps l) e = (ran_silent v s.clock (begun s hs) b e).1
-outcome_blank {s} (fires k b q) e = (ran_silent [] s.clock (begun s []) b e).1
-outcome_blank (fails k n) e = refl
-outcome_blank ticks e = refl
-outcome_blank (jumps n) e = refl
+outcome_labels : {s : State} {r : Stepped} → Outcomes s r → Left r.labels r.count
+outcome_labels (refusal n) = none_left
+outcome_labels (agrees c ps) = none_left
+outcome_labels {s} (calls v hs b q ps l) = ran_labels v s.clock (begun s hs) b none_left
+outcome_labels {s} (fires k b q) = ran_labels [] s.clock (begun s []) b none_left
+outcome_labels (fails k n) = none_left
+outcome_labels ticks = none_left
+outcome_labels (jumps n) = none_left
 
 -- ---- firings and lines
 
 module _ (c : Contract) (s : State) where
-  pub labels_fired : length (fired c s).labels ≡ 64
+  pub labels_fired : Left (fired c s).labels (fired c s).count
   labels_fired = outcome_labels (fired_outcomes c s)
 
-  pub labels_taken : (line : List ℕ) → length (taken c s line).labels ≡ 64
+  pub labels_taken : (line : List ℕ) → Left (taken c s line).labels (taken c s line).count
   labels_taken line = outcome_labels (taken_outcomes c s line (asked line))
-
-  pub blank_fired : (fired c s).count ≡ 0 → (fired c s).labels ≡ no_labels
-  blank_fired = outcome_blank (fired_outcomes c s)
-
-  pub blank_taken : (line : List ℕ) → (taken c s line).count ≡ 0 → (taken c s line).labels ≡ no_labels
-  blank_taken line = outcome_blank (taken_outcomes c s line (asked line))

@@ -6,7 +6,7 @@ use Prim.Native.Nat.{ℕ, zero, suc, ◌+◌, ◌-◌, ◌*◌, ◌≤◌, ◌<�
 use native.Mathlib.Omega.{arith}
 use lib.Dec.{leb}
 use lib.IntN.{ℤ}
-use lib.ListN.{length, take, length-append}
+use lib.ListN.{length, take, drop, length-append}
 use lib.Seq.{sets}
 use borrow.Author.Tests.{lt-ltb, le-ltb, le-leb, lt-leb, leb-true, leb-false}
 use Rattle.laws.specs.Choice.{pick}
@@ -29,17 +29,17 @@ use Rattle.machine.specs.declared.Next.{Next}
 use Rattle.machine.specs.declared.Next.TheVariants as next
 use Rattle.machine.specs.declared.Played.{Played}
 use Rattle.machine.specs.Sessions.{Said, said, heard, end_of_line, Turn, takes, wait, turn_by_due, turn_at, Session, here, before, on_turn, session_for, session, played, reports_of}
-use Rattle.machine.specs.Private.{admission, admitted, stepped_in, taken_by, taken, said_of, turn_of, EndsWithin, PlayedIs}
+use Rattle.machine.specs.Private.{admission, admitted, stepped_in, taken_by, taken, said_of, due_of, turn_of, PlayedIs}
 use Rattle.step_reports.specs.Reports.{report_of, label_reports, told as lines_told, room_in, has_room, step_reports}
 use Rattle.step_reports.proofs.Reports.{Told, told_none, told_more, numbers_kept, integers_kept, sent_length, words_told}
 use Rattle.questions.specs.declared.Question.{Question}
 use Rattle.machine.proofs.Gates.{first_of, stops, goes}
-use Rattle.machine.proofs.Pendings.{labels_fired, labels_taken, blank_fired, blank_taken}
+use Rattle.machine.proofs.Pendings.{Left, labels_fired, labels_taken}
 
 -- ---- what a turn takes up
 
 module _ (c : Contract) (bytes : List ℕ) (s : State) (at : ℕ) where
-  pub turn_fires : {d : Option ℕ} (k : ℕ) → d ≡ due_in c s → d ≡ Some k → turn_at c bytes s at ≡ turn_of bytes at (Some next.Event)
+  pub turn_fires : {d : Option ℕ} (k : ℕ) → d ≡ due_in c s → d ≡ Some k → turn_at c bytes s at ≡ turn_of bytes at (Some (next.Event k))
   unfolding turn_at
   turn_fires k f e = ap (turn_by_due bytes at) (sym f ∙ e)
 
@@ -63,28 +63,23 @@ pub line_heard : (c : Contract) (s : State) (bytes : List ℕ) (at end : ℕ) {l
 unfolding taken_by
 line_heard c s bytes at end e f = ap (taken c s) e ∙ sym (ap (λ (x : Next). heard c s (said_of bytes at x)) f)
 
-pub some_within : (size : ℕ) (n : Next) {r : Option Next} → IfSome r (λ x. EndsWithin size x) → r ≡ Some n → EndsWithin size n
-some_within size n h e = subst (λ (r : Option Next). IfSome r (λ x. EndsWithin size x)) e h
-
-pub within_more : (a b : ℕ) (n : Next) → EndsWithin a n → a ≤ b → EndsWithin b n
-within_more a b next.Event h l = tt
-within_more a b (next.Line end) h l = omega arith
+pub some_due : (due : Option ℕ) (n : Next) {r : Option Next} → IfSome r (λ x. due ≡ due_of x) → r ≡ Some n → due ≡ due_of n
+some_due due n h e = subst (λ (r : Option Next). IfSome r (λ x. due ≡ due_of x)) e h
 
 -- ---- turns
 
 module _ (c : Contract) (s : State) where
   abbrev Kept : Turn → Type 0
   Kept wait = Unit
-  Kept (takes x next) =
-      (length (heard c s x).labels ≡ 64) × ((heard c s x).count ≡ 0 → (heard c s x).labels ≡ no_labels)
+  Kept (takes x next) = Left (heard c s x).labels (heard c s x).count
 
   module _ (bytes : List ℕ) (at : ℕ) where
     line_kept : (line : List ℕ) (next : ℕ) → Kept (takes (said line) next)
     unfolding taken_by
-    line_kept line next = (labels_taken c s line, blank_taken c s line)
+    line_kept line next = labels_taken c s line
 
     kept_by : (d : Option ℕ) → Kept (turn_by_due bytes at d)
-    kept_by (Some k) = (labels_fired c s, blank_fired c s)
+    kept_by (Some k) = labels_fired c s
     kept_by None = by_cases Kept _ _ _ (λ _. line_kept (between bytes at (end_of_line bytes at)) (suc (end_of_line bytes at))) (λ _. tt)
 
     kept : Kept (turn_at c bytes s at)
@@ -170,11 +165,10 @@ module _ {c : Contract} {bytes : List ℕ} {room : ℕ} {numbers : List ℕ} {in
     ended_wait h =
         ended (g.same ∙ ap (before g.so) (session_wait (heard c) c bytes (room - n) s at g.turns h))
 
-    -- a turn that sent no label left none
-    pub left_blank : {next : ℕ} (r : Reply) (now : State) (ws : List ℤ) → Made c s next (stepped_in r now ws) (turn_at c bytes s at) → r.count ≡ 0 → labels_from ws ≡ no_labels
-    left_blank {next} r now ws w z =
-        let k = subst (Kept c s) w.turned (kept c s bytes at) in
-        ap (λ (x : Stepped). x.labels) w.came_so ∙ k.1 (sym (ap (λ (x : Stepped). x.count) w.came_so) ∙ z)
+    -- after the labels that a turn sent there are none
+    pub left_blank : {next : ℕ} (r : Reply) (now : State) (ws : List ℤ) → Made c s next (stepped_in r now ws) (turn_at c bytes s at) → drop r.count (labels_from ws) ≡ drop r.count no_labels
+    left_blank {next} r now ws w =
+        (subst (λ (x : Stepped). Left x.labels x.count) (sym w.came_so) (subst (Kept c s) w.turned (kept c s bytes at))).1
 
     -- there is room for the result lines of a step
     module _ (enough : 65 ≤ room - n) (whole : room ≡ room_in (length numbers) (length integers)) where

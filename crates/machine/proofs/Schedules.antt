@@ -17,11 +17,9 @@ use Rattle.evaluation.specs.Meaning.{value_of}
 use Rattle.state.specs.declared.State.{State}
 use Rattle.state.specs.declared.Pending.{Pending}
 use Rattle.state.specs.States.{no_event, joined_by}
-use Rattle.statements.specs.Running.{Work}
-use Rattle.outcomes.specs.Outcomes.{refused}
 use Rattle.questions.specs.declared.Question.{Question}
 use Rattle.questions.specs.declared.Question.TheVariants as ask
-use Rattle.machine.specs.Steps.{Scheduled, times, no, scheduled, schedule, with_scheduled}
+use Rattle.machine.specs.Steps.{Scheduled, times, no, scheduled, schedule}
 use Rattle.numbers.specs.Numbers.{Answer}
 use Rattle.std.specs.Prelude.{Ok, Err}
 
@@ -128,8 +126,3 @@ module _ (m : Memory) (t n : ℕ) (s : State) (es : List Event) where
               many = x ∙ k.many;
               few = omega arith;
             }
-
--- ---- the call's end
-module _ (s : State) (w : Work) (q : ℕ) where
-  pub ends_no : (x : Scheduled) (n : Question) → x ≡ no n → refused s n ≡ with_scheduled s w q x
-  ends_no x n e = sym (ap (with_scheduled s w q) e)

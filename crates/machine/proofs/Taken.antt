@@ -4,7 +4,7 @@ use mathlib.Core.Bool.{true}
 use mathlib.Core.List.{List, [], ◌∷◌, ◌++◌}
 use Prim.Native.Nat.{ℕ, ◌+◌, ◌*◌, ◌/◌, ◌≤◌}
 use native.Mathlib.Omega.{arith}
-use lib.ListN.{length, take, drop, length-append}
+use lib.ListN.{length, take, drop}
 use lib.Seq.{take-append_seam, drop-append_seam}
 use lib.Dec.{eqb}
 use lib.IntN.{ℤ, pos}
@@ -22,7 +22,7 @@ use Rattle.std.specs.Prelude.{Some, None, Ok, Err}
 use Rattle.lines.specs.declared.Agreement.{Agreement}
 use Rattle.lines.specs.declared.Request.TheVariants as request
 use Rattle.lines.proofs.Flat.{spans_append, values_append, spans_length, values_length, heads_length}
-use Rattle.lines.proofs.Told.{told_refused, told_tick, told_jump, told_call, told_agreement, padded_room, padded_front, padded_first, padded_second}
+use Rattle.lines.proofs.Told.{told_refused, told_tick, told_jump, told_call, told_agreement, padded_front, front_room, front_first, front_second}
 use Rattle.outcomes.specs.declared.Stepped.{Stepped}
 use Rattle.outcomes.specs.Outcomes.{refused}
 use Rattle.machine.specs.Steps.{ticked, jumped}
@@ -113,33 +113,31 @@ module _ (c : Contract) (s : State) (line : List ℕ) where
   unfolding request_of
   call_same k r e = cc
 
-  -- what was read of a call, and its integers
+  -- what was read of a call, and its integers, which come first in a list
   pub record CallRead (a : Asked) (r : read.Call) (zs : List ℤ) : Type 0 where
-    pub room : r.values + r.assets ≤ 256
+    pub room : r.values + r.assets ≤ length zs
     pub does : called_by c s (between line r.party.start r.party.end) (between line r.function.start r.function.end) (take r.values zs) (take r.assets (drop r.values zs)) ≡ taken_by c s line a
 
-  call_read : (k : lines.Call) → length (padded (pos 0) 256 (k.lists.values ++ k.lists.assets)) ≡ 256 → CallRead (lines.call k) (call_of k) (padded (pos 0) 256 (k.lists.values ++ k.lists.assets))
+  call_read : (k : lines.Call) (zs : List ℤ) → take (length (k.lists.values ++ k.lists.assets)) zs ≡ k.lists.values ++ k.lists.assets → CallRead (lines.call k) (call_of k) zs
   unfolding taken_by
-  call_read k l =
+  call_read k zs f =
       let vs = k.lists.values in
       let hs = k.lists.assets in
       let n = k.names in
       record {
-        room = omega (arith, padded_room (pos 0) 256 (vs ++ hs) l, length-append vs hs);
+        room = front_room zs vs hs f;
         does =
-            ap (λ (x : List ℤ). called_by c s (name_in line n.party) (name_in line n.function) x (take (length hs) (drop (length vs) (padded (pos 0) 256 (vs ++ hs))))) (padded_first (pos 0) 256 vs hs)
-            ∙ ap (λ (x : List ℤ). called_by c s (name_in line n.party) (name_in line n.function) vs x) (padded_second (pos 0) 256 vs hs);
+            ap (λ (x : List ℤ). called_by c s (name_in line n.party) (name_in line n.function) x (take (length hs) (drop (length vs) zs))) (front_first zs vs hs f)
+            ∙ ap (λ (x : List ℤ). called_by c s (name_in line n.party) (name_in line n.function) vs x) (front_second zs vs hs f);
       }
 
-  pub does_call : (a : Asked) (r : read.Call) (zs : List ℤ) → Ok (request.Call r) ≡ request_of a → zs ≡ padded (pos 0) 256 (numbers_of a) → length zs ≡ 256 → CallRead a r zs
-  does_call a r zs f g l =
+  pub does_call : (a : Asked) (r : read.Call) (zs : List ℤ) → Ok (request.Call r) ≡ request_of a → take (length (numbers_of a)) zs ≡ numbers_of a → CallRead a r zs
+  does_call a r zs f g =
       let k = told_call a (sym f) in
       let p : call_of k.asks ≡ r = call_same k.asks r (f ∙ ap request_of k.is) in
-      let z : zs ≡ padded (pos 0) 256 (k.asks.lists.values ++ k.asks.lists.assets) = g ∙ ap (λ (x : Asked). padded (pos 0) 256 (numbers_of x)) k.is in
-      let m : length (padded (pos 0) 256 (k.asks.lists.values ++ k.asks.lists.assets)) ≡ 256 = ap length (sym z) ∙ l in
-      subst (λ (x : Asked). CallRead x r zs) (sym k.is)
-      (subst (λ (x : read.Call). CallRead (lines.call k.asks) x zs) p
-      (subst (λ (x : List ℤ). CallRead (lines.call k.asks) (call_of k.asks) x) (sym z) (call_read k.asks m)))
+      let z : take (length (k.asks.lists.values ++ k.asks.lists.assets)) zs ≡ k.asks.lists.values ++ k.asks.lists.assets =
+      subst (λ (x : Asked). take (length (numbers_of x)) zs ≡ numbers_of x) k.is g in
+      subst (λ (x : Asked). CallRead x r zs) (sym k.is) (subst (λ (x : read.Call). CallRead (lines.call k.asks) x zs) p (call_read k.asks zs z))
 
   -- ---- an agreement
 

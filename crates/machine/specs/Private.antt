@@ -1,5 +1,5 @@
 -- What the parts of the code work out.
-use Rattle.std.specs.Prelude.{ℕ, suc, ◌<◌, true, ◌≡◌, List, [], length, leb, ℤ, pos, nat_abs, Option, Some, None, Result, Ok, Err}
+use Rattle.std.specs.Prelude.{ℕ, suc, ◌+◌, ◌<◌, true, ◌≡◌, List, [], ◌++◌, length, leb, ℤ, pos, nat_abs, Option, Some, None, Result, Ok, Err}
 use Rattle.std.specs.Int.Signed.{le_z}
 use Rattle.std.proofs.lemmas.List.Edits.{sets}
 use Rattle.laws.specs.Choice.{pick}
@@ -9,14 +9,14 @@ use Rattle.contract.specs.Decode.{block_between, function_at, contract_of}
 use Rattle.contract.specs.Check.{passes}
 use Rattle.lines.specs.Lines.{Asked, asked}
 use Rattle.state.specs.declared.State.{State}
-use Rattle.state.specs.States.{fresh_at, with_state, state_ok, due_in}
+use Rattle.state.specs.States.{max_pending, fresh_at, with_state, live, with_pending, state_ok}
 use Rattle.statements.specs.declared.Label.{Label}
 use Rattle.statements.specs.Running.{Work, memory_in, ran, labels_from}
 use Rattle.outcomes.specs.declared.Rule.TheVariants.{Call, EventMatch, Tick}
 use Rattle.outcomes.specs.Outcomes.{answered, refused}
 use Rattle.holdings.specs.Holdings.{reached}
 use Rattle.tokens.specs.Tokens.{between}
-use Rattle.machine.specs.Steps.{firing, accepted, begun, unless_refused, schedule, with_scheduled, room_needed}
+use Rattle.machine.specs.Steps.{firing, accepted, begun, unless_refused, Scheduled, times, no, schedule, with_scheduled, tick_by_due, room_needed}
 use Rattle.machine.specs.declared.Handler.{Handler}
 use Rattle.outcomes.specs.declared.Outcome.{Outcome}
 use Rattle.outcomes.specs.declared.Outcome.TheVariants.{Accepted}
@@ -54,8 +54,12 @@ abbrev pub rest_by : Option ℕ → Result Unit Question
 rest_by (Some k) = Err ask.NothingDue
 rest_by None = Ok tt
 
-unfoldable pub at_rest : Contract → State → Result Unit Question
-at_rest c s = pick s.agreed (rest_by (due_in c s)) (Err ask.Agreed)
+unfoldable pub at_rest : State → Option ℕ → Result Unit Question
+at_rest s due = pick s.agreed (rest_by due) (Err ask.Agreed)
+
+-- a tick, by the event that is due
+abbrev pub ticked_with : State → Option ℕ → Stepped
+ticked_with s due = pick s.agreed (tick_by_due s due) (refused s ask.Agreed)
 
 -- what came of a tick or a jump
 abbrev pub passage : Result Unit Question → Outcome
@@ -93,12 +97,17 @@ taken c s line = taken_by c s line (asked line)
 
 -- what is said by what is taken up from a place on, and where the next line starts after it
 abbrev pub said_of : List ℕ → ℕ → Next → Said
-said_of bytes at next.Event = asks firing
+said_of bytes at (next.Event k) = asks firing
 said_of bytes at (next.Line end) = said (between bytes at end)
 
 abbrev pub place_after : ℕ → Next → ℕ
-place_after at next.Event = at
+place_after at (next.Event k) = at
 place_after at (next.Line end) = suc end
+
+-- the event that is due where it is taken up: none where a line is
+abbrev pub due_of : Next → Option ℕ
+due_of (next.Event k) = Some k
+due_of (next.Line end) = None
 
 -- a turn, by what is taken up
 abbrev pub turn_of : List ℕ → ℕ → Option Next → Turn
@@ -107,7 +116,7 @@ turn_of bytes at None = wait
 
 -- its line, if it is one, ends before a place
 abbrev pub EndsWithin : ℕ → Next → Type 0
-EndsWithin size next.Event = Unit
+EndsWithin size (next.Event k) = Unit
 EndsWithin size (next.Line end) = end < size
 
 -- a session's answer, and its result lines as numbers
@@ -152,6 +161,16 @@ ran_on s b = ran [] s.clock (begun s []) b
 -- a handler has run; `left` is the state without its event
 abbrev pub handled_by : State → ℕ → Work → Stepped
 handled_by left q w = unless_refused w.refusal (λ x. answered (outcome.Failed x) left) (accepted EventMatch (reached left w q) w)
+
+-- the state with the events of a call, or the question that refuses them
+abbrev pub scheduled_state : State → Scheduled → Result State Question
+scheduled_state s (no q) = Err q
+scheduled_state s (times ps) = pick (leb (length (live s) + length ps) max_pending) (Ok (with_pending s (live s ++ ps))) (Err ask.PendingRoom)
+
+-- the state that is left, which is free after a refusal
+abbrev pub left_by : Result Unit Question → State → Result State Question
+left_by (Ok x) s = Ok s
+left_by (Err q) s = Err q
 
 -- the body has run and left nothing: the guards with the memory reached, then the call's end
 abbrev pub concluded : State → ℕ → Function → List ℤ → Work → Stepped

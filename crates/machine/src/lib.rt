@@ -6,18 +6,18 @@ ghost use Rattle.std.proofs.lemmas.List.Edits.{sets};
 ghost use Rattle.contract.specs.Table.{word_at};
 ghost use Rattle.contract.specs.Rows.{event_row_of, function_row_of};
 ghost use Rattle.contract.specs.Decode.{block_between, precondition_at, event_at, function_at, contract_of};
-ghost use Rattle.evaluation.specs.Memory.{lent};
+ghost use Rattle.evaluation.specs.Memory.{lent, memory_of};
 ghost use Rattle.evaluation.specs.Meaning.{value_of};
-ghost use Rattle.state.specs.States.{live, event_of};
+ghost use Rattle.state.specs.States.{live, event_of, due_in};
 ghost use Rattle.statements.specs.declared.Label.{Label};
 ghost use Rattle.statements.specs.Running.{ran, labels_from, work_from};
 ghost use Rattle.outcomes.specs.Outcomes.{no_labels, answered};
-ghost use Rattle.machine.specs.Steps.{answers_to, precondition_holds, finished, invoked, fire_by_due, step, called, fired, ticked, jumped};
+ghost use Rattle.machine.specs.Steps.{answers_to, precondition_holds, schedule, finished, invoked, fire_by_due, step, called, fired, ticked, jumped};
 ghost use Rattle.results.specs.Coded.{coded_all, integers_of};
 ghost use Rattle.step_reports.specs.Reports.{room_in};
 ghost use Rattle.machine.specs.Sessions.{played, reports_of};
 ghost use Rattle.agreements.specs.Agreement.{parts_in, agreed_on};
-ghost use Rattle.machine.specs.Private.{admission, admitted, not_before, at_rest, passage, silent, reply_of, stepped_in, ended_call, naming, in_state, arguments, FoundIn, HandlerOf, ran_on, handled_by, concluded};
+ghost use Rattle.machine.specs.Private.{admission, admitted, not_before, at_rest, passage, silent, reply_of, stepped_in, ended_call, ticked_with, naming, in_state, arguments, FoundIn, HandlerOf, ran_on, handled_by, scheduled_state, left_by, concluded};
 
 use contract::{Event, Function};
 use evaluation::{Holdings, Memory};
@@ -46,11 +46,11 @@ struct Reply {
     count: usize,
 }
 
-// What is taken up next: an event that is due, or a line, by the place of its LF.
+// What is taken up next: the event that is due, by its place among the pending ones, or a line, by the place of its LF.
 // Kept: (d) both variants are something that is taken up, and that nothing is stands as `None` around it: no second `Option`.
 #[derive(Clone, Copy)]
 enum Next {
-    Event,
+    Event(usize),
     Line(usize),
 }
 
@@ -126,25 +126,25 @@ fn with_labels(r: Reply, s: State, labels: &[i64; Label::ROOM]) -> Stepped
 
 // ---- Tick and jump.
 
-// The first two questions of a tick, a jump and a call: is the contract agreed, and is nothing due?
+// The first two questions of a tick, a jump and a call, by the event that is due: is the contract agreed, and is there none?
 #[tactic(auto, unfolding(crate::specs::Private::at_rest, laws::specs::Choice::pick))]
-fn at_rest(table: &[u64], s: &State) -> Result<(), Question>
-    ensures { result ≡ at_rest (contract_of table.now) s.now }
+fn at_rest(s: &State, due: Option<usize>) -> Result<(), Question>
+    ensures { result ≡ at_rest s.now due }
 {
     if !s.agreed {
         return Err(Question::Agreed);
     }
-    if s.first_due(table).is_some() {
+    if due.is_some() {
         return Err(Question::NothingDue);
     }
     Ok(())
 }
 
-// A tick on a contract's state.
-fn tick_on(table: &[u64], s: &mut State) -> Result<(), Question>
-    ensures { answered (passage result) s.new ≡ ticked (contract_of table.now) s.old }
+// A tick on a state, by the event that is due: it goes by that alone, so it has no table.
+fn tick_on(s: &mut State, due: Option<usize>) -> Result<(), Question>
+    ensures { answered (passage result) s.new ≡ ticked_with s.old due }
 {
-    at_rest(table, s)?;
+    at_rest(s, due)?;
     let clock = s.clock;
     if State::TOP <= clock {
         return Err(Question::ClockBelowTop);
@@ -153,11 +153,12 @@ fn tick_on(table: &[u64], s: &mut State) -> Result<(), Question>
     Ok(())
 }
 
-// A jump on a contract's state: its cost goes by the pending events, however far it goes.
-fn jump_on(table: &[u64], s: &mut State, to: i64) -> Result<(), Question>
+// A jump on a contract's state, by the event that is due: its cost goes by the pending events, however far it goes.
+fn jump_on(table: &[u64], s: &mut State, due: Option<usize>, to: i64) -> Result<(), Question>
+    requires { due ≡ due_in (contract_of table.now) s.old }
     ensures { answered (passage result) s.new ≡ jumped (contract_of table.now) s.old to }
 {
-    at_rest(table, s)?;
+    at_rest(s, due)?;
     let Some(time) = not_before(s.clock, to) else {
         return Err(Question::TimeNotPast);
     };
@@ -255,15 +256,20 @@ fn handle(table: &[u64], s: &mut State, k: usize, labels: &mut [i64; Label::ROOM
     run_handler(table, s, h, labels)
 }
 
-// A firing on a contract's state.
-fn fire_on(table: &[u64], s: &mut State, labels: &mut [i64; Label::ROOM]) -> Reply
-    requires { labels_from labels.old ≡ no_labels }
+// A firing on a contract's state, by the event that is due.
+fn fire_on(
+    table: &[u64],
+    s: &mut State,
+    due: Option<usize>,
+    labels: &mut [i64; Label::ROOM],
+) -> Reply
+    requires due { due ≡ due_in (contract_of table.now) s.old }
+    requires no_labels { labels_from labels.old ≡ no_labels }
     ensures { stepped_in result s.new labels.new ≡ fired (contract_of table.now) s.old }
 {
     if !s.agreed {
         return silent(Outcome::Refused(Question::Agreed));
     }
-    let due = s.first_due(table);
     let Some(k) = due else {
         return silent(Outcome::Refused(Question::SomethingDue));
     };
@@ -339,9 +345,9 @@ fn guard(memory: &Memory, first: usize, j: usize) -> Result<Value, Question>
 }
 
 impl Called<'_> {
-    // Its events are scheduled, and the call ends.
-    fn conclude(&self, s: &mut State, memory: &Memory) -> Result<(), Question>
-        ensures { (n : ℕ) → (ls : List Label) → ended_call result s.new ls n ≡ concluded s.old self.now.n (function_at self.now.terms.table.now self.now.n) memory.now.values.now (work_from memory.now.kinds.now memory.now.numbers.now memory.now.texts.now memory.now.holdings.now ls n None) }
+    // Its events join those that are pending, if there is room for so many more; where a question refuses, the state that is left is free.
+    fn schedule(&self, s: &mut State, memory: &Memory) -> Result<(), Question>
+        ensures { left_by result s.new ≡ scheduled_state s.old (schedule (memory_of memory.now.kinds.now memory.now.numbers.now memory.now.texts.now memory.now.holdings.now memory.now.values.now s.old.clock) s.old.clock self.now.n 0 (function_at self.now.terms.table.now self.now.n).events) }
     {
         let row = self.row;
         // The caller's memory has this table and clock too; so no clause has to say it.
@@ -350,9 +356,8 @@ impl Called<'_> {
             clock: s.clock,
             ..*memory
         };
-        let mut next = *s;
-        next.clear_rest();
-        let room = State::PENDING.saturating_sub(s.pending);
+        let room = State::PENDING - s.live().len();
+        s.clear_rest();
         let mut joined: usize = 0;
         for j in 0..row.events {
             let answer = guard(&memory, row.event, j);
@@ -363,8 +368,8 @@ impl Called<'_> {
             let Value::Integer(z) = value else {
                 return Err(Question::OperandKind);
             };
-            if let Some(time) = not_before(s.clock, z) {
-                next.join(Pending {
+            if let Some(time) = not_before(memory.clock, z) {
+                s.join(Pending {
                     function: self.n as u8,
                     event: j as u8,
                     time,
@@ -376,8 +381,27 @@ impl Called<'_> {
         if full {
             return Err(Question::PendingRoom);
         }
-        holdings::reach(&mut next, &memory, row.last);
-        *s = next;
+        Ok(())
+    }
+
+    // Its events are scheduled, and the call ends.
+    // Kept: (b) a state is copied only where an event may be refused: with a copy of it for each call, changed and copied back, a desk took
+    // 68,052,865 instructions for a mixed session, where it takes 64,424,505 (two builds without proof of one tree).
+    fn conclude(&self, s: &mut State, memory: &Memory) -> Result<(), Question>
+        ensures { (n : ℕ) → (ls : List Label) → ended_call result s.new ls n ≡ concluded s.old self.now.n (function_at self.now.terms.table.now self.now.n) memory.now.values.now (work_from memory.now.kinds.now memory.now.numbers.now memory.now.texts.now memory.now.holdings.now ls n None) }
+    {
+        let row = self.row;
+        let no_events = row.events == 0;
+        if no_events {
+            s.clear_rest();
+        } else {
+            let before = *s;
+            if let Err(question) = self.schedule(s, memory) {
+                *s = before;
+                return Err(question);
+            }
+        }
+        holdings::reach(s, memory, row.last);
         Ok(())
     }
 
@@ -473,21 +497,23 @@ impl Called<'_> {
 }
 
 impl Whole<'_> {
-    // A call on a contract's state.
+    // A call on a contract's state, by the event that is due.
     fn call_on(
         &self,
         s: &mut State,
+        due: Option<usize>,
         caller: &[u8],
         function: &[u8],
         values: &[i64],
         assets: &[i64],
         labels: &mut [i64; Label::ROOM],
     ) -> Result<usize, Question>
-        requires { labels_from labels.old ≡ no_labels }
+        requires due { due ≡ due_in (contract_of self.now.terms.table.now) s.old }
+        requires no_labels { labels_from labels.old ≡ no_labels }
         ensures { stepped_in (reply_of result) s.new labels.new ≡ called (contract_of self.now.terms.table.now) s.old (record { caller = caller.now; function = function.now; values = values.now; assets = assets.now }) }
     {
         let table = self.terms.table;
-        at_rest(table, s)?;
+        at_rest(s, due)?;
         let found = self.find_function(s.state, caller, function);
         let Some(n) = found else {
             return Err(Question::FunctionKnown);
@@ -564,9 +590,18 @@ pub fn call(
         Ok(whole) => whole,
         Err(q) => return outcomes::refuse(s, q),
     };
+    let due = s.first_due(whole.terms.table);
     let mut next = s;
     let mut labels = [0i64; Label::ROOM];
-    let r = whole.call_on(&mut next, caller, function, values, assets, &mut labels);
+    let r = whole.call_on(
+        &mut next,
+        due,
+        caller,
+        function,
+        values,
+        assets,
+        &mut labels,
+    );
     with_labels(call_reply(r), next, &labels)
 }
 
@@ -577,9 +612,10 @@ pub fn fire(table: &[u64], s: State, room: usize) -> Stepped
     if let Err(q) = Whole::admit(table, &s, room) {
         return outcomes::refuse(s, q);
     }
+    let due = s.first_due(table);
     let mut next = s;
     let mut labels = [0i64; Label::ROOM];
-    let r = fire_on(table, &mut next, &mut labels);
+    let r = fire_on(table, &mut next, due, &mut labels);
     with_labels(r, next, &labels)
 }
 
@@ -590,8 +626,9 @@ pub fn tick(table: &[u64], s: State, room: usize) -> Stepped
     if let Err(q) = Whole::admit(table, &s, room) {
         return outcomes::refuse(s, q);
     }
+    let due = s.first_due(table);
     let mut next = s;
-    let r = tick_on(table, &mut next);
+    let r = tick_on(&mut next, due);
     outcomes::answer(passage(r), next)
 }
 
@@ -602,8 +639,9 @@ pub fn jump(table: &[u64], s: State, room: usize, to: i64) -> Stepped
     if let Err(q) = Whole::admit(table, &s, room) {
         return outcomes::refuse(s, q);
     }
+    let due = s.first_due(table);
     let mut next = s;
-    let r = jump_on(table, &mut next, to);
+    let r = jump_on(table, &mut next, due, to);
     outcomes::answer(passage(r), next)
 }
 

@@ -6,7 +6,7 @@ use Rattle.contract.specs.Decode.{contract_of}
 use Rattle.outcomes.specs.declared.Stepped.{Stepped}
 use Rattle.contract.specs.Tree.{Contract}
 use Rattle.laws.specs.Lists.{repeated}
-use Rattle.machine.specs.Steps.{called}
+use Rattle.machine.specs.Steps.{Invocation, called}
 use Rattle.machine.proofs.Gates.{refused_first, same_table, stepped}
 use Rattle.outcomes.proofs.Labels.{no_labels_lem}
 use Rattle.machine.proofs.Replies.{in_reply}
@@ -20,14 +20,15 @@ returns-in-Err c =
 pub call_on-r-requires : goal.call_on-r-requires
 unfolding repeated
 call_on-r-requires c =
-    no_labels_lem
+    record { due = c.first_due-due.ensures; no_labels = no_labels_lem }
 
 pub returns : goal.returns
 returns c =
     let a = c.args in
     let n = c.admit.ensures in
-    let does : Contract → Stepped = λ x. called x a.s (record { caller = a.caller.now; function = a.function.now; values = a.values.now; assets = a.assets.now }) in
+    let i : Invocation = record { caller = a.caller.now; function = a.function.now; values = a.values.now; assets = a.assets.now } in
+    let does : Contract → Stepped = λ x. called x a.s i in
     c.with_labels.ensures
     ∙ in_reply _ c.call_reply.ensures c.call_on-r.ensures
-    ∙ ap (λ (w : List ℕ). does (contract_of w)) (same_table a.table.now a.room a.s _ n _ c.in-Ok.is)
+    ∙ ap (λ (w : List ℕ). called (contract_of w) a.s i) (same_table a.table.now a.room a.s _ n _ c.in-Ok.is)
     ∙ stepped a.table.now a.room a.s _ n _ c.in-Ok.is does

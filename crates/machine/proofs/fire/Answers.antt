@@ -14,7 +14,7 @@ returns-in-Err c =
 pub fire_on-r-requires : goal.fire_on-r-requires
 unfolding repeated
 fire_on-r-requires c =
-    no_labels_lem
+    record { due = c.first_due-due.ensures; no_labels = no_labels_lem }
 
 pub returns : goal.returns
 returns c =

@@ -3,8 +3,9 @@ use mathlib.Core.Path.{ap, ◌∙◌}
 use Rattle.outcomes.specs.declared.Outcome.{Outcome}
 use Rattle.outcomes.specs.Outcomes.{answered}
 use Rattle.contract.specs.Tree.{Contract}
+use Rattle.contract.specs.Decode.{contract_of}
 use Rattle.machine.specs.Steps.{ticked}
-use Rattle.machine.proofs.Gates.{refused_first, stepped}
+use Rattle.machine.proofs.Gates.{refused_first, stepped, ticks_so}
 use Rattle.machine.proofs.tick.Goals as goal
 
 pub returns-in-Err : goal.returns-in-Err
@@ -13,4 +14,4 @@ returns-in-Err c =
 
 pub returns : goal.returns
 returns c =
-    c.answer.ensures ∙ ap (λ (o : Outcome). answered o c.tick_on-r.new.s) c.passage.ensures ∙ c.tick_on-r.ensures ∙ stepped c.args.table.now c.args.room c.args.s _ c.admit.ensures _ c.in_default.is (λ (x : Contract). ticked x c.args.s)
+    c.answer.ensures ∙ ap (λ (o : Outcome). answered o c.tick_on-r.new.s) c.passage.ensures ∙ c.tick_on-r.ensures ∙ ticks_so (contract_of c.args.table.now) c.args.s c.first_due-due.ensures ∙ stepped c.args.table.now c.args.room c.args.s _ c.admit.ensures _ c.in_default.is (λ (x : Contract). ticked x c.args.s)

@@ -12,14 +12,14 @@ use Rattle.machine.proofs.tick_on.Goals as goal
 pub returns-in_err-at_rest : goal.returns-in_err-at_rest
 returns-in_err-at_rest c =
     let p = err_from_is_err_and c.from_residual.result c.from_residual.ensures.1 in
-    ap (λ (r : Result Unit Question). answered (passage r) c.args.s.now) (p.1 ∙ ap Err p.2) ∙ tick_away _ c.args.s.now (sym c.in_err-at_rest.was ∙ c.at_rest.ensures)
+    ap (λ (r : Result Unit Question). answered (passage r) c.args.s.now) (p.1 ∙ ap Err p.2) ∙ tick_away c.args.s.now _ (sym c.in_err-at_rest.was ∙ c.at_rest.ensures)
 
 pub returns-then-clock-ge-TOP : goal.returns-then-clock-ge-TOP
 returns-then-clock-ge-TOP c =
-    let r = rests _ c.args.s.now (sym c.in_ok-at_rest.was ∙ c.at_rest.ensures) in
-    tick_top _ c.args.s.now r.0 r.1 c.if-clock-ge-TOP.true
+    let r = rests c.args.s.now _ (sym c.in_ok-at_rest.was ∙ c.at_rest.ensures) in
+    tick_top c.args.s.now _ r.0 r.1 c.if-clock-ge-TOP.true
 
 pub returns : goal.returns
 returns c =
-    let r = rests _ c.args.s.now (sym c.in_ok-at_rest.was ∙ c.at_rest.ensures) in
-    tick_on _ c.args.s.now r.0 r.1 _ c.pass.ensures c.if-clock-ge-TOP.false
+    let r = rests c.args.s.now _ (sym c.in_ok-at_rest.was ∙ c.at_rest.ensures) in
+    tick_on c.args.s.now _ r.0 r.1 _ c.pass.ensures c.if-clock-ge-TOP.false

@@ -15,16 +15,16 @@ returns-in_err-at_rest c =
     let a = c.args in
     let p = err_from_is_err_and c.from_residual.result c.from_residual.ensures.1 in
     ap (λ (r : Result ℕ Question). stepped_in (reply_of r) a.s.now a.labels.now) (p.1 ∙ ap Err p.2)
-    ∙ turned a.s.now _ _ c.requires _ (call_away (contract_of a.self.now.terms.table.now) a.s.now (record { caller = a.caller.now; function = a.function.now; values = a.values.now; assets = a.assets.now }) (sym c.in_err-at_rest.was ∙ c.at_rest.ensures))
+    ∙ turned a.s.now _ _ c.requires.no_labels _ (call_away (contract_of a.self.now.terms.table.now) a.s.now (record { caller = a.caller.now; function = a.function.now; values = a.values.now; assets = a.assets.now }) _ c.requires.due (sym c.in_err-at_rest.was ∙ c.at_rest.ensures))
 
 pub returns-in_default : goal.returns-in_default
 returns-in_default c =
     let a = c.args in
-    let r = rests _ a.s.now (sym c.in_ok-at_rest.was ∙ c.at_rest.ensures) in
-    turned a.s.now _ _ c.requires _ (call_unknown a.self.now.terms.table.now a.s.now (record { caller = a.caller.now; function = a.function.now; values = a.values.now; assets = a.assets.now }) r.0 r.1 _ c.find_function-found.ensures c.in_default.is)
+    let r = rests a.s.now _ (sym c.in_ok-at_rest.was ∙ c.at_rest.ensures) in
+    turned a.s.now _ _ c.requires.no_labels _ (call_unknown a.self.now.terms.table.now a.s.now (record { caller = a.caller.now; function = a.function.now; values = a.values.now; assets = a.assets.now }) _ c.requires.due r.0 r.1 _ c.find_function-found.ensures c.in_default.is)
 
 pub returns : goal.returns
 returns c =
     let a = c.args in
-    let r = rests _ a.s.now (sym c.in_ok-at_rest.was ∙ c.at_rest.ensures) in
-    c.invoke.ensures ∙ (call_found a.self.now.terms.table.now a.s.now (record { caller = a.caller.now; function = a.function.now; values = a.values.now; assets = a.assets.now }) r.0 r.1 _ c.find_function-found.ensures _ c.in-Some.is)
+    let r = rests a.s.now _ (sym c.in_ok-at_rest.was ∙ c.at_rest.ensures) in
+    c.invoke.ensures ∙ (call_found a.self.now.terms.table.now a.s.now (record { caller = a.caller.now; function = a.function.now; values = a.values.now; assets = a.assets.now }) _ c.requires.due r.0 r.1 _ c.find_function-found.ensures _ c.in-Some.is)

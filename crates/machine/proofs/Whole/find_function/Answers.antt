@@ -1,7 +1,6 @@
 -- `machine::Whole::find_function` meets its contract. Assumes nothing.
-use Rattle.std.proofs.Common.{rules, arith, ◌≡◌, ◌<◌, ℕ, ap, true, false}
-use Rattle.std.proofs.lemmas.Iterator.{first_from_Range, serves_from_Range}
-use Rattle.contract.specs.Table.{word_at}
+use Rattle.std.proofs.Common.{rules, ◌≡◌, ℕ, ap, true, false}
+use Rattle.std.proofs.lemmas.Iterator.{first_from_Range}
 use Rattle.contract.specs.Decode.{function_at, contract_of}
 use Rattle.contract.specs.declared.TableHead.{TableHead}
 use Rattle.machine.specs.Steps.{answers_to}

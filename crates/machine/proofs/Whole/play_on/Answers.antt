@@ -2,7 +2,7 @@
 use mathlib.Core.Path.{sym, ap, ◌∙◌}
 use Rattle.laws.specs.Lists.{repeated}
 use Rattle.outcomes.proofs.Labels.{no_labels_lem}
-use Rattle.machine.proofs.Playing.{going_first, goes_up, going_on, left_blank, ended_full, ended_wait}
+use Rattle.machine.proofs.Playing.{some_due, going_first, goes_up, going_on, left_blank, ended_full, ended_wait}
 use Rattle.machine.specs.Sessions.{takes}
 use Rattle.machine.specs.Private.{said_of, place_after, turn_of}
 use Rattle.machine.proofs.Whole.play_on.Goals as goal
@@ -18,6 +18,13 @@ returns-after-loop-n c = ended_full c.loop-n.invariant.0 c.loop-n-test.false
 pub returns-in_default : goal.returns-in_default
 returns-in_default c =
     ended_wait c.loop-n.invariant.0 (c.next.ensures.turn ∙ ap (turn_of c.args.input.now c.loop-n.at) c.in_default.is)
+
+pub take_up-r-requires : goal.take_up-r-requires
+take_up-r-requires c =
+    record {
+      due = some_due _ _ c.next.ensures.due c.in-Some.is;
+      no_labels = c.loop-n.invariant.1;
+    }
 
 pub clear_sent-requires : goal.clear_sent-requires
 clear_sent-requires c =

@@ -18,7 +18,7 @@ returns c =
     let r = c.args.call in
     let zs = c.args.numbers.now in
     let l : length zs ≡ 256 = search rules in
-    let k = does_call (contract_of c.args.self.now.terms.table.now) c.args.s.now c.args.line.now (asked c.args.line.now) r zs c.requires.call c.requires.numbers l in
+    let k = does_call (contract_of c.args.self.now.terms.table.now) c.args.s.now c.args.line.now (asked c.args.line.now) r zs c.requires.call c.requires.numbers in
     let w = contract_of c.args.self.now.terms.table.now in
     let does : List ℕ → List ℕ → ℕ → Stepped =
     λ x y n. called_by w c.args.s.now x y (take r.values zs) (take n (drop r.values zs)) in
@@ -32,7 +32,7 @@ overflow_add-end c =
     let r = c.args.call in
     let zs = c.args.numbers.now in
     let l : length zs ≡ 256 = search rules in
-    let k = does_call (contract_of c.args.self.now.terms.table.now) c.args.s.now c.args.line.now (asked c.args.line.now) r zs c.requires.call c.requires.numbers l in
+    let k = does_call (contract_of c.args.self.now.terms.table.now) c.args.s.now c.args.line.now (asked c.args.line.now) r zs c.requires.call c.requires.numbers in
     omega (arith, k.room, l)
 
 pub shared_ref_as_front-values : goal.shared_ref_as_front-values
@@ -40,7 +40,7 @@ shared_ref_as_front-values c =
     let r = c.args.call in
     let zs = c.args.numbers.now in
     let l : length zs ≡ 256 = search rules in
-    let k = does_call (contract_of c.args.self.now.terms.table.now) c.args.s.now c.args.line.now (asked c.args.line.now) r zs c.requires.call c.requires.numbers l in
+    let k = does_call (contract_of c.args.self.now.terms.table.now) c.args.s.now c.args.line.now (asked c.args.line.now) r zs c.requires.call c.requires.numbers in
     omega (arith, k.room, l)
 
 pub slice_bounds-assets-end : goal.slice_bounds-assets-end
@@ -48,5 +48,5 @@ slice_bounds-assets-end c =
     let r = c.args.call in
     let zs = c.args.numbers.now in
     let l : length zs ≡ 256 = search rules in
-    let k = does_call (contract_of c.args.self.now.terms.table.now) c.args.s.now c.args.line.now (asked c.args.line.now) r zs c.requires.call c.requires.numbers l in
+    let k = does_call (contract_of c.args.self.now.terms.table.now) c.args.s.now c.args.line.now (asked c.args.line.now) r zs c.requires.call c.requires.numbers in
     omega (arith, k.room, l)

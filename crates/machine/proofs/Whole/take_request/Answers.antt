@@ -11,6 +11,7 @@ use Rattle.lines.specs.declared.Request.{Request}
 use Rattle.outcomes.specs.declared.Outcome.{Outcome}
 use Rattle.outcomes.specs.Outcomes.{answered}
 use Rattle.machine.specs.Steps.{jumped}
+use Rattle.machine.proofs.Gates.{ticks_so}
 use Rattle.machine.proofs.Replies.{quiet_as}
 use Rattle.machine.proofs.Taken.{does_tick, does_jump}
 use Rattle.machine.proofs.Whole.take_request.Goals as goal
@@ -19,7 +20,7 @@ pub returns-in-Tick : goal.returns-in-Tick
 returns-in-Tick c =
     let l = c.args.line.now in
     let e = sym c.requires.request ∙ ap (λ (r : Request). Ok r) c.in-Tick.is in
-    quiet_as _ c.silent.ensures c.requires.no_labels (ap (λ (o : Outcome). answered o c.tick_on.new.s) c.passage.ensures ∙ c.tick_on.ensures ∙ does_tick (contract_of c.args.self.now.terms.table.now) c.args.s.now l (asked l) e)
+    quiet_as _ c.silent.ensures c.requires.no_labels (ap (λ (o : Outcome). answered o c.tick_on.new.s) c.passage.ensures ∙ c.tick_on.ensures ∙ ticks_so (contract_of c.args.self.now.terms.table.now) c.args.s.now (sym c.requires.at_rest) ∙ does_tick (contract_of c.args.self.now.terms.table.now) c.args.s.now l (asked l) e)
 
 pub returns-in-Jump : goal.returns-in-Jump
 returns-in-Jump c =
