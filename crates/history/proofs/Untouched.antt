@@ -35,6 +35,8 @@ use Rattle.questions.specs.declared.Question.TheVariants as ask
 use Rattle.std.specs.Prelude.{Ok, Err}
 use Rattle.questions.specs.declared.Question.{Question}
 use Rattle.machine.specs.declared.Played.{Played}
+use Rattle.lines.specs.Lines.{Asked}
+use Rattle.lines.specs.Answers.{numbers_after}
 
 -- an answer that no rule accepts has no label, and a refusal has the state it was given
 pub record Idle (s : State) (r : Stepped) : Type 0 where
@@ -124,6 +126,7 @@ untouched =
       results = refused_writes_nothing;
       page = refused_untouched;
       line = λ c s n. refl;
+      line_integers = λ bytes q integers e. ap (λ (a : Asked). numbers_after a integers) e;
       session_told = refused_session;
       session = λ w s bytes room numbers integers q h. lists_same w s bytes room q h numbers integers;
     }

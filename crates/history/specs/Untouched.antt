@@ -6,6 +6,8 @@ use Rattle.contract.specs.Check.{ranges}
 use Rattle.contract.specs.Encode.{zeros}
 use Rattle.reading.specs.Reading.{refused, read_text, table_of}
 use Rattle.state.specs.declared.State.{State}
+use Rattle.lines.specs.Lines as lines
+use Rattle.lines.specs.Answers.{numbers_after}
 use Rattle.results.specs.Lines.{refusal}
 use Rattle.results.specs.Results.{RefusedWritesNothing}
 use Rattle.results.specs.Coded.{coded_all, integers_of}
@@ -41,6 +43,8 @@ pub record Untouched : Type 0 where
   pub page : RefusedPage
   -- a session line that questions 50 and 51 refuse leaves the state
   pub line : (c : Contract) (s : State) (q : Question) → (heard c s (unread q)).state ≡ s
+  -- and the list that was lent for a call's integers
+  pub line_integers : (bytes : List ℕ) (q : Question) (integers : List ℤ) → lines.asked bytes ≡ lines.refused q → numbers_after (lines.asked bytes) integers ≡ integers
   -- a session that is refused has no state after it and no bytes taken, by the type of its answer, and tells nothing
   pub session_told : (w : List ℕ) (s : State) (bytes : List ℕ) (room : ℕ) (q : Question) → played w s bytes room ≡ Err q
       → reports_of w s bytes room ≡ []
