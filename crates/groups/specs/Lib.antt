@@ -1,0 +1,4 @@
+pub mod Groups
+pub mod Names
+pub mod Chains
+pub mod Private
