@@ -132,7 +132,7 @@ question_past ns i h =
 no_question : (r : Report) → ((n : ℕ) → r ≡ Refused n → ⊥) → ((n : ℕ) → r ≡ Failed n → ⊥) → None ≡ question_of r
 unfolding question_of
 no_question (Ruled a b c) f g = refl
-no_question (Sent a b c) f g = refl
+no_question (Sent a b c d) f g = refl
 no_question (Held a b) f g = refl
 no_question (Refused n) f g = absurd (f n refl)
 no_question (Failed n) f g = absurd (g n refl)

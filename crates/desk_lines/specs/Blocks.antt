@@ -32,7 +32,7 @@ numbered n = pick (eqb n 0) None (Some n)
 -- the number of the question that refused a line, or that a failed firing met; none for any other result
 unfoldable pub question_of : Report → Option ℕ
 question_of (Ruled rule state clock) = None
-question_of (Sent kind party value) = None
+question_of (Sent kind party value group) = None
 question_of (Held asset amount) = None
 question_of (Refused n) = numbered n
 question_of (Failed n) = numbered n

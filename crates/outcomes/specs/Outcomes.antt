@@ -10,7 +10,7 @@ use Rattle.outcomes.specs.declared.Outcome.TheVariants.{Refused}
 use Rattle.outcomes.specs.declared.Stepped.{Stepped}
 
 abbrev pub no_label : Label
-no_label = record { kind = 0; party = 0; value = pos 0 }
+no_label = record { kind = 0; party = 0; value = pos 0; group = 0 }
 
 -- label i of these words
 abbrev pub label_at : List ℤ → ℕ → Label
@@ -19,6 +19,7 @@ label_at words i =
       kind = nat_abs (get_or words (label_words * i) (pos 0));
       party = nat_abs (get_or words (label_words * i + 1) (pos 0));
       value = get_or words (label_words * i + 2) (pos 0);
+      group = nat_abs (get_or words (label_words * i + 3) (pos 0));
     }
 
 abbrev pub no_labels : List Label

@@ -50,6 +50,7 @@ pub fn blank_labels() -> [Label; Label::MOST]
         kind: 0,
         party: 0,
         value: 0,
+        group: 0,
     }; Label::MOST]
 }
 
@@ -86,6 +87,7 @@ pub fn labels_of(words: &[i64; Label::ROOM]) -> [Label; Label::MOST]
             kind: words[at].unsigned_abs(),
             party: words[at + 1].unsigned_abs() as usize,
             value: words[at + 2],
+            group: words[at + 3].unsigned_abs() as usize,
         };
     }
     out

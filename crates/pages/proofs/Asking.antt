@@ -39,11 +39,11 @@ amount_asked (pos n) f =
 amount_asked (negsuc n) f = refl
 
 -- x is the value as its bits give it
-pub payout_asked : (w : List ℕ) (kind party rule clock : ℕ) {x z : ℤ} {q : Bool} {n : ℕ} → x ≡ z → SFits w64 z → q ≡ (eqb rule 1 || eqb rule 2) → n ≡ word_at w 0
+pub payout_asked : (w : List ℕ) (kind party rule clock group : ℕ) {x z : ℤ} {q : Bool} {n : ℕ} → x ≡ z → SFits w64 z → q ≡ (eqb rule 1 || eqb rule 2) → n ≡ word_at w 0
     → (eqb kind 3 && (q && (ltb party n && (leb clock top && le_z (pos 0) x))))
-    ≡ is_payout (contract_of w) (record { kind = kind; party = party; rule = rule; clock = clock; value = z })
+    ≡ is_payout (contract_of w) (record { kind = kind; party = party; rule = rule; clock = clock; value = z; group = group })
 unfolding is_payout
-payout_asked w kind party rule clock {x} {z} {q} {n} e f r p =
+payout_asked w kind party rule clock group {x} {z} {q} {n} e f r p =
     let parties : n ≡ length (contract_of w).parties = p ∙ sym (counts w).parties in
     let amount : le_z (pos 0) x ≡ (le_z (pos 0) z && leb (nat_abs z) top) = ap (le_z (pos 0)) e ∙ amount_asked z f in
     λ i. eqb kind 3 && (r i && (ltb party (parties i) && (leb clock top && amount i)))

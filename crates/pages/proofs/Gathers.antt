@@ -35,33 +35,33 @@ use Rattle.pages.proofs.Cuts.{every_sixty}
 payout_few : (rule clock : ℕ) (r : Report) → length (payouts rule clock (r ∷ [])) ≤ 1
 unfolding payouts
 payout_few rule clock (Ruled a b t) = omega arith
-payout_few rule clock (Sent kind party value) = by_cases (λ (l : List Entry). length l ≤ 1) _ _ _ (λ _. omega arith) λ _. omega arith
+payout_few rule clock (Sent kind party value group) = by_cases (λ (l : List Entry). length l ≤ 1) _ _ _ (λ _. omega arith) λ _. omega arith
 payout_few rule clock (Held a b) = omega arith
 payout_few rule clock (Refused n) = omega arith
 payout_few rule clock (Failed n) = omega arith
 
 -- a label leaves the rule and the clock
-rule_kept : (g : Gathered) (kind party : ℕ) (value : ℤ) → (gathered g (Sent kind party value)).rule ≡ g.rule
+rule_kept : (g : Gathered) (kind party : ℕ) (value : ℤ) (group : ℕ) → (gathered g (Sent kind party value group)).rule ≡ g.rule
 unfolding gathered
-rule_kept g kind party value = by_cases (λ (h : Gathered). h.rule ≡ g.rule) _ _ _ (λ _. refl) λ _. refl
+rule_kept g kind party value group = by_cases (λ (h : Gathered). h.rule ≡ g.rule) _ _ _ (λ _. refl) λ _. refl
 
-clock_kept : (g : Gathered) (kind party : ℕ) (value : ℤ) → (gathered g (Sent kind party value)).clock ≡ g.clock
+clock_kept : (g : Gathered) (kind party : ℕ) (value : ℤ) (group : ℕ) → (gathered g (Sent kind party value group)).clock ≡ g.clock
 unfolding gathered
-clock_kept g kind party value = by_cases (λ (h : Gathered). h.clock ≡ g.clock) _ _ _ (λ _. refl) λ _. refl
+clock_kept g kind party value group = by_cases (λ (h : Gathered). h.clock ≡ g.clock) _ _ _ (λ _. refl) λ _. refl
 
 -- those of the first line, and then the others
 payouts_then : (g : Gathered) (r : Report) (rs : List Report)
     → payouts g.rule g.clock (r ∷ rs) ≡ payouts g.rule g.clock (r ∷ []) ++ payouts (gathered g r).rule (gathered g r).clock rs
 unfolding payouts gathered
 payouts_then g (Ruled a b t) rs = refl
-payouts_then g (Sent kind party value) rs =
-    let rest : payouts g.rule g.clock rs ≡ payouts (gathered g (Sent kind party value)).rule (gathered g (Sent kind party value)).clock rs =
-    (λ i. payouts (sym (rule_kept g kind party value) i) (sym (clock_kept g kind party value) i) rs) in
+payouts_then g (Sent kind party value group) rs =
+    let rest : payouts g.rule g.clock rs ≡ payouts (gathered g (Sent kind party value group)).rule (gathered g (Sent kind party value group)).clock rs =
+    (λ i. payouts (sym (rule_kept g kind party value group) i) (sym (clock_kept g kind party value group) i) rs) in
     by_test (eqb kind 3)
-    (λ e. pick_true _ _ _ e ∙ (λ i. record { kind = 3; party = party; rule = g.rule; clock = g.clock; value = value } ∷ rest i)
-    ∙ ap (λ (l : List Entry). l ++ payouts (gathered g (Sent kind party value)).rule (gathered g (Sent kind party value)).clock rs) (sym (pick_true _ _ _ e)))
+    (λ e. pick_true _ _ _ e ∙ (λ i. record { kind = 3; party = party; rule = g.rule; clock = g.clock; value = value; group = group } ∷ rest i)
+    ∙ ap (λ (l : List Entry). l ++ payouts (gathered g (Sent kind party value group)).rule (gathered g (Sent kind party value group)).clock rs) (sym (pick_true _ _ _ e)))
     λ e. pick_false _ _ _ e ∙ rest
-    ∙ ap (λ (l : List Entry). l ++ payouts (gathered g (Sent kind party value)).rule (gathered g (Sent kind party value)).clock rs) (sym (pick_false _ _ _ e))
+    ∙ ap (λ (l : List Entry). l ++ payouts (gathered g (Sent kind party value group)).rule (gathered g (Sent kind party value group)).clock rs) (sym (pick_false _ _ _ e))
 payouts_then g (Held a b) rs = refl
 payouts_then g (Refused n) rs = refl
 payouts_then g (Failed n) rs = refl
@@ -104,11 +104,11 @@ module _ {g : Gathered} {ns : List ℕ} {zs : List ℤ} {es : List Entry} (k : K
       }
 
   -- one more
-  pub keeps_more : (h : Gathered) → h.count ≡ g.count + 1 → g.count < 60 → (party rule clock : ℕ) (value : ℤ)
-      → Keeps h (sets ns (5 * g.count) (3 ∷ party ∷ rule ∷ clock ∷ 0 ∷ [])) (set zs g.count value)
-      (es ++ (record { kind = 3; party = party; rule = rule; clock = clock; value = value } ∷ []))
-  keeps_more h e l party rule clock value =
-      let five : List ℕ = 3 ∷ party ∷ rule ∷ clock ∷ 0 ∷ [] in
+  pub keeps_more : (h : Gathered) → h.count ≡ g.count + 1 → g.count < 60 → (party rule clock : ℕ) (value : ℤ) (group : ℕ)
+      → Keeps h (sets ns (5 * g.count) (3 ∷ party ∷ rule ∷ clock ∷ group ∷ [])) (set zs g.count value)
+      (es ++ (record { kind = 3; party = party; rule = rule; clock = clock; value = value; group = group } ∷ []))
+  keeps_more h e l party rule clock value group =
+      let five : List ℕ = 3 ∷ party ∷ rule ∷ clock ∷ group ∷ [] in
       let ns' = sets ns (5 * g.count) five in
       let room : 5 * g.count + length five ≤ length ns = omega (arith, k.numbers_long) in
       let wide : length (take (5 * g.count) ns ++ five) ≡ 5 * h.count = omega (arith, length-append (take (5 * g.count) ns) five, numbers_taken) in
@@ -124,8 +124,8 @@ module _ {g : Gathered} {ns : List ℕ} {zs : List ℤ} {es : List Entry} (k : K
         values_long = omega (arith, length-set zs g.count value, k.values_long);
         entries =
             (λ i. entries_of (numbers i) (values i))
-            ∙ entries_more (take (5 * g.count) ns) (take g.count zs) (omega (arith, numbers_taken, values_taken)) 3 party rule clock 0 value
-            ∙ ap (λ (l : List Entry). l ++ (record { kind = 3; party = party; rule = rule; clock = clock; value = value } ∷ [])) k.entries;
+            ∙ entries_more (take (5 * g.count) ns) (take g.count zs) (omega (arith, numbers_taken, values_taken)) 3 party rule clock group value
+            ∙ ap (λ (l : List Entry). l ++ (record { kind = 3; party = party; rule = rule; clock = clock; value = value; group = group } ∷ [])) k.entries;
       }
 
 keeps_same : {g h : Gathered} {ns ms : List ℕ} {zs ys : List ℤ} {es ds : List Entry} → g ≡ h → ns ≡ ms → zs ≡ ys → es ≡ ds → Keeps g ns zs es → Keeps h ms ys ds
@@ -141,7 +141,7 @@ pub gather_one : (g : Gathered) (ns : List ℕ) (zs : List ℤ) (es : List Entry
     → Keeps (gathered g r) (numbers_after g r ns) (values_after g r zs) (es ++ payouts g.rule g.clock (r ∷ []))
 unfolding payouts gathered numbers_after values_after joins
 gather_one g ns zs es (Ruled rule state clock) k h = keeps_as k (record { rule = rule; clock = clock; count = g.count }) refl
-gather_one g ns zs es (Sent kind party value) k h =
+gather_one g ns zs es (Sent kind party value group) k h =
     by_test (eqb kind 3)
     (λ e.
     let few : length es + 1 ≤ 60 = subst (λ (l : List Entry). length es + length l ≤ 60) (pick_true _ _ _ e) h in
@@ -152,7 +152,7 @@ gather_one g ns zs es (Sent kind party value) k h =
     (sym (pick_true _ _ _ j))
     (sym (pick_true _ _ _ j))
     (ap (λ (l : List Entry). es ++ l) (sym (pick_true _ _ _ e)))
-    (keeps_more k (record { rule = g.rule; clock = g.clock; count = g.count + 1 }) refl l party g.rule g.clock value))
+    (keeps_more k (record { rule = g.rule; clock = g.clock; count = g.count + 1 }) refl l party g.rule g.clock value group))
     λ e.
     let j : eqb kind 3 && ltb g.count 60 ≡ false = ap (λ (b : Bool). b && ltb g.count 60) e in
     keeps_same

@@ -54,7 +54,7 @@ module _ {A : Type 0} where
 -- an entry that stands there whole
 pub entry_whole : (ns : List ℕ) (zs : List ℤ) (i : ℕ) → 5 * i + 5 ≤ length ns → i < length zs
     → entry_at ns zs i
-    ≡ record { kind = get_or ns (5 * i) 0; party = get_or ns (5 * i + 1) 0; rule = get_or ns (5 * i + 2) 0; clock = get_or ns (5 * i + 3) 0; value = get_or zs i (pos 0) }
+    ≡ record { kind = get_or ns (5 * i) 0; party = get_or ns (5 * i + 1) 0; rule = get_or ns (5 * i + 2) 0; clock = get_or ns (5 * i + 3) 0; value = get_or zs i (pos 0); group = get_or ns (5 * i + 4) 0 }
 unfolding entry_at
 entry_whole ns zs i h k = pick_true _ _ _ (both_true (leb (5 * i + 5) (length ns)) (ltb i (length zs)) (le-leb (5 * i + 5) (length ns) h) (lt-ltb i (length zs) k))
 
@@ -68,7 +68,7 @@ entries_whole ns zs h =
 -- one more
 pub entries_more : (ns : List ℕ) (zs : List ℤ) → length ns ≡ 5 * length zs → (kind party rule clock more : ℕ) (value : ℤ)
     → entries_of (ns ++ (kind ∷ party ∷ rule ∷ clock ∷ more ∷ [])) (zs ++ (value ∷ []))
-    ≡ entries_of ns zs ++ (record { kind = kind; party = party; rule = rule; clock = clock; value = value } ∷ [])
+    ≡ entries_of ns zs ++ (record { kind = kind; party = party; rule = rule; clock = clock; value = value; group = more } ∷ [])
 entries_more ns zs h kind party rule clock more value =
     let k = length zs in
     let five = kind ∷ party ∷ rule ∷ clock ∷ more ∷ [] in
@@ -86,10 +86,11 @@ entries_more ns zs h kind party rule clock more value =
       rule = get_or-append ns five 0 (5 * j + 2) (omega arith) m;
       clock = get_or-append ns five 0 (5 * j + 3) (omega arith) m;
       value = get_or-append zs (value ∷ []) (pos 0) j (omega arith) m;
+      group = get_or-append ns five 0 (5 * j + 4) (omega arith) m;
     })
     ∙ sym (entry_whole ns zs j (omega arith) (omega arith)) in
     let at : (i n : ℕ) → n ≡ length ns + i → get_or ns' n 0 ≡ get_or five i 0 = λ i n e. ap (λ (m : ℕ). get_or ns' m 0) e ∙ get_or-append-add ns five i 0 in
-    let last : entry_at ns' zs' (0 + k) ≡ record { kind = kind; party = party; rule = rule; clock = clock; value = value } =
+    let last : entry_at ns' zs' (0 + k) ≡ record { kind = kind; party = party; rule = rule; clock = clock; value = value; group = more } =
     let z : 0 + k ≡ k = omega arith in
     ap (entry_at ns' zs') z
     ∙ entry_whole ns' zs' k (omega arith) (omega arith)
@@ -100,9 +101,10 @@ entries_more ns zs h kind party rule clock more value =
       rule = at 2 (5 * k + 2) (omega arith) m;
       clock = at 3 (5 * k + 3) (omega arith) m;
       value = get_or_at zs value [] (pos 0) k refl m;
+      group = at 4 (5 * k + 4) (omega arith) m;
     }) in
     entries_whole ns' zs' all
     ∙ ap (λ (n : ℕ). each_from 0 n (entry_at ns' zs')) wide
     ∙ each_snoc 0 k (entry_at ns' zs')
     ∙ (λ m. each_same 0 k (entry_at ns' zs') (entry_at ns zs) before m ++ (last m ∷ []))
-    ∙ ap (λ (l : List Entry). l ++ (record { kind = kind; party = party; rule = rule; clock = clock; value = value } ∷ [])) (sym (entries_whole ns zs h))
+    ∙ ap (λ (l : List Entry). l ++ (record { kind = kind; party = party; rule = rule; clock = clock; value = value; group = more } ∷ [])) (sym (entries_whole ns zs h))

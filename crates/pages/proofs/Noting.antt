@@ -44,20 +44,20 @@ none_noted g ns zs e = subst (λ (s : Option Report). NotedAt g s ns zs g ns zs)
 
 -- ---- labels
 
-module _ (g : Gathered) (kind party : ℕ) (z : ℤ) (ns : List ℕ) (zs : List ℤ) where
-  joins_not : joins g (Sent kind party z) ≡ false → Noted g (Sent kind party z) ns zs g ns zs
+module _ (g : Gathered) (kind party : ℕ) (z : ℤ) (group : ℕ) (ns : List ℕ) (zs : List ℤ) where
+  joins_not : joins g (Sent kind party z group) ≡ false → Noted g (Sent kind party z group) ns zs g ns zs
   unfolding gathered numbers_after values_after
   joins_not j = record { value = sym (pick_false _ _ _ j); entries_after = sym (pick_false _ _ _ j); values_after = sym (pick_false _ _ _ j) }
 
   -- no payout, or the page is full
-  pub not_joined : (kind ≡ 3 → ⊥) ⊎ ((kind ≡ 3) × (60 ≤ g.count)) → Noted g (Sent kind party z) ns zs g ns zs
+  pub not_joined : (kind ≡ 3 → ⊥) ⊎ ((kind ≡ 3) × (60 ≤ g.count)) → Noted g (Sent kind party z group) ns zs g ns zs
   unfolding joins
   not_joined (inl h) = joins_not (ap (λ (b : Bool). b && ltb g.count 60) (ne_eqb kind 3 h))
   not_joined (inr h) = joins_not (ap (λ (b : Bool). eqb kind 3 && b) (le-ltb g.count 60 h.1) ∙ and_false (eqb kind 3))
 
   -- x is the value as its bits give it
-  pub noted : {ms : List ℕ} {ys : List ℤ} {x : ℤ} → x ≡ z → kind ≡ 3 → g.count < 60 → ms ≡ sets ns (5 * g.count) (3 ∷ party ∷ g.rule ∷ g.clock ∷ 0 ∷ [])
-      → ys ≡ set zs g.count x → Noted g (Sent kind party z) ns zs (record { rule = g.rule; clock = g.clock; count = g.count + 1 }) ms ys
+  pub noted : {ms : List ℕ} {ys : List ℤ} {x : ℤ} → x ≡ z → kind ≡ 3 → g.count < 60 → ms ≡ sets ns (5 * g.count) (3 ∷ party ∷ g.rule ∷ g.clock ∷ group ∷ [])
+      → ys ≡ set zs g.count x → Noted g (Sent kind party z group) ns zs (record { rule = g.rule; clock = g.clock; count = g.count + 1 }) ms ys
   unfolding gathered numbers_after values_after joins
   noted q e l n v =
       let j : eqb kind 3 && ltb g.count 60 ≡ true = both_true (eqb kind 3) (ltb g.count 60) (eq-eqb kind 3 e) (lt-ltb g.count 60 l) in

@@ -6,7 +6,7 @@ use Rattle.contract.specs.Limits.{top}
 use Rattle.contract.specs.Tree.{Contract}
 use Rattle.contract.specs.Decode.{each_from}
 
--- document 02's entry: a label (kind, party, value) with the clock and the rule that sent it
+-- document 02's entry: a label (kind, party, value, its source's group) with the clock and the rule that sent it
 pub record Entry : Type 0 where
   pub kind : ℕ
   pub party : ℕ
@@ -14,10 +14,11 @@ pub record Entry : Type 0 where
   pub rule : ℕ
   pub clock : ℕ
   pub value : ℤ
+  pub group : ℕ
 
 -- zeros, which are no payout: there is no kind 0
 abbrev pub no_entry : Entry
-no_entry = record { kind = 0; party = 0; rule = 0; clock = 0; value = pos 0 }
+no_entry = record { kind = 0; party = 0; rule = 0; clock = 0; value = pos 0; group = 0 }
 
 -- question 61: an asset payout (kind 3) by FUNCTION or EVENT MATCH to a known party, with clock and amount 0 to top
 unfoldable pub is_payout : Contract → Entry → Bool
@@ -28,7 +29,7 @@ is_payout c e =
     && (leb e.clock top
     && (le_z (pos 0) e.value && leb (nat_abs e.value) top))))
 
--- ---- entries as numbers: kind, party, rule, clock and one that is not looked at; and a value each
+-- ---- entries as numbers: kind, party, rule and clock, which 61 and the page look at, and group, which is only carried; and a value each
 
 -- entry i; where one of its five numbers, also the last, or its value is missing at the end, it is zeros, hence 61
 unfoldable pub entry_at : List ℕ → List ℤ → ℕ → Entry
@@ -40,6 +41,7 @@ entry_at numbers values i =
       rule = get_or numbers (5 * i + 2) 0;
       clock = get_or numbers (5 * i + 3) 0;
       value = get_or values i (pos 0);
+      group = get_or numbers (5 * i + 4) 0;
     })
     no_entry
 

@@ -12,9 +12,9 @@ use Rattle.pages.specs.declared.Gathered.{Gathered}
 unfoldable pub payouts : ℕ → ℕ → List Report → List Entry
 payouts rule clock [] = []
 payouts rule clock (Ruled r state t ∷ rs) = payouts r t rs
-payouts rule clock (Sent kind party value ∷ rs) =
+payouts rule clock (Sent kind party value group ∷ rs) =
     pick (eqb kind 3)
-    (record { kind = 3; party = party; rule = rule; clock = clock; value = value } ∷ payouts rule clock rs)
+    (record { kind = 3; party = party; rule = rule; clock = clock; value = value; group = group } ∷ payouts rule clock rs)
     (payouts rule clock rs)
 payouts rule clock (Held asset amount ∷ rs) = payouts rule clock rs
 payouts rule clock (Refused n ∷ rs) = payouts rule clock rs
@@ -23,7 +23,7 @@ payouts rule clock (Failed n ∷ rs) = payouts rule clock rs
 -- whether a result line is a payout that the page has room for; a full page is written before the next one (`turned`, Promises.antt)
 unfoldable pub joins : Gathered → Report → Bool
 joins g (Ruled rule state clock) = false
-joins g (Sent kind party value) = eqb kind 3 && ltb g.count 60
+joins g (Sent kind party value group) = eqb kind 3 && ltb g.count 60
 joins g (Held asset amount) = false
 joins g (Refused n) = false
 joins g (Failed n) = false
@@ -31,7 +31,7 @@ joins g (Failed n) = false
 -- what is gathered after a result line: the last rule and its clock, and how many payouts
 unfoldable pub gathered : Gathered → Report → Gathered
 gathered g (Ruled rule state clock) = record { rule = rule; clock = clock; count = g.count }
-gathered g (Sent kind party value) = pick (joins g (Sent kind party value)) (record { rule = g.rule; clock = g.clock; count = g.count + 1 }) g
+gathered g (Sent kind party value group) = pick (joins g (Sent kind party value group)) (record { rule = g.rule; clock = g.clock; count = g.count + 1 }) g
 gathered g (Held asset amount) = g
 gathered g (Refused n) = g
 gathered g (Failed n) = g
@@ -39,15 +39,15 @@ gathered g (Failed n) = g
 -- the five numbers of a payout are stored after those before it, and its value
 unfoldable pub numbers_after : Gathered → Report → List ℕ → List ℕ
 numbers_after g (Ruled rule state clock) old = old
-numbers_after g (Sent kind party value) old =
-    pick (joins g (Sent kind party value)) (sets old (5 * g.count) (3 ∷ party ∷ g.rule ∷ g.clock ∷ 0 ∷ [])) old
+numbers_after g (Sent kind party value group) old =
+    pick (joins g (Sent kind party value group)) (sets old (5 * g.count) (3 ∷ party ∷ g.rule ∷ g.clock ∷ group ∷ [])) old
 numbers_after g (Held asset amount) old = old
 numbers_after g (Refused n) old = old
 numbers_after g (Failed n) old = old
 
 unfoldable pub values_after : Gathered → Report → List ℤ → List ℤ
 values_after g (Ruled rule state clock) old = old
-values_after g (Sent kind party value) old = pick (joins g (Sent kind party value)) (set old g.count value) old
+values_after g (Sent kind party value group) old = pick (joins g (Sent kind party value group)) (set old g.count value) old
 values_after g (Held asset amount) old = old
 values_after g (Refused n) old = old
 values_after g (Failed n) old = old

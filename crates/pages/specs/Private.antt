@@ -11,7 +11,7 @@ use Rattle.pages.specs.Entries.{Entry}
 
 -- document 02's entry, as the code has it
 abbrev pub entry_of : declared.Entry → Entry
-entry_of e = record { kind = e.kind; party = e.party; rule = e.rule; clock = e.clock; value = e.value }
+entry_of e = record { kind = e.kind; party = e.party; rule = e.rule; clock = e.clock; value = e.value; group = e.group }
 
 -- clock and rule, each with a space after it
 abbrev pub step_text : ℕ → ℕ → List ℕ

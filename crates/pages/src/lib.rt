@@ -24,7 +24,7 @@ mod sheets;
 pub struct Sheet {}
 
 impl Sheet {
-    // Its bytes, its lines for payouts, and the numbers of an entry: kind, party, rule, clock and one that is not looked at.
+    // Its bytes, its lines for payouts, and the numbers of an entry: kind, party, rule, clock and group.
     // Kept: (d) these are sizes of a page and of its columns, and no kinds of anything.
     pub const BYTES: usize = (Sheet::LINES + 1) * (Sheet::LINE + 1);
 
@@ -87,7 +87,9 @@ impl Gathered {
                 clock,
                 ..self
             },
-            Report::Sent(kind, party, value) => self.note(kind, party, value, entries, values),
+            Report::Sent(kind, party, value, group) => {
+                self.note(kind, party, value, group, entries, values)
+            }
             Report::Held(_, _) | Report::Refused(_) | Report::Failed(_) => self,
         }
     }
@@ -98,17 +100,24 @@ impl Gathered {
         kind: u8,
         party: usize,
         value: i64,
+        group: u64,
         entries: &mut [u64],
         values: &mut [i64],
     ) -> Gathered
-        ensures value { result ≡ gathered self (Sent kind party value) }
-        ensures entries_after { entries.new ≡ numbers_after self (Sent kind party value) entries.old }
-        ensures values_after { values.new ≡ values_after self (Sent kind party value) values.old }
+        ensures value { result ≡ gathered self (Sent kind party value group) }
+        ensures entries_after { entries.new ≡ numbers_after self (Sent kind party value group) entries.old }
+        ensures values_after { values.new ≡ values_after self (Sent kind party value group) values.old }
     {
         if kind != Report::ASSET || Sheet::LINES <= self.count {
             return self;
         }
-        let entry = [Report::ASSET as u64, party as u64, self.rule, self.clock, 0];
+        let entry = [
+            Report::ASSET as u64,
+            party as u64,
+            self.rule,
+            self.clock,
+            group,
+        ];
         items::store_all(entries, Sheet::NUMBERS * self.count, &entry);
         items::set(values, self.count, value);
         Gathered {

@@ -10,7 +10,7 @@ use contract::{Contract, TableHead};
 use results::Report;
 use tables::Passed;
 
-// An entry: a label's kind, party and value, with the rule and the clock that sent it. Rules are numbered as in result lines.
+// An entry: a label's kind, party, value and group, with the rule and the clock that sent it. Rules are numbered as in result lines.
 #[derive(Clone, Copy)]
 pub(crate) struct Entry {
     pub(crate) kind: u64,
@@ -18,6 +18,7 @@ pub(crate) struct Entry {
     pub(crate) rule: u64,
     pub(crate) clock: u64,
     pub(crate) value: i64,
+    pub(crate) group: u64,
 }
 
 impl Entry {
@@ -56,6 +57,7 @@ impl Entries<'_> {
             rule: self.numbers[at + 2],
             clock: self.numbers[at + 3],
             value: self.values[i],
+            group: self.numbers[at + 4],
         }
     }
 

@@ -41,25 +41,35 @@ module _ {w : List ℕ} {old : List ℕ} {at : ℕ} (t : passes w ≡ true) wher
   pub ready_state : {rule state clock : ℕ} → Ready w (Ruled rule state clock) old at → Row w (contract_of w).states state (1891 + state * 33) 32
   ready_state {rule} {state} {clock} r = state_row w t state (state_below (contract_of w) rule state clock r.range)
 
-  pub ready_party : {kind party : ℕ} {z : ℤ} → Ready w (Sent kind party z) old at → Row w (contract_of w).parties party (43 + party * 33) 32
-  ready_party {kind} {party} {z} r = party_row w t party (party_below (contract_of w) kind party z r.range)
+  pub ready_party : {kind party : ℕ} {z : ℤ} {group : ℕ} → Ready w (Sent kind party z group) old at → Row w (contract_of w).parties party (43 + party * 33) 32
+  ready_party {kind} {party} {z} {group} r = party_row w t party (party_below (contract_of w) kind party z group r.range)
 
   pub ready_asset : {asset amount : ℕ} → Ready w (Held asset amount) old at → Row w (contract_of w).assets asset (307 + asset * 33) 32
   ready_asset {asset} {amount} r = asset_row w t asset (asset_below (contract_of w) asset amount r.range)
 
-  pub ready_value : {kind party : ℕ} {z : ℤ} → SFits w64 z → Ready w (Sent kind party z) old at → ReadyValue w kind (to_z w64 (of_z w64 z)) old at
-  ready_value {kind} {party} {z} f r =
+  pub ready_value : {kind party : ℕ} {z : ℤ} {group : ℕ} → SFits w64 z → Ready w (Sent kind party z group) old at → ReadyValue w kind (to_z w64 (of_z w64 z)) old at
+  ready_value {kind} {party} {z} {group} f r =
       record {
         room = r.room;
-        range = ap (value_ok (contract_of w) kind) (to_z-of_z f) ∙ value_below (contract_of w) kind party z r.range;
+        range = ap (value_ok (contract_of w) kind) (to_z-of_z f) ∙ value_below (contract_of w) kind party z group r.range;
       }
 
-  ready_whole : {kind party : ℕ} {z : ℤ} → Ready w (Sent kind party z) old at → ReadyValue w kind z old at
-  ready_whole {kind} {party} {z} r = record { room = r.room; range = value_below (contract_of w) kind party z r.range }
+  ready_whole : {kind party : ℕ} {z : ℤ} {group : ℕ} → Ready w (Sent kind party z group) old at → ReadyValue w kind z old at
+  ready_whole {kind} {party} {z} {group} r = record { room = r.room; range = value_below (contract_of w) kind party z group r.range }
 
   pub ready_string : {kind : ℕ} {z : ℤ} → ReadyValue w kind z old at → kind ≡ 2 → (m : ℕ) → m ≡ nat_abs z → Row w (contract_of w).strings m (2947 + m * 65) 64
   ready_string {kind} {z} r k m e =
       string_row w t m (subst (λ (i : ℕ). i < length (contract_of w).strings) (sym e) (string_below (contract_of w) kind z r.range k))
+
+-- the group of a label is not looked at
+pub sent_ready : {w : List ℕ} {old : List ℕ} {at kind party group : ℕ} {z : ℤ} {r : Report} → r ≡ Sent kind party z group → SFits w64 z → Ready w r old at
+    → Ready w (Sent kind party (to_z w64 (of_z w64 z)) 0) old at
+unfolding report_ok
+sent_ready {w} {kind = kind} {party = party} {group = group} e f r =
+    record {
+      room = r.room;
+      range = ap (λ (v : ℤ). report_ok (contract_of w) (Sent kind party v group)) (to_z-of_z f) ∙ sym (ap (report_ok (contract_of w)) e) ∙ r.range;
+    }
 
 -- ---- lengths
 
@@ -127,11 +137,11 @@ module _ {old new : List ℕ} {at end : ℕ} where
       (line_put h r.room λ h. part h p1 λ h. piece name h p2 λ h. piece (bytes ",") h p3 λ h. piece (bytes " ") h p4 λ h. piece (decimal clock) h p5 λ h. put_of (bytes "\n") p6 h)
 
   -- x is the value as its bits give it
-  pub sent_line : {s1 s2 : Type 0} {w : List ℕ} {kind party : ℕ} {x z : ℤ} {l1 l2 l3 : List ℕ} {a1 a2 a3 : ℕ} → passes w ≡ true → x ≡ z → SFits w64 z → Ready w (Sent kind party z) old at
+  pub sent_line : {s1 s2 : Type 0} {w : List ℕ} {kind party group : ℕ} {x z : ℤ} {l1 l2 l3 : List ℕ} {a1 a2 a3 : ℕ} → passes w ≡ true → x ≡ z → SFits w64 z → Ready w (Sent kind party z group) old at
       → Put old at (value_text (contract_of w) kind x) a1 l1 → Put l1 a1 (bytes " " ++ (arrow kind ++ bytes " ")) a2 l2
-      → Puts l2 a2 (name_bytes w (43 + party * 33)) a3 l3 s1 → Puts l3 a3 (bytes "\n") end new s2 → PutLine old at (line_of (contract_of w) (Sent kind party z)) end new
+      → Puts l2 a2 (name_bytes w (43 + party * 33)) a3 l3 s1 → Puts l3 a3 (bytes "\n") end new s2 → PutLine old at (line_of (contract_of w) (Sent kind party z group)) end new
   unfolding line_of spelled
-  sent_line {w} {kind} {party} {x} {z} t q f r p1 p2 p3 p4 =
+  sent_line {w} {kind} {party} {group} {x} {z} t q f r p1 p2 p3 p4 =
       let row = ready_party t r in
       let value : List ℕ = value_text (contract_of w) kind z in
       let mark : List ℕ = bytes " " ++ (arrow kind ++ bytes " ") in
@@ -180,6 +190,13 @@ module _ {old new : List ℕ} {at end : ℕ} where
       let rest : List ℕ = refused_text k ++ bytes "\n" in
       let h : length ((bytes "[" ++ (rule_name 2 ++ bytes "] ")) ++ rest) ≤ 128 = omega (arith, length-append (refused_text k) (bytes "\n"), refused_short k f) in
       line_same (in_three (bytes "[") (rule_name 2) (bytes "] ") rest) (line_put h r λ h. part h p1 λ h. part h p2 λ h. put_of (bytes "\n") p3 h)
+
+  -- a label's line is the same whatever its group
+  pub sent_as : (w : List ℕ) {kind party group : ℕ} {z : ℤ} {r : Report} → r ≡ Sent kind party z group → SFits w64 z
+      → PutLine old at (line_of (contract_of w) (Sent kind party (to_z w64 (of_z w64 z)) 0)) end new → PutLine old at (line_of (contract_of w) r) end new
+  unfolding line_of
+  sent_as w {kind} {party} {group} e f p =
+      line_same (ap (λ (v : ℤ). line_of (contract_of w) (Sent kind party v group)) (to_z-of_z f) ∙ sym (ap (line_of (contract_of w)) e)) p
 
   pub refused_as : (w : List ℕ) (k : ℕ) {r : Report} → r ≡ report.Refused k → PutLine old at (refused_text k ++ spelled line_end) end new → PutLine old at (line_of (contract_of w) r) end new
   unfolding line_of

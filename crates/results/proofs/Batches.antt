@@ -38,7 +38,7 @@ decoded r = report_from (get_or (coded r) 0 0) (get_or (coded r) 1 0) (get_or (c
 -- the same, if the second number is a byte
 byte_back : (r : Report) → get_or (coded r) 1 0 < 256 → decoded r ≡ Some r
 byte_back (Ruled rule state clock) h = sym (ruled_from 1 rule state clock _ h refl)
-byte_back (Sent kind party value) h = sym (sent_from 2 kind party 0 value refl h (λ e. omega (arith, e)) refl)
+byte_back (Sent kind party value group) h = sym (sent_from 2 kind party group value refl h (λ e. omega (arith, e)) refl)
 byte_back (Held asset amount) h = sym (held_from 3 asset amount 0 _ h (λ e. omega (arith, e)) (λ e. omega (arith, e)) refl)
 byte_back (Refused n) h = sym (refused_from 4 n 0 0 _ h (λ e. omega (arith, e)) (λ e. omega (arith, e)) (λ e. omega (arith, e)) refl)
 byte_back (Failed n) h = sym (failed_from 5 n 0 0 _ h (λ e. omega (arith, e)) (λ e. omega (arith, e)) (λ e. omega (arith, e)) (λ e. omega (arith, e)) refl)
@@ -56,7 +56,7 @@ refusal_byte n h =
 ok_byte : (c : Contract) → length c.assets ≤ 256 → (r : Report) → report_ok c r ≡ true → get_or (coded r) 1 0 < 256
 unfolding report_ok
 ok_byte c h (Ruled rule state clock) k = let l = leb-true rule 3 (both_left (leb rule 3) _ k) in omega (arith, l)
-ok_byte c h (Sent kind party value) k = let l = (ranges_of 1 kind 3 (both_left (ranges 1 kind 3) _ k)).1 in omega (arith, l)
+ok_byte c h (Sent kind party value group) k = let l = (ranges_of 1 kind 3 (both_left (ranges 1 kind 3) _ k)).1 in omega (arith, l)
 ok_byte c h (Held asset amount) k = omega (arith, asset_below c asset amount k, h)
 ok_byte c h (Refused n) k = refusal_byte n k
 ok_byte c h (Failed n) k = omega (arith, (ranges_of 30 n 36 k).1)
@@ -104,7 +104,7 @@ module _ (p q r s : ℕ) (ns : List ℕ) (z : ℤ) (zs : List ℤ) where
 
 coded_first : (r : Report) (ns : List ℕ) (zs : List ℤ) (n : ℕ) → reports_from (coded r ++ ns) (integer_of r ∷ zs) 0 (suc n) ≡ decoded r ∷ reports_from ns zs 0 n
 coded_first (Ruled rule state clock) ns zs n = four_first _ _ _ _ ns _ zs n
-coded_first (Sent kind party value) ns zs n = four_first _ _ _ _ ns _ zs n
+coded_first (Sent kind party value group) ns zs n = four_first _ _ _ _ ns _ zs n
 coded_first (Held asset amount) ns zs n = four_first _ _ _ _ ns _ zs n
 coded_first (Refused k) ns zs n = four_first _ _ _ _ ns _ zs n
 coded_first (Failed k) ns zs n = four_first _ _ _ _ ns _ zs n

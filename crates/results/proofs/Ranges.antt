@@ -53,10 +53,10 @@ module _ (w : List ℕ) {report : Report} where
   ruled_ok {rule} {state} {clock} e p =
       (λ i. leb rule 3 && (ltb state ((p ∙ sym (counts w).states) i) && leb clock top)) ∙ sym (ap (report_ok (contract_of w)) e)
 
-  pub sent_ok : {kind party n : ℕ} {z : ℤ} {r v : Bool} → report ≡ Sent kind party z → SFits w64 z → r ≡ ranges 1 kind 3 → n ≡ word_at w 0
+  pub sent_ok : {kind party group n : ℕ} {z : ℤ} {r v : Bool} → report ≡ Sent kind party z group → SFits w64 z → r ≡ ranges 1 kind 3 → n ≡ word_at w 0
       → v ≡ value_ok (contract_of w) kind (to_z w64 (of_z w64 z)) → (r && (ltb party n && v)) ≡ report_ok (contract_of w) report
   unfolding report_ok
-  sent_ok {kind} {party} {n} {z} {r} {v} e f a p b =
+  sent_ok {kind} {party} {group} {n} {z} {r} {v} e f a p b =
       let q : v ≡ value_ok (contract_of w) kind z = b ∙ ap (value_ok (contract_of w) kind) (to_z-of_z f) in
       (λ i. a i && (ltb party ((p ∙ sym (counts w).parties) i) && q i)) ∙ sym (ap (report_ok (contract_of w)) e)
 
@@ -80,18 +80,18 @@ module _ (c : Contract) where
   state_below rule state clock e =
       ltb-true state (length c.states) (link (leb rule 3 ∷ ltb state (length c.states) ∷ leb clock top ∷ []) e 1)
 
-  pub party_below : (kind party : ℕ) (z : ℤ) → report_ok c (Sent kind party z) ≡ true → party < length c.parties
+  pub party_below : (kind party : ℕ) (z : ℤ) (group : ℕ) → report_ok c (Sent kind party z group) ≡ true → party < length c.parties
   unfolding report_ok
-  party_below kind party z e =
+  party_below kind party z group e =
       ltb-true party (length c.parties) (link (ranges 1 kind 3 ∷ ltb party (length c.parties) ∷ value_ok c kind z ∷ []) e 1)
 
   pub asset_below : (asset amount : ℕ) → report_ok c (Held asset amount) ≡ true → asset < length c.assets
   unfolding report_ok
   asset_below asset amount e = ltb-true asset (length c.assets) (link (ltb asset (length c.assets) ∷ leb amount top ∷ []) e 0)
 
-  pub value_below : (kind party : ℕ) (z : ℤ) → report_ok c (Sent kind party z) ≡ true → value_ok c kind z ≡ true
+  pub value_below : (kind party : ℕ) (z : ℤ) (group : ℕ) → report_ok c (Sent kind party z group) ≡ true → value_ok c kind z ≡ true
   unfolding report_ok
-  value_below kind party z e = link (ranges 1 kind 3 ∷ ltb party (length c.parties) ∷ value_ok c kind z ∷ []) e 2
+  value_below kind party z group e = link (ranges 1 kind 3 ∷ ltb party (length c.parties) ∷ value_ok c kind z ∷ []) e 2
 
   pub string_below : (kind : ℕ) (z : ℤ) → value_ok c kind z ≡ true → kind ≡ 2 → nat_abs z < length c.strings
   unfolding value_ok

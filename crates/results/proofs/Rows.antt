@@ -39,7 +39,7 @@ below p outside b e = by_test (ltb b 256) (ltb-true b 256) λ t. true_false (sym
 
 -- ---- rows
 
-name_word : (w : List ℕ) (o : ℕ) → name_ok w o ≡ true → (name_bytes w o ≡ word_of w o) × (word_at w o ≤ 32)
+pub name_word : (w : List ℕ) (o : ℕ) → name_ok w o ≡ true → (name_bytes w o ≡ word_of w o) × (word_at w o ≤ 32)
 unfolding name_ok
 name_word w o e =
     let n = word_at w o in

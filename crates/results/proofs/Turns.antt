@@ -43,10 +43,10 @@ module _ (which a b c : ℕ) (z : ℤ) where
   ruled_from h e = sym (pick_true _ _ _ (lt-ltb a 256 h) ∙ pick_true _ _ _ (eq-eqb which 1 e))
 
   -- x is the value as its bits give it
-  pub sent_from : {x : ℤ} → x ≡ z → a < 256 → (which ≡ 1 → ⊥) → which ≡ 2 → Some (Sent a b x) ≡ report_from which a b c z
+  pub sent_from : {x : ℤ} → x ≡ z → a < 256 → (which ≡ 1 → ⊥) → which ≡ 2 → Some (Sent a b x c) ≡ report_from which a b c z
   unfolding report_from
   sent_from q h d e =
-      ap (λ (v : ℤ). Some (Sent a b v)) q ∙ sym (pick_true _ _ _ (lt-ltb a 256 h) ∙ pick_false _ _ _ (ne_eqb which 1 d) ∙ pick_true _ _ _ (eq-eqb which 2 e))
+      ap (λ (v : ℤ). Some (Sent a b v c)) q ∙ sym (pick_true _ _ _ (lt-ltb a 256 h) ∙ pick_false _ _ _ (ne_eqb which 1 d) ∙ pick_true _ _ _ (eq-eqb which 2 e))
 
   pub held_from : a < 256 → (which ≡ 1 → ⊥) → (which ≡ 2 → ⊥) → which ≡ 3 → Some (Held a b) ≡ report_from which a b c z
   unfolding report_from

@@ -7,7 +7,7 @@ use Rattle.results.specs.declared.Report.TheVariants.{Ruled, Sent, Held, Refused
 -- the four numbers of a report, the first telling which it is; those that it does not need are 0
 abbrev pub coded : Report → List ℕ
 coded (Ruled rule state clock) = 1 ∷ rule ∷ state ∷ clock ∷ []
-coded (Sent kind party value) = 2 ∷ kind ∷ party ∷ 0 ∷ []
+coded (Sent kind party value group) = 2 ∷ kind ∷ party ∷ group ∷ []
 coded (Held asset amount) = 3 ∷ asset ∷ amount ∷ 0 ∷ []
 coded (Refused n) = 4 ∷ n ∷ 0 ∷ 0 ∷ []
 coded (Failed n) = 5 ∷ n ∷ 0 ∷ 0 ∷ []
@@ -15,7 +15,7 @@ coded (Failed n) = 5 ∷ n ∷ 0 ∷ 0 ∷ []
 -- its integer: a label's value, else 0
 abbrev pub integer_of : Report → ℤ
 integer_of (Ruled rule state clock) = pos 0
-integer_of (Sent kind party value) = value
+integer_of (Sent kind party value group) = value
 integer_of (Held asset amount) = pos 0
 integer_of (Refused n) = pos 0
 integer_of (Failed n) = pos 0
@@ -35,7 +35,7 @@ unfoldable pub report_from : ℕ → ℕ → ℕ → ℕ → ℤ → Option Repo
 report_from which a b c value =
     pick (ltb a 256)
     (pick (eqb which 1) (Some (Ruled a b c))
-    (pick (eqb which 2) (Some (Sent a b value))
+    (pick (eqb which 2) (Some (Sent a b value c))
     (pick (eqb which 3) (Some (Held a b))
     (pick (eqb which 4) (Some (Refused a))
     (pick (eqb which 5) (Some (Failed a)) None)))))

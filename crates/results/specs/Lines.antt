@@ -30,7 +30,7 @@ text_refusal n = eqb n 1 || (eqb n 2 || ranges 5 n 15)
 
 unfoldable pub report_ok : Contract → Report → Bool
 report_ok c (Ruled rule state clock) = leb rule 3 && (ltb state (length c.states) && leb clock top)
-report_ok c (Sent kind party value) = ranges 1 kind 3 && (ltb party (length c.parties) && value_ok c kind value)
+report_ok c (Sent kind party value group) = ranges 1 kind 3 && (ltb party (length c.parties) && value_ok c kind value)
 report_ok c (Held asset amount) = ltb asset (length c.assets) && leb amount top
 report_ok c (Refused n) = refusal n
 report_ok c (Failed n) = ranges 30 n 36
@@ -62,7 +62,7 @@ refused_text n = spelled refused ++ (bytes " " ++ decimal n)
 unfoldable pub line_of : Contract → Report → List ℕ
 line_of c (Ruled rule state clock) =
     bytes "[" ++ (rule_name rule ++ (bytes "] " ++ (get_or c.states state [] ++ (bytes ", " ++ (decimal clock ++ spelled line_end)))))
-line_of c (Sent kind party value) =
+line_of c (Sent kind party value group) =
     value_text c kind value ++ (bytes " " ++ (arrow kind ++ (bytes " " ++ (get_or c.parties party [] ++ spelled line_end))))
 line_of c (Held asset amount) = get_or c.assets asset [] ++ (bytes " = " ++ (decimal amount ++ spelled line_end))
 line_of c (Refused n) = refused_text n ++ spelled line_end

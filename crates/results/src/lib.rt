@@ -23,8 +23,8 @@ pub use reports::rule_word;
 pub enum Report {
     // A rule, and the state's number and the clock after it.
     Ruled(u8, usize, u64),
-    // A label: its kind, its party and its value.
-    Sent(u8, usize, i64),
+    // A label: its kind, its party, its value and its source's group, which is not printed.
+    Sent(u8, usize, i64, u64),
     // An asset and its amount.
     Held(usize, u64),
     // The number of the question that refused.
@@ -74,7 +74,9 @@ impl Report {
     {
         match self {
             Report::Ruled(rule, state, clock) => [Report::RULED, rule as u64, state as u64, clock],
-            Report::Sent(kind, party, _) => [Report::SENT, kind as u64, party as u64, 0],
+            Report::Sent(kind, party, _, group) => {
+                [Report::SENT, kind as u64, party as u64, group]
+            }
             Report::Held(asset, amount) => [Report::HELD, asset as u64, amount, 0],
             Report::Refused(number) => [Report::REFUSED, number as u64, 0, 0],
             Report::Failed(number) => [Report::FAILED, number as u64, 0, 0],
@@ -88,7 +90,7 @@ impl Report {
         ensures { result ≡ integer_of self }
     {
         match self {
-            Report::Sent(_, _, value) => value,
+            Report::Sent(_, _, value, _) => value,
             _ => 0,
         }
     }
@@ -102,7 +104,7 @@ impl Report {
         let first = u8::try_from(a).ok()?;
         match which {
             Report::RULED => Some(Report::Ruled(first, b as usize, c)),
-            Report::SENT => Some(Report::Sent(first, b as usize, integer)),
+            Report::SENT => Some(Report::Sent(first, b as usize, integer, c)),
             Report::HELD => Some(Report::Held(first as usize, b)),
             Report::REFUSED => Some(Report::Refused(first)),
             Report::FAILED => Some(Report::Failed(first)),

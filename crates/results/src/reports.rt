@@ -71,7 +71,7 @@ pub(crate) fn report_ok(table: &[u64], report: Report) -> bool
                 && (state as u64) < contract::word(table, TableHead::STATES)
                 && clock <= Contract::TOP
         }
-        Report::Sent(kind, party, value) => {
+        Report::Sent(kind, party, value, _) => {
             is_kind(kind)
                 && (party as u64) < contract::word(table, TableHead::PARTIES)
                 && value_ok(table, kind, value)
@@ -181,8 +181,8 @@ fn put_arrow(out: &mut Writer, kind: u8)
 }
 
 fn put_sent(out: &mut Writer, terms: &Passed, kind: u8, party: usize, value: i64)
-    requires { Ready terms.now.table.now (Sent kind party value) out.old.buffer.now out.old.at }
-    ensures written { WroteLine out.old (line_of (contract_of terms.now.table.now) (Sent kind party value)) out.new }
+    requires { Ready terms.now.table.now (Sent kind party value 0) out.old.buffer.now out.old.at }
+    ensures written { WroteLine out.old (line_of (contract_of terms.now.table.now) (Sent kind party value 0)) out.new }
     ensures same_buffer { out.new.buffer.ghost_name ≡ out.old.buffer.ghost_name }
 {
     put_value(out, terms, kind, value);
@@ -235,7 +235,7 @@ pub(crate) fn put_line(out: &mut Writer, terms: &Passed, report: Report)
 {
     match report {
         Report::Ruled(rule, state, clock) => put_ruled(out, terms, rule, state, clock),
-        Report::Sent(kind, party, value) => put_sent(out, terms, kind, party, value),
+        Report::Sent(kind, party, value, _) => put_sent(out, terms, kind, party, value),
         Report::Held(asset, amount) => put_held(out, terms, asset, amount),
         Report::Refused(n) => put_refusal(out, n),
         Report::Failed(n) => put_failed(out, n),

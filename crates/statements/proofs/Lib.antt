@@ -1,4 +1,5 @@
 pub mod Writes
 pub mod Moves
+pub mod Groups
 pub mod Actions
 pub mod Blocks

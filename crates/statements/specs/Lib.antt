@@ -1,3 +1,4 @@
 pub mod Running
 pub mod Lending
+pub mod Blocks
 pub mod Private

@@ -6,7 +6,7 @@ use Rattle.questions.specs.declared.Question.TheVariants as ask
 use Rattle.numbers.specs.declared.Value.{Value}
 use Rattle.numbers.specs.declared.Value.TheVariants.{Integer, Text}
 use Rattle.numbers.specs.Numbers.{Answer, Truth}
-use Rattle.contract.specs.Limits.{top, max_parties}
+use Rattle.contract.specs.Limits.{top, max_parties, max_assets}
 use Rattle.contract.specs.Tree.{Holder, held, Action, assign, send, move, pay, move_all, pay_all, Block, none, perform, conditional, broken_block}
 use Rattle.evaluation.specs.Memory.{Memory, memory_of, place_of}
 use Rattle.evaluation.specs.Meaning.{value_of, truth_of}
@@ -76,24 +76,24 @@ with_holdings w hs =
     record { kinds = w.kinds; numbers = w.numbers; texts = w.texts; holdings = hs; labels = w.labels; count = w.count; refusal = w.refusal }
 
 -- a label after those sent so far
-unfoldable pub labelled : Work → ℕ → ℕ → ℤ → Work
-labelled w kind party value =
+unfoldable pub labelled : Work → ℕ → ℕ → ℤ → ℕ → Work
+labelled w kind party value group =
     pick (ltb w.count max_labels)
     (record {
       kinds = w.kinds;
       numbers = w.numbers;
       texts = w.texts;
       holdings = w.holdings;
-      labels = set w.labels w.count (record { kind = kind; party = party; value = value });
+      labels = set w.labels w.count (record { kind = kind; party = party; value = value; group = group });
       count = suc w.count;
       refusal = w.refusal;
     })
     w
 
--- a value is sent to a party
+-- a value is sent to a party: it comes from no group
 abbrev pub sent : Work → ℕ → Value → Work
-sent w a (Integer z) = labelled w integer_label a z
-sent w a (Text n) = labelled w string_label a (pos n)
+sent w a (Integer z) = labelled w integer_label a z 0
+sent w a (Text n) = labelled w string_label a (pos n) 0
 
 -- a party's number; past the last one, of no contract that was read
 abbrev pub receiver : ℕ → ℕ
@@ -102,6 +102,10 @@ receiver a = min a max_parties
 -- a holder's place, and the amount there
 abbrev pub place : Holder → ℕ
 place h = min (place_of h) max_holdings
+
+-- the group of the name at place i, by the groups of names; `start` is the number of the function's first asset parameter
+abbrev pub group_at : List ℕ → ℕ → ℕ → ℕ
+group_at groups start i = get_or groups (pick (ltb i max_assets) i (start + (i - max_assets))) 0
 
 abbrev pub amount_at : Work → ℕ → ℕ
 amount_at w i = get_or w.holdings i 0
@@ -116,11 +120,11 @@ moved w i j n =
     (pick (ltb top (amount_at w j + n)) (stopped w ask.SumFits)
     (with_holdings w (set (set w.holdings i (amount_at w i - n)) j (amount_at w j + n))))))
 
--- n is paid from place i to party a: question 35
-unfoldable pub paid : Work → ℕ → ℕ → ℕ → Work
-paid w i a n =
+-- n is paid from place i to party a, the label with place i's group: question 35
+unfoldable pub paid : (ℕ → ℕ) → Work → ℕ → ℕ → ℕ → Work
+paid g w i a n =
     pick (ltb (amount_at w i) n) (stopped w ask.AmountHeld)
-    (labelled (with_holdings w (set w.holdings i (amount_at w i - n))) asset_label a (pos n))
+    (labelled (with_holdings w (set w.holdings i (amount_at w i - n))) asset_label a (pos n) (g i))
 
 -- with a value
 abbrev pub with_value : Work → Answer → (Value → Work) → Work
@@ -134,14 +138,14 @@ with_amount w (Ok (Text t)) f = stopped w ask.OperandKind
 with_amount w (Ok (Integer (pos n))) f = f n
 with_amount w (Ok (Integer (negsuc n))) f = stopped w ask.AmountSign
 
--- `h -o t` means all of h
-unfoldable pub performed : List ℤ → ℕ → Work → Action → Work
-performed v t w (assign e x) = with_value w (value_of (memory_in v t w) e) (stored w x)
-performed v t w (send e a) = with_value w (value_of (memory_in v t w) e) (sent w (receiver a))
-performed v t w (move e h k) = with_amount w (value_of (memory_in v t w) e) (moved w (place h) (place k))
-performed v t w (pay e h a) = with_amount w (value_of (memory_in v t w) e) (paid w (place h) (receiver a))
-performed v t w (move_all h k) = with_amount w (value_of (memory_in v t w) (held h)) (moved w (place h) (place k))
-performed v t w (pay_all h a) = with_amount w (value_of (memory_in v t w) (held h)) (paid w (place h) (receiver a))
+-- g gives the groups of places; `h -o k` means all of h
+unfoldable pub performed : (ℕ → ℕ) → List ℤ → ℕ → Work → Action → Work
+performed g v t w (assign e x) = with_value w (value_of (memory_in v t w) e) (stored w x)
+performed g v t w (send e a) = with_value w (value_of (memory_in v t w) e) (sent w (receiver a))
+performed g v t w (move e h k) = with_amount w (value_of (memory_in v t w) e) (moved w (place h) (place k))
+performed g v t w (pay e h a) = with_amount w (value_of (memory_in v t w) e) (paid g w (place h) (receiver a))
+performed g v t w (move_all h k) = with_amount w (value_of (memory_in v t w) (held h)) (moved w (place h) (place k))
+performed g v t w (pay_all h a) = with_amount w (value_of (memory_in v t w) (held h)) (paid g w (place h) (receiver a))
 
 -- the block of a conditional is run if its condition holds
 abbrev pub by_truth : Work → Truth → Work → Work
@@ -150,25 +154,26 @@ by_truth w (Ok true) after = after
 by_truth w (Ok false) after = w
 
 -- the statements of a block in order
-unfoldable pub ran : List ℤ → ℕ → Work → Block → Work
-ran v t w none = w
-ran v t w (perform b a) = onward (ran v t w b) (λ x. performed v t x a)
-ran v t w (conditional b c s) = onward (ran v t w b) (λ x. by_truth x (truth_of (memory_in v t x) c) (ran v t x s))
+unfoldable pub ran : (ℕ → ℕ) → List ℤ → ℕ → Work → Block → Work
+ran g v t w none = w
+ran g v t w (perform b a) = onward (ran g v t w b) (λ x. performed g v t x a)
+ran g v t w (conditional b c s) = onward (ran g v t w b) (λ x. by_truth x (truth_of (memory_in v t x) c) (ran g v t x s))
 -- of no contract that was read
-ran v t w broken_block = stopped w ask.TableCheck
+ran g v t w broken_block = stopped w ask.TableCheck
 
 -- ---- a work whose parts stand apart
 
--- a label is so many words: kind, party, value
+-- a label is so many words: kind, party, value, group
 abbrev pub label_words : ℕ
-label_words = 3
+label_words = 4
 
 -- labels by their words
 unfoldable pub labels_from : List ℤ → List Label
 labels_from [] = []
 labels_from (k ∷ []) = []
 labels_from (k ∷ p ∷ []) = []
-labels_from (k ∷ p ∷ v ∷ ws) = record { kind = nat_abs k; party = nat_abs p; value = v } ∷ labels_from ws
+labels_from (k ∷ p ∷ v ∷ []) = []
+labels_from (k ∷ p ∷ v ∷ g ∷ ws) = record { kind = nat_abs k; party = nat_abs p; value = v; group = nat_abs g } ∷ labels_from ws
 
 abbrev pub work_from : List ℕ → List ℤ → List ℕ → List ℕ → List Label → ℕ → Option Question → Work
 work_from kinds numbers texts holdings labels count refusal =

@@ -10,25 +10,27 @@ ghost use Rattle.contract.specs.Decode.{holder_of, block_between, condition_at};
 ghost use Rattle.evaluation.specs.Memory.{lent, place_of};
 ghost use Rattle.evaluation.specs.Meaning.{truth_of};
 ghost use Rattle.statements.specs.Running.{receiver, place, filled, stored, labelled, sent, moved, paid, performed, ran};
-ghost use Rattle.statements.specs.Lending.{work_by, work_of, memory_by, SameLists};
-ghost use Rattle.statements.specs.Private.{end_before, action_at, amount_in, left_of, value_given, amount_given, answer_at, statement_at, branched, performed_at};
+ghost use Rattle.statements.specs.Lending.{work_by, work_of, memory_by, groups_by, SameLists};
+ghost use Rattle.statements.specs.Blocks.{end_before, action_at, statement_at};
+ghost use Rattle.statements.specs.Private.{amount_in, left_of, value_given, amount_given, answer_at, branched, performed_at};
 
 use contract::{Contract, Node};
 use evaluation::{FieldKind, Holdings, Memory};
 use numbers::Value;
 use questions::Question;
 
-// What a send leaves: kind (1 integer, 2 string, 3 asset), party, and value, a string's being its number.
+// What a send leaves: kind (1 integer, 2 string, 3 asset), party, value, a string's being its number, and its source's group, 0 for a value sent.
 #[derive(Clone, Copy, PartialEq, Eq)]
 pub struct Label {
     pub kind: u64,
     pub party: usize,
     pub value: i64,
+    pub group: usize,
 }
 
-// Kept: (a) a caller lends `Runner`, `outcomes::labels_of` and `step_reports::report` labels as one list of integers, three words each
+// Kept: (a) a caller lends `Runner`, `outcomes::labels_of` and `step_reports::report` labels as one list of integers, four words each
 // (docs/DECISIONS.md 54), and these promise what they do of its words: an array of labels would ask for another list. The kind is a number, since
-// any three words are a label: an enum of kinds would have no variant for most words.
+// any four words are a label: an enum of kinds would have no variant for most words.
 impl Label {
     pub const INTEGER: u64 = 1;
 
@@ -39,7 +41,7 @@ impl Label {
     // The most labels of a step, the words of one, and the words of all.
     pub const MOST: usize = 64;
 
-    pub const WORDS: usize = 3;
+    pub const WORDS: usize = 4;
 
     pub const ROOM: usize = Label::MOST * Label::WORDS;
 }
@@ -59,6 +61,9 @@ pub struct Runner<'a> {
     pub count: usize,
     pub values: &'a [i64],
     pub clock: u64,
+    // The groups of names by their numbers, and the number of the function's first asset parameter.
+    pub groups: &'a [u16],
+    pub first_parameter: usize,
 }
 
 // The number of the party that a node names; past the last one, of no contract that was read.
@@ -127,8 +132,8 @@ fn argument_at(table: &[u64], k: usize) -> usize
 }
 
 // Where the block before the statement at node k ends.
-#[tactic(auto, unfolding(laws::specs::Choice::pick, crate::specs::Private::end_before))]
-fn end_before(table: &[u64], k: usize) -> usize
+#[tactic(auto, unfolding(laws::specs::Choice::pick, crate::specs::Blocks::end_before))]
+pub fn end_before(table: &[u64], k: usize) -> usize
     ensures { result ≡ end_before table.now k }
 {
     let node = contract::node_at(table, k);
@@ -148,8 +153,8 @@ fn end_before(table: &[u64], k: usize) -> usize
 }
 
 // Whether a statement ends at node k.
-#[tactic(auto, unfolding(laws::specs::Choice::pick, crate::specs::Private::statement_at))]
-fn is_statement(table: &[u64], k: usize) -> bool
+#[tactic(auto, unfolding(laws::specs::Choice::pick, crate::specs::Blocks::statement_at))]
+pub fn is_statement(table: &[u64], k: usize) -> bool
     ensures { result ≡ statement_at table.now k }
 {
     let node = contract::node_at(table, k);
@@ -194,9 +199,9 @@ impl Runner<'_> {
     }
 
     // A label after those sent so far.
-    fn add_label(&mut self, kind: u64, party: u8, value: i64)
+    fn add_label(&mut self, kind: u64, party: u8, value: i64, group: u16)
         requires { kind < 4 }
-        ensures value { work_of self.new ≡ labelled (work_of self.old) kind party value }
+        ensures value { work_of self.new ≡ labelled (work_of self.old) kind party value group }
         ensures same_lists { SameLists self.old self.new }
     {
         let n = self.count;
@@ -206,6 +211,7 @@ impl Runner<'_> {
             labels[at] = kind as i64;
             labels[at + 1] = party as i64;
             labels[at + 2] = value;
+            labels[at + 3] = group as i64;
             self.count = n + 1;
         }
     }
@@ -216,8 +222,8 @@ impl Runner<'_> {
         ensures same_lists { SameLists self.old self.new }
     {
         match value {
-            Value::Integer(z) => self.add_label(Label::INTEGER, party, z),
-            Value::Text(n) => self.add_label(Label::STRING, party, n as i64),
+            Value::Integer(z) => self.add_label(Label::INTEGER, party, z, 0),
+            Value::Text(n) => self.add_label(Label::STRING, party, n as i64, 0),
         }
     }
 
@@ -245,17 +251,31 @@ impl Runner<'_> {
         Ok(())
     }
 
+    // The group of what place i holds.
+    #[tactic(auto, using(crate::proofs::Groups::past_names), unfolding(laws::specs::Choice::pick))]
+    fn group_of(&self, i: usize) -> u16
+        ensures { result ≡ groups_by self.now i }
+    {
+        let name = if i < Contract::ASSETS {
+            i
+        } else {
+            self.first_parameter.saturating_add(i - Contract::ASSETS)
+        };
+        items::get_or(self.groups, name, 0)
+    }
+
     // n is paid from place i to a party, unless a question refuses it.
     #[tactic(auto, unfolding(laws::specs::Choice::pick, crate::specs::Running::paid))]
     fn pay(&mut self, i: usize, party: u8, n: u64) -> Result<(), Question>
         requires { n ≤ 9223372036854775807 }
-        ensures value { work_by self.new (result_err result) ≡ paid (work_of self.old) i party n }
+        ensures value { work_by self.new (result_err result) ≡ paid (groups_by self.old) (work_of self.old) i party n }
         ensures same_lists { SameLists self.old self.new }
     {
         let holdings = &mut *self.holdings;
         let left = left_of(holdings, i, n)?;
         items::set(holdings, i, left);
-        self.add_label(Label::ASSET, party, n as i64);
+        let group = self.group_of(i);
+        self.add_label(Label::ASSET, party, n as i64, group);
         Ok(())
     }
 }
@@ -283,7 +303,7 @@ impl Runner<'_> {
 
     // A move at node k, with the answer of its amount: it goes where the two nodes before node k say.
     fn give_amount(&mut self, k: usize, answer: Result<Value, Question>) -> Result<(), Question>
-        ensures value { work_by self.new (result_err result) ≡ amount_given (work_of self.old) self.old.table.now k answer }
+        ensures value { work_by self.new (result_err result) ≡ amount_given (groups_by self.old) (work_of self.old) self.old.table.now k answer }
         ensures same_lists { SameLists self.old self.new }
     {
         // Kept: (a) document 01 opens an evaluation answer by let .. else.
@@ -333,7 +353,7 @@ impl Runner<'_> {
 
     // The statement at node k, not a conditional.
     fn act(&mut self, k: usize) -> Result<(), Question>
-        ensures value { work_by self.new (result_err result) ≡ performed self.old.values.now self.old.clock (work_of self.old) (action_at self.old.table.now k) }
+        ensures value { work_by self.new (result_err result) ≡ performed (groups_by self.old) self.old.values.now self.old.clock (work_of self.old) (action_at self.old.table.now k) }
         ensures same_lists { SameLists self.old self.new }
     {
         let kind = contract::node_at(self.table, k).kind;
@@ -354,7 +374,7 @@ impl Runner<'_> {
     // The conditional at node k whose block starts at node `first`: the block is run where the condition before it holds.
     #[cycle(run)]
     fn branch(&mut self, first: usize, k: usize) -> Result<(), Question>
-        ensures value { work_by self.new (result_err result) ≡ branched self.old.values.now self.old.clock (work_of self.old) self.old.table.now first k }
+        ensures value { work_by self.new (result_err result) ≡ branched (groups_by self.old) self.old.values.now self.old.clock (work_of self.old) self.old.table.now first k }
         ensures same_lists { SameLists self.old self.new }
     {
         let answer = self.truth(first.saturating_sub(1));
@@ -371,7 +391,7 @@ impl Runner<'_> {
     // The statement at node k.
     #[cycle(run)]
     fn perform(&mut self, k: usize) -> Result<(), Question>
-        ensures value { work_by self.new (result_err result) ≡ performed_at self.old.values.now self.old.clock (work_of self.old) self.old.table.now k }
+        ensures value { work_by self.new (result_err result) ≡ performed_at (groups_by self.old) self.old.values.now self.old.clock (work_of self.old) self.old.table.now k }
         ensures same_lists { SameLists self.old self.new }
     {
         let node = contract::node_at(self.table, k);
@@ -385,7 +405,7 @@ impl Runner<'_> {
     // The block in the nodes from `from` up to, not including, `end`: the statement at its last node after the block before it.
     #[cycle(run)]
     pub fn run(&mut self, from: usize, end: usize) -> Result<(), Question>
-        ensures value { work_by self.new (result_err result) ≡ ran self.old.values.now self.old.clock (work_of self.old) (block_between self.old.table.now from end) }
+        ensures value { work_by self.new (result_err result) ≡ ran (groups_by self.old) self.old.values.now self.old.clock (work_of self.old) (block_between self.old.table.now from end) }
         ensures same_lists { SameLists self.old self.new }
     {
         if end <= from {

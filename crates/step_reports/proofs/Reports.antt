@@ -45,7 +45,7 @@ stored_four l i w a b c =
 
 coded_length : (r : Report) → length (coded r) ≡ 4
 coded_length (report.Ruled a b c) = refl
-coded_length (report.Sent a b c) = refl
+coded_length (report.Sent a b c d) = refl
 coded_length (report.Held a b) = refl
 coded_length (report.Refused n) = refl
 coded_length (report.Failed n) = refl
@@ -136,14 +136,14 @@ sent_first (suc n) ws h =
 -- label i after those before it
 pub label_told : {numbers more : List ℕ} {integers others : List ℤ} {n : ℕ} {told : List ℕ} {values : List ℤ} (ws : List ℤ) (i : ℕ)
     → Told numbers integers n (sent i ws) told values
-    → {k p : ℕ} → k ≡ (label_at ws i).kind → p ≡ (label_at ws i).party → more ≡ sets told (4 * (n + i)) (2 ∷ k ∷ p ∷ 0 ∷ [])
+    → {k p g : ℕ} → k ≡ (label_at ws i).kind → p ≡ (label_at ws i).party → g ≡ (label_at ws i).group → more ≡ sets told (4 * (n + i)) (2 ∷ k ∷ p ∷ g ∷ [])
     → {v : ℤ} → v ≡ (label_at ws i).value → others ≡ sets values (n + i) (v ∷ [])
     → Told numbers integers n (sent (i + 1) ws) more others
 unfolding sent
-label_told {numbers} {more} {integers} {others} {n} {told} {values} ws i t {k = kind} {p = party} ek ep a {v} ev b =
+label_told {numbers} {more} {integers} {others} {n} {told} {values} ws i t {k = kind} {p = party} {g = group} ek ep eg a {v} ev b =
     let m : n + i ≡ n + length (sent i ws) = ap (λ (k : ℕ). n + k) (sym (sent_length i ws)) in
     let u : suc i ≡ i + 1 = sym (add-one i) in
-    subst (λ (k : ℕ). Told numbers integers n (sent k ws) more others) u (told_more t m (told_one (label_report (label_at ws i)) more others (a ∙ (λ j. sets told (4 * (n + i)) (2 ∷ ek j ∷ ep j ∷ 0 ∷ []))) (b ∙ ap (λ (z : ℤ). sets values (n + i) (z ∷ [])) ev)))
+    subst (λ (k : ℕ). Told numbers integers n (sent k ws) more others) u (told_more t m (told_one (label_report (label_at ws i)) more others (a ∙ (λ j. sets told (4 * (n + i)) (2 ∷ ek j ∷ ep j ∷ eg j ∷ []))) (b ∙ ap (λ (z : ℤ). sets values (n + i) (z ∷ [])) ev)))
 
 -- no more labels than there are
 take_least : (l : List Label) (k n : ℕ) (b : Bool) → ltb k n ≡ b → length l ≡ n → take (min k n) l ≡ take k l

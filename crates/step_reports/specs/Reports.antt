@@ -27,7 +27,7 @@ report_of (outcome.Failed q) state clock = report.Failed (number_of q)
 report_of (outcome.Refused q) state clock = report.Refused (number_of q)
 
 abbrev pub label_report : Label → Report
-label_report l = report.Sent l.kind l.party l.value
+label_report l = report.Sent l.kind l.party l.value l.group
 
 unfoldable pub label_reports : List Label → List Report
 label_reports [] = []

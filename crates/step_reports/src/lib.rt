@@ -62,7 +62,7 @@ impl Done<'_> {
 
 // Word i of the labels, without its sign.
 fn word(labels: &[i64; Label::ROOM], i: usize) -> u64
-    requires { i < 192 }
+    requires { i < 256 }
     ensures { result ≡ nat_abs (get_or labels.now i (pos 0)) }
 {
     labels[i].unsigned_abs()
@@ -84,7 +84,7 @@ impl Teller<'_> {
     }
 
     // The first labels of these words, whose kinds may be any numbers here.
-    // Kept: (d) the words of label i by their places, as the definition (`label_at`) has them: in threes they would be places in a list of lists,
+    // Kept: (d) the words of label i by their places, as the definition (`label_at`) has them: in fours they would be places in a list of lists,
     // which a proof takes back to these, and the count would still be needed beside them.
     fn tell_labels(&mut self, labels: &[i64; Label::ROOM], count: usize)
         requires { (count ≤ 64) × HasRoom self.old count }
@@ -96,7 +96,8 @@ impl Teller<'_> {
             let at = Label::WORDS * i;
             let kind = word(labels, at);
             let party = word(labels, at + 1);
-            self.tell([Report::SENT, kind, party, 0], labels[at + 2]);
+            let group = word(labels, at + 3);
+            self.tell([Report::SENT, kind, party, group], labels[at + 2]);
         }
     }
 }

@@ -2,8 +2,8 @@
 //   w AT V V ..          words of the table from AT on
 //   b SIZE               the buffer has so many bytes, at most 640, each a dot before a line is written
 //   r RULE STATE CLOCK   a rule, and the state and the clock after it
-//   s KIND PARTY VALUE   a label
-//   m KIND PARTY N       a label of the value -1 - N
+//   s KIND PARTY VALUE GROUP, m KIND PARTY N GROUP
+//                        a label, one of the value -1 - N; of group 0 where none is given
 //   h ASSET AMOUNT       an asset's amount
 //   q NUMBER             a refusal
 //   f NUMBER             a failed firing
@@ -13,7 +13,7 @@
 // A report prints its line, then how many bytes were written, those bytes, and whether the others are still dots; or the number
 // that refused, and whether all are. Reports at once also print how many were written.
 // Expected results: the lines that document 01 lists and others of each kind, with the answers of questions 52, 3 and 53; who worked them out, and how, is not recorded here.
-// Those of the refusals 60 to 63 were worked out from document 02, F-3, before they were run.
+// Those of the refusals 60 to 63, and of groups, were worked out from document 02, F-3 and F-7, before they were run.
 #![tactic(auto)]
 
 use contract::Contract;
@@ -105,7 +105,7 @@ impl Trial {
         )
     }
 
-    // A report of up to three numbers, or many at once.
+    // A report of up to four numbers, or many at once.
     fn report(&self, rt: &impl Print, kind: &str, words: &str) -> io::Result<()> {
         match kind {
             "q" => self.write(rt, Report::Refused(number_at(words, 0))),
@@ -113,19 +113,22 @@ impl Trial {
             "h" => self.write(rt, Report::Held(number_at(words, 0), number_at(words, 1))),
             "t" => self.write_refusal(rt, number_at(words, 0), number_at(words, 1)),
             "l" => self.write_batch(rt, words),
-            _ => self.report_of_three(rt, kind, words),
+            _ => self.report_of_more(rt, kind, words),
         }
     }
 
-    fn report_of_three(&self, rt: &impl Print, kind: &str, words: &str) -> io::Result<()> {
+    fn report_of_more(&self, rt: &impl Print, kind: &str, words: &str) -> io::Result<()> {
         let first = number_at(words, 0);
         let second = number_at(words, 1);
         match kind {
             "r" => self.write(rt, Report::Ruled(first, second, number_at(words, 2))),
-            "s" => self.write(rt, Report::Sent(first, second, number_at(words, 2))),
+            "s" => self.write(
+                rt,
+                Report::Sent(first, second, number_at(words, 2), number_at(words, 3)),
+            ),
             "m" => {
                 let value = -1 - number_at::<i64>(words, 2);
-                self.write(rt, Report::Sent(first, second, value))
+                self.write(rt, Report::Sent(first, second, value, number_at(words, 3)))
             }
             _ => Ok(()),
         }

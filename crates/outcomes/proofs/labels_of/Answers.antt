@@ -21,10 +21,11 @@ loop-i-init c =
 pub loop-i-preserved : goal.loop-i-preserved
 loop-i-preserved c =
     let l = c.loop-i in
-    let k : SFits w64 (get_or c.args.words.now (3 * l.i) (pos 0)) = record { sfits = c.unsigned_abs-arg-1.given } in
-    let p : SFits w64 (get_or c.args.words.now (3 * l.i + 1) (pos 0)) = record { sfits = c.unsigned_abs-arg-in-loop-i-1.given } in
-    let v : SFits w64 (get_or c.args.words.now (3 * l.i + 2) (pos 0)) = record { sfits = c.out-1.given } in
-    (drawn_more c.args.words.now 64 c.told-words _ _ _ (c.unsigned_abs.ensures.value ∙ ap nat_abs (to_z-of_z k)) (c.unsigned_abs-in-loop-i.ensures.value ∙ ap nat_abs (to_z-of_z p)) (to_z-of_z v) l.invariant (omega arith))
+    let k : SFits w64 (get_or c.args.words.now (4 * l.i) (pos 0)) = record { sfits = c.unsigned_abs-arg-1.given } in
+    let p : SFits w64 (get_or c.args.words.now (4 * l.i + 1) (pos 0)) = record { sfits = c.unsigned_abs-arg-in-loop-i-1.given } in
+    let v : SFits w64 (get_or c.args.words.now (4 * l.i + 2) (pos 0)) = record { sfits = c.out-1.given } in
+    let g : SFits w64 (get_or c.args.words.now (4 * l.i + 3) (pos 0)) = record { sfits = c.unsigned_abs-arg-in-loop-i-2-1.given } in
+    (drawn_more c.args.words.now 64 c.told-words _ _ _ _ (c.unsigned_abs.ensures.value ∙ ap nat_abs (to_z-of_z k)) (c.unsigned_abs-in-loop-i.ensures.value ∙ ap nat_abs (to_z-of_z p)) (to_z-of_z v) (c.unsigned_abs-in-loop-i-2.ensures.value ∙ ap nat_abs (to_z-of_z g)) l.invariant (omega arith))
 
 pub returns : goal.returns
 returns c =

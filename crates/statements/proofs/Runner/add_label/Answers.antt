@@ -10,8 +10,8 @@ pub returns-then-n-lt-MOST-clause-value : goal.returns-then-n-lt-MOST-clause-val
 returns-then-n-lt-MOST-clause-value c =
     let s = c.args in
     let r = s.self.now in
-    label_added r.kinds.now r.numbers.now r.texts.now r.holdings.now r.labels.now r.count s.kind s.party s.value _ _ _ _ _ _ _ (to_z_pos w64 (omega arith))
-    (to_z_pos w64 (omega arith)) (to_z-of_z c.ranges.value) (omega arith) (omega arith) (omega arith) (omega arith) c.if-n-lt-MOST.true
+    label_added r.kinds.now r.numbers.now r.texts.now r.holdings.now r.labels.now r.count s.kind s.party s.value s.group _ _ _ _ _ _ _ _ _ (to_z_pos w64 (omega arith))
+    (to_z_pos w64 (omega arith)) (to_z-of_z c.ranges.value) (to_z_pos w64 (omega arith)) (omega arith) (omega arith) (omega arith) (omega arith) (omega arith) c.if-n-lt-MOST.true
 
 pub returns-else-n-lt-MOST-clause-value : goal.returns-else-n-lt-MOST-clause-value
-returns-else-n-lt-MOST-clause-value c = label_full (work_of c.args.self.now) _ _ _ (omega arith)
+returns-else-n-lt-MOST-clause-value c = label_full (work_of c.args.self.now) _ _ _ _ (omega arith)

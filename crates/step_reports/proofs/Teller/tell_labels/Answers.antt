@@ -27,12 +27,12 @@ loop-i-preserved c =
     let l = c.loop-i in
     let v = l.invariant in
     let w = c.args.labels.now in
-    let e : to_z w64 (of_z w64 (get_or w (3 * l.i + 2) (pos 0))) ≡ get_or w (3 * l.i + 2) (pos 0) = search rules in
+    let e : to_z w64 (of_z w64 (get_or w (4 * l.i + 2) (pos 0))) ≡ get_or w (4 * l.i + 2) (pos 0) = search rules in
     let r = c.tell.ensures in record {
       within = omega arith;
-      told = label_told w l.i v.told c.word-kind.ensures c.word-party.ensures
-          (r.numbers_after ∙ ap (λ (k : ℕ). sets l.self.numbers.now (4 * k) (2 ∷ c.word-kind.result ∷ c.word-party.result ∷ 0 ∷ [])) v.many) e
-          (r.integers_after ∙ ap (λ (k : ℕ). sets l.self.integers.now k (to_z w64 (of_z w64 (get_or w (3 * l.i + 2) (pos 0))) ∷ [])) v.many);
+      told = label_told w l.i v.told c.word-kind.ensures c.word-party.ensures c.word-group.ensures
+          (r.numbers_after ∙ ap (λ (k : ℕ). sets l.self.numbers.now (4 * k) (2 ∷ c.word-kind.result ∷ c.word-party.result ∷ c.word-group.result ∷ [])) v.many) e
+          (r.integers_after ∙ ap (λ (k : ℕ). sets l.self.integers.now k (to_z w64 (of_z w64 (get_or w (4 * l.i + 2) (pos 0))) ∷ [])) v.many);
       many = omega (arith, r.many, v.many);
       same_lists = record { numbers = r.same_lists.numbers ∙ v.same_lists.numbers; integers = r.same_lists.integers ∙ v.same_lists.integers };
     }

@@ -11,4 +11,4 @@ pub returns : goal.returns
 returns c =
     let e = c.args.self in
     let f : SFits w64 e.value = search rules in
-    payout_asked _ e.kind e.party e.rule e.clock (to_z-of_z f) f refl c.word.ensures
+    payout_asked _ e.kind e.party e.rule e.clock e.group (to_z-of_z f) f refl c.word.ensures
