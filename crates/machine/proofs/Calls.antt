@@ -18,11 +18,11 @@ use Rattle.evaluation.specs.Meaning.{truth_of}
 use Rattle.state.specs.declared.State.{State}
 use Rattle.state.specs.States.{due_in}
 use Rattle.std.specs.Prelude.{Option, Some, None, Ok, Err}
-use Rattle.statements.specs.Running.{Work, memory_in, ran}
+use Rattle.statements.specs.Running.{Work, memory_in}
 use Rattle.outcomes.specs.declared.Stepped.{Stepped}
 use Rattle.outcomes.specs.Outcomes.{refused}
 use Rattle.holdings.specs.Holdings.{amounts}
-use Rattle.machine.specs.Steps.{begun, unless_refused, Invocation, precondition_holds, schedule, with_scheduled, finished, by_precondition, invoked, by_chosen, call_by_due, called}
+use Rattle.machine.specs.Steps.{place_groups, begun, unless_refused, Invocation, precondition_holds, schedule, with_scheduled, finished, by_precondition, invoked, by_chosen, call_by_due, called}
 use Rattle.machine.specs.Private.{naming, arguments, chosen_in, FoundIn, at_rest}
 use Rattle.machine.proofs.Gates.{away}
 use Rattle.machine.proofs.Functions.{choose_named}
@@ -61,39 +61,39 @@ module _ (s : State) (n : ℕ) (f : Function) (v : List ℤ) (w : Work) where
     parameters_none h = sym (goes_on ∙ pick_true _ _ _ h)
 
 -- ---- the arguments
-module _ (s : State) (v a : List ℤ) (n : ℕ) (f : Function) where
-  pub wrong_values : (length v ≡ length f.values → ⊥) → refused s ask.ArgumentCount ≡ invoked s (arguments v a) n f
+module _ (g : ℕ → ℕ) (s : State) (v a : List ℤ) (n : ℕ) (f : Function) where
+  pub wrong_values : (length v ≡ length f.values → ⊥) → refused s ask.ArgumentCount ≡ invoked g s (arguments v a) n f
   unfolding invoked
   wrong_values h = sym (pick_false _ _ _ (rw (ne_eqb (length v) (length f.values) h)))
 
   module _ (l : length v ≡ length f.values) where
-    pub wrong_assets : (length a ≡ length f.parameters → ⊥) → refused s ask.ArgumentCount ≡ invoked s (arguments v a) n f
+    pub wrong_assets : (length a ≡ length f.parameters → ⊥) → refused s ask.ArgumentCount ≡ invoked g s (arguments v a) n f
     unfolding invoked
     wrong_assets h = sym (pick_false _ _ _ (rw (eq-eqb (length v) (length f.values) l) (ne_eqb (length a) (length f.parameters) h)))
 
     module _ (k : length a ≡ length f.parameters) where
-      counted : invoked s (arguments v a) n f ≡ pick (every (le_z (pos 0)) a) (by_precondition s n f v (begun s (amounts a)) (precondition_holds (memory_in v s.clock (begun s (amounts a))) f.precondition)) (refused s ask.AssetArguments)
+      counted : invoked g s (arguments v a) n f ≡ pick (every (le_z (pos 0)) a) (by_precondition g s n f v (begun s (amounts a)) (precondition_holds (memory_in v s.clock (begun s (amounts a))) f.precondition)) (refused s ask.AssetArguments)
       unfolding invoked
       counted = pick_true _ _ _ (rw (eq-eqb (length v) (length f.values) l) (eq-eqb (length a) (length f.parameters) k))
 
-      pub negative_asset : every (le_z (pos 0)) a ≡ false → refused s ask.AssetArguments ≡ invoked s (arguments v a) n f
+      pub negative_asset : every (le_z (pos 0)) a ≡ false → refused s ask.AssetArguments ≡ invoked g s (arguments v a) n f
       negative_asset h = sym (counted ∙ pick_false _ _ _ h)
 
-      module _ (h : every (le_z (pos 0)) a ≡ true) (w : Work) (b : w ≡ begun s (amounts a)) (t : Truth) (g : t ≡ precondition_holds (memory_in v s.clock w) f.precondition) where
-        by_truth_lem : invoked s (arguments v a) n f ≡ by_precondition s n f v w t
+      module _ (h : every (le_z (pos 0)) a ≡ true) (w : Work) (b : w ≡ begun s (amounts a)) (t : Truth) (et : t ≡ precondition_holds (memory_in v s.clock w) f.precondition) where
+        by_truth_lem : invoked g s (arguments v a) n f ≡ by_precondition g s n f v w t
         by_truth_lem =
             counted ∙ pick_true _ _ _ h
-            ∙ (λ i. by_precondition s n f v (sym b i) (precondition_holds (memory_in v s.clock (sym b i)) f.precondition))
-            ∙ ap (by_precondition s n f v w) (sym g)
+            ∙ (λ i. by_precondition g s n f v (sym b i) (precondition_holds (memory_in v s.clock (sym b i)) f.precondition))
+            ∙ ap (by_precondition g s n f v w) (sym et)
 
-        pub precondition_refused : (q : Question) → t ≡ Err q → refused s q ≡ invoked s (arguments v a) n f
-        precondition_refused q e = sym (by_truth_lem ∙ ap (by_precondition s n f v w) e)
+        pub precondition_refused : (q : Question) → t ≡ Err q → refused s q ≡ invoked g s (arguments v a) n f
+        precondition_refused q e = sym (by_truth_lem ∙ ap (by_precondition g s n f v w) e)
 
-        pub precondition_false : t ≡ Ok false → refused s ask.Precondition ≡ invoked s (arguments v a) n f
-        precondition_false e = sym (by_truth_lem ∙ ap (by_precondition s n f v w) e)
+        pub precondition_false : t ≡ Ok false → refused s ask.Precondition ≡ invoked g s (arguments v a) n f
+        precondition_false e = sym (by_truth_lem ∙ ap (by_precondition g s n f v w) e)
 
-        pub precondition_true : t ≡ Ok true → (x : Work) → x ≡ ran v s.clock w f.body → finished s n f v x ≡ invoked s (arguments v a) n f
-        precondition_true e x r = sym (by_truth_lem ∙ ap (by_precondition s n f v w) e ∙ ap (finished s n f v) (sym r))
+        pub precondition_true : t ≡ Ok true → by_precondition g s n f v w (Ok true) ≡ invoked g s (arguments v a) n f
+        precondition_true e = sym (by_truth_lem ∙ ap (by_precondition g s n f v w) e)
 
 -- ---- who calls
 module _ (c : Contract) (s : State) (i : Invocation) (due : Option ℕ) (so : due ≡ due_in c s) where
@@ -109,14 +109,14 @@ module _ (w : List ℕ) (s : State) (i : Invocation) (due : Option ℕ) (so : du
   by_due = sym (by_its_due (contract_of w) s i due so) ∙ pick_true s.agreed _ _ e
 
   module _ (d : due ≡ None) (r : Option ℕ) (f : FoundIn w s.state (naming i.caller i.function) r) where
-    by_found : called (contract_of w) s i ≡ by_chosen s i (chosen_in w r)
+    by_found : called (contract_of w) s i ≡ by_chosen (contract_of w) s i (chosen_in w r)
     by_found =
         by_due ∙ ap (call_by_due (contract_of w) s i) d
-        ∙ ap (by_chosen s i) (choose_named (contract_of w) s i 0 (contract_of w).functions ∙ f.same)
+        ∙ ap (by_chosen (contract_of w) s i) (choose_named (contract_of w) s i 0 (contract_of w).functions ∙ f.same)
 
     pub call_unknown : r ≡ None → refused s ask.FunctionKnown ≡ called (contract_of w) s i
-    call_unknown q = sym (by_found ∙ ap (λ (x : Option ℕ). by_chosen s i (chosen_in w x)) q)
+    call_unknown q = sym (by_found ∙ ap (λ (x : Option ℕ). by_chosen (contract_of w) s i (chosen_in w x)) q)
 
-    pub call_found : (n : ℕ) → r ≡ Some n → invoked s (arguments i.values i.assets) n (function_at w n) ≡ called (contract_of w) s i
+    pub call_found : (n : ℕ) → r ≡ Some n → invoked (place_groups (contract_of w) n) s (arguments i.values i.assets) n (function_at w n) ≡ called (contract_of w) s i
     unfolding invoked
-    call_found n q = sym (by_found ∙ ap (λ (x : Option ℕ). by_chosen s i (chosen_in w x)) q)
+    call_found n q = sym (by_found ∙ ap (λ (x : Option ℕ). by_chosen (contract_of w) s i (chosen_in w x)) q)

@@ -15,18 +15,19 @@ use Rattle.statements.specs.Running.{labels_from}
 use Rattle.outcomes.specs.Outcomes.{no_label, no_labels}
 use Rattle.outcomes.proofs.Labels.{labels_length}
 
--- three words a label
-thrice : (n : ℕ) → 3 * suc n ≡ suc (suc (suc (3 * n)))
-thrice n = omega arith
+-- four words a label
+fourfold : (n : ℕ) → 4 * suc n ≡ suc (suc (suc (suc (4 * n))))
+fourfold n = omega arith
 
-zeros_first : (n : ℕ) (ws : List ℤ) → 3 * n ≤ length ws → labels_from (replicate (3 * n) (pos 0) ++ drop (3 * n) ws) ≡ repeated n no_label ++ drop n (labels_from ws)
+zeros_first : (n : ℕ) (ws : List ℤ) → 4 * n ≤ length ws → labels_from (replicate (4 * n) (pos 0) ++ drop (4 * n) ws) ≡ repeated n no_label ++ drop n (labels_from ws)
 unfolding labels_from repeated
 zeros_first zero ws h = refl
 zeros_first (suc n) [] h = absurd (omega arith)
 zeros_first (suc n) (k ∷ []) h = absurd (omega arith)
 zeros_first (suc n) (k ∷ p ∷ []) h = absurd (omega arith)
-zeros_first (suc n) (k ∷ p ∷ v ∷ ws) h =
-    (λ i. labels_from (replicate (thrice n i) (pos 0) ++ drop (thrice n i) (k ∷ p ∷ v ∷ ws)))
+zeros_first (suc n) (k ∷ p ∷ v ∷ []) h = absurd (omega arith)
+zeros_first (suc n) (k ∷ p ∷ v ∷ g ∷ ws) h =
+    (λ i. labels_from (replicate (fourfold n i) (pos 0) ++ drop (fourfold n i) (k ∷ p ∷ v ∷ g ∷ ws)))
     ∙ ap (λ (l : List Label). no_label ∷ l) (zeros_first n ws (omega arith))
 
 repeated_whole : {A : Type 0} (x : A) (n m : ℕ) → n ≤ m → repeated n x ++ drop n (repeated m x) ≡ repeated m x
@@ -49,10 +50,10 @@ none_after count n ls e f h = go (leb count 64) refl
         let l : length no_labels ≡ 64 = repeated_length 64 no_label in
         drop_of_length-le ls (omega arith) ∙ sym (drop_of_length-le no_labels (omega arith))
 
-pub all_cleared : (count n : ℕ) (ws zeros : List ℤ) → n ≡ min count 64 → length ws ≡ 192 → drop count (labels_from ws) ≡ drop count no_labels → zeros ≡ replicate (3 * n) (pos 0)
-    → labels_from (zeros ++ drop (3 * n) ws) ≡ no_labels
+pub all_cleared : (count n : ℕ) (ws zeros : List ℤ) → n ≡ min count 64 → length ws ≡ 256 → drop count (labels_from ws) ≡ drop count no_labels → zeros ≡ replicate (4 * n) (pos 0)
+    → labels_from (zeros ++ drop (4 * n) ws) ≡ no_labels
 all_cleared count n ws zeros e f h z =
-    ap (λ (l : List ℤ). labels_from (l ++ drop (3 * n) ws)) z
+    ap (λ (l : List ℤ). labels_from (l ++ drop (4 * n) ws)) z
     ∙ zeros_first n ws (omega arith)
     ∙ ap (λ (l : List Label). repeated n no_label ++ l) (none_after count n (labels_from ws) e (labels_length 64 ws f) h)
     ∙ repeated_whole no_label n 64 (omega arith)

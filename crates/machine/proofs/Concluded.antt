@@ -67,6 +67,11 @@ module _ (s : State) (x : Scheduled) (ps : List Pending) (e : x ≡ times ps) wh
       ap Ok (y ∙ all_more s (live s) ps h)
       ∙ sym (ap (scheduled_state s) e ∙ pick_true _ _ _ (le-leb (length (live s) + length ps) 64 h))
 
+-- the pending events that are left are those that were live
+pub few_live : (s t : State) → t.pending ≤ 64 → t ≡ with_pending s (live s) → length (live s) ≤ 64
+unfolding with_pending
+few_live s t h e = omega (arith, h, ap (λ (x : State). x.pending) e)
+
 -- where there is no event, none joins
 pub none_join : (m : Memory) (s : State) (n : ℕ) (es : List Event) → length es ≡ 0 → length (live s) ≤ 64 → (next : State) → next ≡ with_pending s (live s) → Ok next ≡ scheduled_state s (schedule m s.clock n 0 es)
 unfolding schedule joined_all

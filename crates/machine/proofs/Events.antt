@@ -16,19 +16,21 @@ use Rattle.state.specs.States.{no_event, event_of, row_of}
 use Rattle.std.specs.Prelude.{Option, Some, None}
 use Rattle.state.proofs.Decoded.{event_of_lem}
 use Rattle.state.proofs.Rows.{found, unknown}
+use Rattle.groups.specs.Groups.{first_parameter}
 use Rattle.machine.specs.Private.{HandlerOf}
 
-no_handler : (w : List ℕ) (e : tree.Event) → e ≡ no_event → HandlerOf w e (record { from = 0; end = 0; last = 0 })
+no_handler : (w : List ℕ) (e : tree.Event) (n first : ℕ) → first ≡ first_parameter n → e ≡ no_event → HandlerOf w e n (record { from = 0; end = 0; last = 0; first_parameter = first })
 unfolding block_within pick
-no_handler w e q = record { block = sym (ap (λ (x : tree.Event). x.handler) q); last = sym (ap (λ (x : tree.Event). x.last) q) }
+no_handler w e n first f q = record { first = f; block = sym (ap (λ (x : tree.Event). x.handler) q); last = sym (ap (λ (x : tree.Event). x.last) q) }
 
 module _ (w : List ℕ) (p : Pending) (r : Option Event) (q : r ≡ row_of w p) where
-  pub no_event_lem : r ≡ None → HandlerOf w (event_of (contract_of w) p) (record { from = 0; end = 0; last = 0 })
-  no_event_lem f = no_handler w _ (unknown w p r q f).nothing
+  pub no_event_lem : r ≡ None → (first : ℕ) → first ≡ first_parameter p.function → HandlerOf w (event_of (contract_of w) p) p.function (record { from = 0; end = 0; last = 0; first_parameter = first })
+  no_event_lem f first ef = no_handler w _ p.function first ef (unknown w p r q f).nothing
 
-  pub handler_found : (e : Event) → r ≡ Some e → (node : Node) → node ≡ node_of w e.node → (from : ℕ) → from ≡ e.node - node.argument → HandlerOf w (event_of (contract_of w) p) (record { from = from; end = e.node; last = e.last })
+  pub handler_found : (e : Event) → r ≡ Some e → (node : Node) → node ≡ node_of w e.node → (from : ℕ) → from ≡ e.node - node.argument → (first : ℕ) → first ≡ first_parameter p.function
+      → HandlerOf w (event_of (contract_of w) p) p.function (record { from = from; end = e.node; last = e.last; first_parameter = first })
   unfolding event_at
-  handler_found e h node n from f =
+  handler_found e h node n from f first ef =
       let x = found w p r q e h in
       let i : ℕ = function_word w p.function 8 + p.event in
       let k : e.node ≡ event_word w i 2 = ap (λ (y : Event). y.node) x.is in
@@ -36,6 +38,7 @@ module _ (w : List ℕ) (p : Pending) (r : Option Event) (q : r ≡ row_of w p) 
       let b : from ≡ event_word w i 2 - argument_at w (event_word w i 2) = f ∙ (λ j. k j - g j) in
       let o = event_of_lem w p x.known x.has in
       record {
+        first = ef;
         block = (λ j. block_between w (b j) (k j)) ∙ sym (ap (λ (y : tree.Event). y.handler) o);
         last = ap (λ (y : Event). y.last) x.is ∙ sym (ap (λ (y : tree.Event). y.last) o);
       }

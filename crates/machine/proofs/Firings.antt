@@ -22,9 +22,11 @@ use Rattle.machine.specs.declared.Handler.{Handler}
 use Rattle.outcomes.specs.declared.Rule.TheVariants.{EventMatch}
 use Rattle.outcomes.specs.declared.Outcome.TheVariants.{Accepted, Failed}
 use Rattle.outcomes.specs.Outcomes.{answered, refused}
-use Rattle.machine.specs.Steps.{unless_refused, accepted, ended, handled, fire_by_due, fired}
+use Rattle.machine.specs.Steps.{place_groups, unless_refused, accepted, ended, handled, fire_by_due, fired}
 use Rattle.holdings.specs.Holdings.{reached}
-use Rattle.machine.specs.Private.{stepped_in, HandlerOf, ran_on, handled_by}
+use Rattle.statements.specs.Running.{group_at}
+use Rattle.groups.specs.Groups.{first_parameter}
+use Rattle.machine.specs.Private.{stepped_in, HandlerOf, groups_in, ran_on, handled_by}
 use Rattle.questions.specs.declared.Question.{Question}
 use Rattle.questions.specs.declared.Question.TheVariants as ask
 
@@ -56,21 +58,23 @@ handler_ends s q y r run {x} {kinds} {numbers} {texts} {holdings} {words} e ea e
     handler_done s q _ y (w ∙ run) refl x e
 
 -- statements begin alike without an event
-ran_removed : (s : State) (k : ℕ) (b : Block) → ran_on (removed s k) b ≡ ran_on s b
+ran_removed : (g : ℕ → ℕ) (s : State) (k : ℕ) (b : Block) → ran_on g (removed s k) b ≡ ran_on g s b
 unfolding removed with_pending
-ran_removed s k b = refl
+ran_removed g s k b = refl
 
 -- the event at place k, and its handler
-pub fired_at : (w : List ℕ) (s : State) (k : ℕ) (p : Pending) → p ≡ get_or (live s) k blank → (h : Handler) → HandlerOf w (event_of (contract_of w) p) h → (l : State) → l ≡ removed s k
-    → handled_by l h.last (ran_on l (block_between w h.from h.end)) ≡ fire_by_due (contract_of w) s (Some k)
+pub fired_at : (w : List ℕ) (s : State) (k : ℕ) (p : Pending) → p ≡ get_or (live s) k blank → (h : Handler) → HandlerOf w (event_of (contract_of w) p) p.function h → (gs : List ℕ) → gs ≡ groups_in w → (l : State) → l ≡ removed s k
+    → handled_by l h.last (ran_on (group_at gs h.first_parameter) l (block_between w h.from h.end)) ≡ fire_by_due (contract_of w) s (Some k)
 unfolding handled
-fired_at w s k p at h g l left =
+fired_at w s k p at h g gs eg l left =
     let of : Pending → Event = event_of (contract_of w) in
     let b : block_between w h.from h.end ≡ (of (get_or (live s) k blank)).handler = g.block ∙ ap (λ (y : Pending). (of y).handler) at in
     let q : h.last ≡ (of (get_or (live s) k blank)).last = g.last ∙ ap (λ (y : Pending). (of y).last) at in
-    let x : Work = ran_on s (of (get_or (live s) k blank)).handler in
-    (λ i. handled_by (left i) (q i) (ran_on (left i) (b i)))
-    ∙ ap (handled_by (removed s k) (of (get_or (live s) k blank)).last) (ran_removed s k (of (get_or (live s) k blank)).handler)
+    let f : ℕ → ℕ = place_groups (contract_of w) (get_or (live s) k blank).function in
+    let first : h.first_parameter ≡ first_parameter (get_or (live s) k blank).function = g.first ∙ ap (λ (y : Pending). first_parameter y.function) at in
+    let x : Work = ran_on f s (of (get_or (live s) k blank)).handler in
+    (λ i. handled_by (left i) (q i) (ran_on (group_at (eg i) (first i)) (left i) (b i)))
+    ∙ ap (handled_by (removed s k) (of (get_or (live s) k blank)).last) (ran_removed f s k (of (get_or (live s) k blank)).handler)
     ∙ ap (λ (z : State). unless_refused x.refusal (λ p. answered (Failed p) (removed s k)) (accepted EventMatch z x)) (removed_reached s x (of (get_or (live s) k blank)).last k)
 
 module _ (c : Contract) (s : State) where

@@ -14,7 +14,7 @@ use Rattle.state.specs.States.{state_ok, due_in}
 use Rattle.outcomes.specs.declared.Stepped.{Stepped}
 use Rattle.outcomes.specs.Outcomes.{refused}
 use Rattle.std.specs.Prelude.{Option, Some, None, Result, Ok, Err}
-use Rattle.machine.specs.declared.Whole.{Whole}
+use Rattle.tables.specs.declared.Passed.{Passed}
 use Rattle.questions.specs.declared.Question.{Question}
 use Rattle.questions.specs.declared.Question.TheVariants as ask
 use Rattle.machine.specs.Steps.{ticked, step}
@@ -46,13 +46,13 @@ module _ {A : Type 0} (no : Question → A) (x : A) where
   goes w v true true false e = cc
   goes w v true true true e = (cc, refl, refl)
 
-module _ (w : List ℕ) (room : ℕ) (s : State) (r : Result Whole Question) (e : admitted r ≡ admission w room s) where
+module _ (w : List ℕ) (room : ℕ) (s : State) (r : Result Passed Question) (e : admitted r ≡ admission w room s) where
   pub refused_first : (f : Contract → Stepped) (q : Question) → r ≡ Err q → refused s q ≡ step w room s f
   unfolding admission step
   refused_first f q h = stops (refused s) (f (contract_of w)) w (passes w) (state_ok (contract_of w) s) (leb 64 room) q (sym (ap admitted h) ∙ e)
 
-  module _ (x : Whole) (h : r ≡ Ok x) where
-    pub same_table : x.terms.table.now ≡ w
+  module _ (x : Passed) (h : r ≡ Ok x) where
+    pub same_table : x.table.now ≡ w
     unfolding admission
     same_table = (goes (refused s) (refused s ask.TableCheck) w _ (passes w) (state_ok (contract_of w) s) (leb 64 room) (sym (ap admitted h) ∙ e)).0
 

@@ -28,7 +28,7 @@ use Rattle.outcomes.specs.declared.Outcome.TheVariants.{Accepted, Failed}
 use Rattle.outcomes.specs.declared.Stepped.{Stepped}
 use Rattle.outcomes.specs.Outcomes.{no_label, no_labels, answered, refused}
 use Rattle.holdings.specs.Holdings.{amounts}
-use Rattle.machine.specs.Steps.{accepted, begun, ended, Invocation, Chosen, chosen, answers_to, choose, precondition_holds, Scheduled, times, no, schedule, with_scheduled, finished, by_precondition, invoked, by_chosen, call_by_due, called, handled, fire_by_due, fired, tick_by_due, ticked, jump_by_due, jumped}
+use Rattle.machine.specs.Steps.{place_groups, accepted, begun, ended, Invocation, Chosen, chosen, answers_to, choose, precondition_holds, Scheduled, times, no, schedule, with_scheduled, finished, by_precondition, invoked, by_chosen, call_by_due, called, handled, fire_by_due, fired, tick_by_due, ticked, jump_by_due, jumped}
 use Rattle.agreements.specs.Agreement.{Part, set_clauses, agreed_on}
 use Rattle.machine.specs.Sessions.{parts_said, invocation_in}
 use Rattle.machine.specs.Private.{taken_by, taken}
@@ -43,10 +43,10 @@ use Rattle.machine.proofs.Refusals.{by_refusal}
 pub data Outcomes (s : State) : Stepped → Type 0 where
   refusal : (q : Question) → Outcomes s (refused s q)
   agrees : (c : Contract) (ps : List Part) → Outcomes s (answered (Accepted Agree) (opened (set_clauses s c.clauses ps) c.initial))
-  calls : (v : List ℤ) (hs : List ℕ) (b : Block) (q : ℕ) (ps : List Pending) → length (live s) + length ps ≤ 64
-      → Outcomes s (accepted Call (ended s (ran v s.clock (begun s hs) b) q (live s ++ ps)) (ran v s.clock (begun s hs) b))
-  fires : (k : ℕ) (b : Block) (q : ℕ)
-      → Outcomes s (accepted EventMatch (ended s (ran [] s.clock (begun s []) b) q (live (removed s k))) (ran [] s.clock (begun s []) b))
+  calls : (g : ℕ → ℕ) (v : List ℤ) (hs : List ℕ) (b : Block) (q : ℕ) (ps : List Pending) → length (live s) + length ps ≤ 64
+      → Outcomes s (accepted Call (ended s (ran g v s.clock (begun s hs) b) q (live s ++ ps)) (ran g v s.clock (begun s hs) b))
+  fires : (g : ℕ → ℕ) (k : ℕ) (b : Block) (q : ℕ)
+      → Outcomes s (accepted EventMatch (ended s (ran g [] s.clock (begun s []) b) q (live (removed s k))) (ran g [] s.clock (begun s []) b))
   fails : (k : ℕ) (q : Question) → Outcomes s (answered (Failed q) (removed s k))
   ticks : Outcomes s (answered (Accepted Tick) (time_passed s))
   jumps : (n : ℕ) → Outcomes s (answered (Accepted Tick) (passed_times n s))
@@ -82,33 +82,33 @@ module _ (c : Contract) (s : State) where
       go None = refusal ask.SomethingDue
       go (Some k) =
           let e = event_of c (get_or (live s) k blank) in
-          by_refusal (Outcomes s) _ _ _ (λ _. fires k e.handler e.last) (λ q _. fails k q)
+          by_refusal (Outcomes s) _ _ _ (λ _. fires (place_groups c (get_or (live s) k blank).function) k e.handler e.last) (λ q _. fails k q)
 
   module _ (i : Invocation) where
-    module _ (n : ℕ) (f : Function) where
-      scheduled_outcomes : (z : Scheduled) → Outcomes s (with_scheduled s (ran i.values s.clock (begun s (amounts i.assets)) f.body) f.last z)
+    module _ (g : ℕ → ℕ) (n : ℕ) (f : Function) where
+      scheduled_outcomes : (z : Scheduled) → Outcomes s (with_scheduled s (ran g i.values s.clock (begun s (amounts i.assets)) f.body) f.last z)
       scheduled_outcomes (no q) = refusal q
       scheduled_outcomes (times ps) =
           by_cases (Outcomes s) _ _ _
-          (λ r. calls i.values (amounts i.assets) f.body f.last ps (leb-true (length (live s) + length ps) 64 r))
+          (λ r. calls g i.values (amounts i.assets) f.body f.last ps (leb-true (length (live s) + length ps) 64 r))
           (λ _. refusal ask.PendingRoom)
 
-      finished_outcomes : Outcomes s (finished s n f i.values (ran i.values s.clock (begun s (amounts i.assets)) f.body))
+      finished_outcomes : Outcomes s (finished s n f i.values (ran g i.values s.clock (begun s (amounts i.assets)) f.body))
       unfolding finished
       finished_outcomes =
-          let w = ran i.values s.clock (begun s (amounts i.assets)) f.body in
+          let w = ran g i.values s.clock (begun s (amounts i.assets)) f.body in
           by_refusal (Outcomes s) w.refusal (refused s) _
           (λ _. by_cases (Outcomes s) (every (λ a. eqb a 0) (drop 16 w.holdings)) _ _
           (λ _. scheduled_outcomes (schedule (memory_in i.values s.clock w) s.clock n 0 f.events))
           (λ _. refusal ask.ParametersEmpty))
           (λ q _. refusal q)
 
-      precondition_outcomes : (t : Truth) → Outcomes s (by_precondition s n f i.values (begun s (amounts i.assets)) t)
+      precondition_outcomes : (t : Truth) → Outcomes s (by_precondition g s n f i.values (begun s (amounts i.assets)) t)
       precondition_outcomes (Err q) = refusal q
       precondition_outcomes (Ok false) = refusal ask.Precondition
       precondition_outcomes (Ok true) = finished_outcomes
 
-      invoked_outcomes : Outcomes s (invoked s i n f)
+      invoked_outcomes : Outcomes s (invoked g s i n f)
       unfolding invoked
       invoked_outcomes =
           by_cases (Outcomes s) _ _ _
@@ -117,12 +117,12 @@ module _ (c : Contract) (s : State) where
           (λ _. refusal ask.AssetArguments))
           (λ _. refusal ask.ArgumentCount)
 
-    chosen_outcomes : (n : ℕ) (fs : List Function) → Outcomes s (by_chosen s i (choose c s i n fs))
+    chosen_outcomes : (n : ℕ) (fs : List Function) → Outcomes s (by_chosen c s i (choose c s i n fs))
     unfolding choose
     chosen_outcomes n [] = refusal ask.FunctionKnown
     chosen_outcomes n (f ∷ fs) =
-        by_cases (λ (z : Chosen). Outcomes s (by_chosen s i z)) (answers_to c s i f) (chosen n f) (choose c s i (suc n) fs)
-        (λ _. invoked_outcomes n f) (λ _. chosen_outcomes (suc n) fs)
+        by_cases (λ (z : Chosen). Outcomes s (by_chosen c s i z)) (answers_to c s i f) (chosen n f) (choose c s i (suc n) fs)
+        (λ _. invoked_outcomes (place_groups c n) n f) (λ _. chosen_outcomes (suc n) fs)
 
     call_outcomes : Outcomes s (called c s i)
     unfolding called
@@ -158,13 +158,13 @@ left_more : (ls : List Label) (n : ℕ) (l : Label) → Left ls n → Left (set 
 left_more ls n l h =
     (length-set ls n l ∙ h.0, drop-set-lt (suc n) ls n l (omega arith) ∙ drop_more n ls ∙ ap (drop 1) h.1 ∙ sym (drop_more n no_labels))
 
-labelled_labels : (w : Work) (kind party : ℕ) (value : ℤ) → Labels w → Labels (labelled w kind party value)
+labelled_labels : (w : Work) (kind party : ℕ) (value : ℤ) (group : ℕ) → Labels w → Labels (labelled w kind party value group)
 unfolding labelled
-labelled_labels w kind party value h = by_cases Labels _ _ _ (λ _. left_more w.labels w.count _ h) (λ _. h)
+labelled_labels w kind party value group h = by_cases Labels _ _ _ (λ _. left_more w.labels w.count _ h) (λ _. h)
 
 sent_labels : (w : Work) (a : ℕ) (v : Value) → Labels w → Labels (sent w a v)
-sent_labels w a (Integer z) h = labelled_labels w integer_label a z h
-sent_labels w a (Text n) h = labelled_labels w string_label a (pos n) h
+sent_labels w a (Integer z) h = labelled_labels w integer_label a z 0 h
+sent_labels w a (Text n) h = labelled_labels w string_label a (pos n) 0 h
 
 stored_labels : (w : Work) (x : ℕ) (v : Value) → Labels w → Labels (stored w x v)
 stored_labels w x (Integer z) h = h
@@ -175,9 +175,9 @@ unfolding moved
 moved_labels w i j n h =
     by_cases Labels _ _ _ (λ _. h) λ _. by_cases Labels _ _ _ (λ _. h) λ _. by_cases Labels _ _ _ (λ _. h) λ _. by_cases Labels _ _ _ (λ _. h) (λ _. h)
 
-paid_labels : (w : Work) (i a n : ℕ) → Labels w → Labels (paid w i a n)
+paid_labels : (g : ℕ → ℕ) (w : Work) (i a n : ℕ) → Labels w → Labels (paid g w i a n)
 unfolding paid
-paid_labels w i a n h = by_cases Labels _ _ _ (λ _. h) (λ _. labelled_labels _ asset_label a (pos n) h)
+paid_labels g w i a n h = by_cases Labels _ _ _ (λ _. h) (λ _. labelled_labels _ asset_label a (pos n) (g i) h)
 
 value_labels : (w : Work) (x : Answer) (f : Value → Work) → Labels w → ((v : Value) → Labels (f v)) → Labels (with_value w x f)
 value_labels w (Err n) f h g = h
@@ -198,23 +198,23 @@ truth_labels w x (Err q) h g = h
 truth_labels w x (Ok true) h g = g
 truth_labels w x (Ok false) h g = h
 
-module _ (v : List ℤ) (t : ℕ) where
-  performed_labels : (w : Work) (a : Action) → Labels w → Labels (performed v t w a)
+module _ (g : ℕ → ℕ) (v : List ℤ) (t : ℕ) where
+  performed_labels : (w : Work) (a : Action) → Labels w → Labels (performed g v t w a)
   unfolding performed
   performed_labels w (assign e x) h = value_labels w (value_of (memory_in v t w) e) _ h (λ z. stored_labels w x z h)
   performed_labels w (send e a) h = value_labels w (value_of (memory_in v t w) e) _ h (λ z. sent_labels w (receiver a) z h)
   performed_labels w (move e i j) h = amount_labels w (value_of (memory_in v t w) e) _ h (λ n. moved_labels w (place i) (place j) n h)
-  performed_labels w (pay e i a) h = amount_labels w (value_of (memory_in v t w) e) _ h (λ n. paid_labels w (place i) (receiver a) n h)
+  performed_labels w (pay e i a) h = amount_labels w (value_of (memory_in v t w) e) _ h (λ n. paid_labels g w (place i) (receiver a) n h)
   performed_labels w (move_all i j) h = amount_labels w (value_of (memory_in v t w) (held i)) _ h (λ n. moved_labels w (place i) (place j) n h)
-  performed_labels w (pay_all i a) h = amount_labels w (value_of (memory_in v t w) (held i)) _ h (λ n. paid_labels w (place i) (receiver a) n h)
+  performed_labels w (pay_all i a) h = amount_labels w (value_of (memory_in v t w) (held i)) _ h (λ n. paid_labels g w (place i) (receiver a) n h)
 
-  ran_labels : (w : Work) (b : Block) → Labels w → Labels (ran v t w b)
+  ran_labels : (w : Work) (b : Block) → Labels w → Labels (ran g v t w b)
   unfolding ran
   ran_labels w none h = h
-  ran_labels w (perform b a) h = onward_labels (ran v t w b) _ (ran_labels w b h) (performed_labels (ran v t w b) a)
+  ran_labels w (perform b a) h = onward_labels (ran g v t w b) _ (ran_labels w b h) (performed_labels (ran g v t w b) a)
   ran_labels w (conditional b u s) h =
-      onward_labels (ran v t w b) _ (ran_labels w b h)
-      (λ g. truth_labels (ran v t w b) (ran v t (ran v t w b) s) (truth_of (memory_in v t (ran v t w b)) u) g (ran_labels (ran v t w b) s g))
+      onward_labels (ran g v t w b) _ (ran_labels w b h)
+      (λ k. truth_labels (ran g v t w b) (ran g v t (ran g v t w b) s) (truth_of (memory_in v t (ran g v t w b)) u) k (ran_labels (ran g v t w b) s k))
   ran_labels w broken_block h = h
 
 none_left : Left no_labels 0
@@ -223,8 +223,8 @@ none_left = (repeated_length 64 no_label, refl)
 outcome_labels : {s : State} {r : Stepped} → Outcomes s r → Left r.labels r.count
 outcome_labels (refusal n) = none_left
 outcome_labels (agrees c ps) = none_left
-outcome_labels {s} (calls v hs b q ps l) = ran_labels v s.clock (begun s hs) b none_left
-outcome_labels {s} (fires k b q) = ran_labels [] s.clock (begun s []) b none_left
+outcome_labels {s} (calls g v hs b q ps l) = ran_labels g v s.clock (begun s hs) b none_left
+outcome_labels {s} (fires g k b q) = ran_labels g [] s.clock (begun s []) b none_left
 outcome_labels (fails k n) = none_left
 outcome_labels ticks = none_left
 outcome_labels (jumps n) = none_left

@@ -24,7 +24,7 @@ use Rattle.results.specs.Coded.{coded_all, integers_of}
 use Rattle.outcomes.specs.declared.Stepped.{Stepped}
 use Rattle.outcomes.specs.Outcomes.{no_labels}
 use Rattle.machine.specs.declared.Reply.{Reply}
-use Rattle.machine.specs.declared.Whole.{Whole}
+use Rattle.tables.specs.declared.Passed.{Passed}
 use Rattle.machine.specs.declared.Next.{Next}
 use Rattle.machine.specs.declared.Next.TheVariants as next
 use Rattle.machine.specs.declared.Played.{Played}
@@ -232,7 +232,7 @@ module _ (w : List ℕ) (s : State) (bytes : List ℕ) (room : ℕ) where
   room_test true e = let h = leb-true 65 room e in le-leb 64 (room - 1) (omega arith)
   room_test false e = let h = leb-false 65 room e in lt-leb 64 (room - 1) (omega arith)
 
-  module _ (m : ℕ) (l : m ≡ room - 1) (n : Result Whole Question) (e : admitted n ≡ admission w m s) where
+  module _ (m : ℕ) (l : m ≡ room - 1) (n : Result Passed Question) (e : admitted n ≡ admission w m s) where
     first : admitted n ≡ first_of w (passes w) (state_ok (contract_of w) s) (leb 65 room)
     unfolding admission
     first = e ∙ ap (first_of w (passes w) (state_ok (contract_of w) s)) (ap (leb 64) l ∙ room_test (leb 65 room) refl)
@@ -249,7 +249,7 @@ module _ (w : List ℕ) (s : State) (bytes : List ℕ) (room : ℕ) where
         let q = stops none (session (contract_of w) bytes room s).reports w a b d r (sym (ap admitted z) ∙ first) in
         (p, (ap (λ (l : List Report). sets numbers 0 (coded_all l)) q, ap (λ (l : List Report). sets integers 0 (integers_of l)) q))
 
-    pub play_went : (x : Whole) → n ≡ Ok x → (r : Played) (numbers told : List ℕ) (integers values : List ℤ) → PlayedIs (session (contract_of x.terms.table.now) bytes room s) r numbers integers told values → Plays (Ok r) numbers integers told values
+    pub play_went : (x : Passed) → n ≡ Ok x → (r : Played) (numbers told : List ℕ) (integers values : List ℤ) → PlayedIs (session (contract_of x.table.now) bytes room s) r numbers integers told values → Plays (Ok r) numbers integers told values
     unfolding played reports_of
     play_went x z r numbers told integers values h =
         let a = passes w in

@@ -23,7 +23,8 @@ use Rattle.outcomes.specs.declared.Outcome.TheVariants.{Accepted}
 use Rattle.outcomes.specs.declared.Outcome.TheVariants as outcome
 use Rattle.outcomes.specs.declared.Stepped.{Stepped}
 use Rattle.machine.specs.declared.Reply.{Reply}
-use Rattle.machine.specs.declared.Whole.{Whole}
+use Rattle.tables.specs.declared.Passed.{Passed}
+use Rattle.groups.specs.Groups.{first_parameter, groups}
 use Rattle.machine.specs.declared.Next.{Next}
 use Rattle.machine.specs.declared.Next.TheVariants as next
 use Rattle.machine.specs.Steps.{Invocation, Chosen, chosen, unknown, choose, called}
@@ -41,8 +42,8 @@ admission w room s =
     (Err ask.TableCheck)
 
 -- what is admitted
-abbrev pub admitted : Result Whole Question → Result (List ℕ) Question
-admitted (Ok x) = Ok x.terms.table.now
+abbrev pub admitted : Result Passed Question → Result (List ℕ) Question
+admitted (Ok x) = Ok x.table.now
 admitted (Err q) = Err q
 
 -- a time, if it is not before the clock
@@ -150,13 +151,19 @@ pub record FoundIn (w : List ℕ) (q : ℕ) (i : Invocation) (r : Option ℕ) : 
   pub within : (n : ℕ) → r ≡ Some n → n < word_at w 6
 
 -- where an event's handler stands, and the state after it
-pub record HandlerOf (w : List ℕ) (e : Event) (h : Handler) : Type 0 where
+pub record HandlerOf (w : List ℕ) (e : Event) (n : ℕ) (h : Handler) : Type 0 where
+  -- the number of the first asset parameter of its function
+  pub first : h.first_parameter ≡ first_parameter n
   pub block : block_between w h.from h.end ≡ e.handler
   pub last : h.last ≡ e.last
 
 -- a block runs on a state with no value parameters and no asset parameters
-abbrev pub ran_on : State → Block → Work
-ran_on s b = ran [] s.clock (begun s []) b
+abbrev pub ran_on : (ℕ → ℕ) → State → Block → Work
+ran_on g s b = ran g [] s.clock (begun s []) b
+
+-- the groups of the contract in a table
+abbrev pub groups_in : List ℕ → List ℕ
+groups_in w = groups (contract_of w)
 
 -- a handler has run; `left` is the state without its event
 abbrev pub handled_by : State → ℕ → Work → Stepped

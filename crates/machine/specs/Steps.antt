@@ -15,7 +15,8 @@ use Rattle.evaluation.specs.Meaning.{value_of, truth_of}
 use Rattle.state.specs.declared.State.{State}
 use Rattle.state.specs.declared.Pending.{Pending}
 use Rattle.state.specs.States.{event_of, live, state_ok, due_in, pending_at, with_pending, removed, time_passed, passed_times, times_until_due, party_name, max_pending}
-use Rattle.statements.specs.Running.{Work, max_labels, memory_in, ran}
+use Rattle.statements.specs.Running.{Work, max_labels, memory_in, group_at, ran}
+use Rattle.groups.specs.Groups.{first_parameter, groups}
 use Rattle.outcomes.specs.declared.Rule.{Rule}
 use Rattle.outcomes.specs.declared.Rule.TheVariants.{Call, EventMatch, Tick}
 use Rattle.outcomes.specs.declared.Outcome.TheVariants.{Accepted, Failed}
@@ -52,6 +53,10 @@ begun s parameters =
       count = 0;
       refusal = None;
     }
+
+-- the groups of places in function n
+abbrev pub place_groups : Contract → ℕ → ℕ → ℕ
+place_groups c n = group_at (groups c) (first_parameter n)
 
 -- the state after statements have run, in state q, with these pending events
 abbrev pub ended : State → Work → ℕ → List Pending → State
@@ -117,31 +122,31 @@ finished s n f v w =
     (with_scheduled s w f.last (schedule (memory_in v s.clock w) s.clock n 0 f.events))
     (refused s ask.ParametersEmpty))
 
--- 29, then the body
-abbrev pub by_precondition : State → ℕ → Function → List ℤ → Work → Truth → Stepped
-by_precondition s n f v w (Err q) = refused s q
-by_precondition s n f v w (Ok false) = refused s ask.Precondition
-by_precondition s n f v w (Ok true) = finished s n f v (ran v s.clock w f.body)
+-- 29, then the body; g gives the groups of places
+abbrev pub by_precondition : (ℕ → ℕ) → State → ℕ → Function → List ℤ → Work → Truth → Stepped
+by_precondition g s n f v w (Err q) = refused s q
+by_precondition g s n f v w (Ok false) = refused s ask.Precondition
+by_precondition g s n f v w (Ok true) = finished s n f v (ran g v s.clock w f.body)
 
--- 27 and 28, then the precondition
-unfoldable pub invoked : State → Invocation → ℕ → Function → Stepped
-invoked s i n f =
+-- 27 and 28, then the precondition; g gives the groups of places
+unfoldable pub invoked : (ℕ → ℕ) → State → Invocation → ℕ → Function → Stepped
+invoked g s i n f =
     pick (eqb (length i.values) (length f.values) && eqb (length i.assets) (length f.parameters))
     (pick (every (le_z (pos 0)) i.assets)
     (let w = begun s (amounts i.assets) in
-    by_precondition s n f i.values w (precondition_holds (memory_in i.values s.clock w) f.precondition))
+    by_precondition g s n f i.values w (precondition_holds (memory_in i.values s.clock w) f.precondition))
     (refused s ask.AssetArguments))
     (refused s ask.ArgumentCount)
 
 -- 26
-abbrev pub by_chosen : State → Invocation → Chosen → Stepped
-by_chosen s i unknown = refused s ask.FunctionKnown
-by_chosen s i (chosen n f) = invoked s i n f
+abbrev pub by_chosen : Contract → State → Invocation → Chosen → Stepped
+by_chosen c s i unknown = refused s ask.FunctionKnown
+by_chosen c s i (chosen n f) = invoked (place_groups c n) s i n f
 
 -- 25
 abbrev pub call_by_due : Contract → State → Invocation → Option ℕ → Stepped
 call_by_due c s i (Some k) = refused s ask.NothingDue
-call_by_due c s i None = by_chosen s i (choose c s i 0 c.functions)
+call_by_due c s i None = by_chosen c s i (choose c s i 0 c.functions)
 
 -- 22
 unfoldable pub called : Contract → State → Invocation → Stepped
@@ -159,7 +164,7 @@ abbrev pub fire_by_due : Contract → State → Option ℕ → Stepped
 fire_by_due c s None = refused s ask.SomethingDue
 fire_by_due c s (Some k) =
     let e = event_of c (pending_at s k) in
-    handled s k e (ran [] s.clock (begun s []) e.handler)
+    handled s k e (ran (place_groups c (pending_at s k).function) [] s.clock (begun s []) e.handler)
 
 -- 22
 unfoldable pub fired : Contract → State → Stepped

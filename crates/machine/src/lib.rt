@@ -1,7 +1,7 @@
 // The five steps of the machine. Each answers with the state, what came of it, and the labels sent.
 #![tactic(auto)]
 
-ghost use Rattle.std.specs.Prelude.{ℕ, List, ◌≡◌, ◌+◌, ◌/◌, ◌<◌, length, None, Some};
+ghost use Rattle.std.specs.Prelude.{ℕ, true, List, ◌≡◌, ◌+◌, ◌/◌, ◌<◌, length, None, Some, Ok};
 ghost use Rattle.std.proofs.lemmas.List.Edits.{sets};
 ghost use Rattle.contract.specs.Table.{word_at};
 ghost use Rattle.contract.specs.Rows.{event_row_of, function_row_of};
@@ -10,16 +10,16 @@ ghost use Rattle.evaluation.specs.Memory.{lent, memory_of};
 ghost use Rattle.evaluation.specs.Meaning.{value_of};
 ghost use Rattle.state.specs.States.{live, event_of, due_in};
 ghost use Rattle.statements.specs.declared.Label.{Label};
-ghost use Rattle.statements.specs.Running.{ran, labels_from, work_from};
+ghost use Rattle.statements.specs.Running.{group_at, labels_from, work_from};
 ghost use Rattle.outcomes.specs.Outcomes.{no_labels, answered};
-ghost use Rattle.machine.specs.Steps.{answers_to, precondition_holds, schedule, finished, invoked, fire_by_due, step, called, fired, ticked, jumped};
+ghost use Rattle.machine.specs.Steps.{place_groups, answers_to, precondition_holds, schedule, finished, by_precondition, invoked, fire_by_due, step, called, fired, ticked, jumped};
 ghost use Rattle.results.specs.Coded.{coded_all, integers_of};
 ghost use Rattle.step_reports.specs.Reports.{room_in};
 ghost use Rattle.machine.specs.Sessions.{played, reports_of};
 ghost use Rattle.agreements.specs.Agreement.{parts_in, agreed_on};
-ghost use Rattle.machine.specs.Private.{admission, admitted, not_before, at_rest, passage, silent, reply_of, stepped_in, ended_call, ticked_with, naming, in_state, arguments, FoundIn, HandlerOf, ran_on, handled_by, scheduled_state, left_by, concluded};
+ghost use Rattle.machine.specs.Private.{admission, admitted, not_before, at_rest, passage, silent, reply_of, stepped_in, ended_call, ticked_with, naming, in_state, arguments, FoundIn, HandlerOf, groups_in, ran_on, handled_by, scheduled_state, left_by, concluded};
 
-use contract::{Event, Function};
+use contract::{Contract, Event, Function};
 use evaluation::{Holdings, Memory};
 use numbers::Value;
 use outcomes::{Outcome, Rule, Stepped};
@@ -62,22 +62,26 @@ struct Handler {
     from: usize,
     end: usize,
     last: usize,
+    // The number of the first asset parameter of its function.
+    first_parameter: usize,
 }
 
-// A table that passes.
+// A table that passes, and the groups of its contract.
 #[derive(Clone, Copy)]
 struct Whole<'a> {
     terms: Passed<'a>,
+    groups: &'a [u16],
+    ghost numbered: { groups.now ≡ groups_in terms.table.now },
 }
 
 // Function n of a table that passes, which is called, and its row.
 #[derive(Clone, Copy)]
 struct Called<'a> {
-    terms: Passed<'a>,
+    whole: Whole<'a>,
     n: usize,
     row: Function,
-    ghost read: { row ≡ function_row_of terms.table.now n },
-    ghost inside: { n < word_at terms.table.now 6 },
+    ghost read: { row ≡ function_row_of whole.terms.table.now n },
+    ghost inside: { n < word_at whole.terms.table.now 6 },
 }
 
 // ---- Answers.
@@ -190,14 +194,16 @@ fn event_row(table: &[u64], first: usize, j: usize) -> Event
 
 // The handler of a pending event; of none where the contract has no such event.
 fn handler_of(table: &[u64], p: Pending) -> Handler
-    ensures { HandlerOf table.now (event_of (contract_of table.now) p) result }
+    ensures { HandlerOf table.now (event_of (contract_of table.now) p) p.function result }
 {
+    let first_parameter = Contract::ASSETS + p.function as usize * Function::PARAMETERS;
     let found = p.row(table);
     let Some(e) = found else {
         return Handler {
             from: 0,
             end: 0,
             last: 0,
+            first_parameter,
         };
     };
     let node = contract::node_at(table, e.node);
@@ -205,75 +211,75 @@ fn handler_of(table: &[u64], p: Pending) -> Handler
         from: e.node.saturating_sub(node.argument as usize),
         end: e.node,
         last: e.last,
+        first_parameter,
     }
 }
 
-// A handler runs with no value parameters and no asset parameters, on the state without its event.
-// Kept: (d) `perform` too makes a runner of copies; but its holdings are lent to it, and what comes last is `finish`, which may refuse. One
-// function would take a closure of what comes last, and say in a clause what that does.
-fn run_handler(table: &[u64], s: &mut State, h: Handler, labels: &mut [i64; Label::ROOM]) -> Reply
-    requires { labels_from labels.old ≡ no_labels }
-    ensures { stepped_in result s.new labels.new ≡ handled_by s.old h.last (ran_on s.old (block_between table.now h.from h.end)) }
-{
-    let none = [0i64; 0];
-    let mut kinds = s.kinds;
-    let mut numbers = s.numbers;
-    let mut texts = s.texts;
-    let mut holdings = holdings::holdings_of(&s.assets, &none);
-    let mut runner = Runner {
-        table,
-        kinds: &mut kinds,
-        numbers: &mut numbers,
-        texts: &mut texts,
-        holdings: &mut holdings,
-        labels: &mut *labels,
-        count: 0,
-        values: &none,
-        clock: s.clock,
-    };
-    let ran = runner.run(h.from, h.end);
-    let count = runner.count;
-    if let Err(question) = ran {
-        clear(labels);
-        return silent(Outcome::Failed(question));
+impl Whole<'_> {
+    // A handler runs with no value parameters and no asset parameters, on the state without its event.
+    // Kept: (d) `perform` too makes a runner of copies; but its holdings are lent to it, and what comes last is `finish`, which may refuse. One
+    // function would take a closure of what comes last, and say in a clause what that does.
+    fn run_handler(&self, s: &mut State, h: Handler, labels: &mut [i64; Label::ROOM]) -> Reply
+        requires { labels_from labels.old ≡ no_labels }
+        ensures { stepped_in result s.new labels.new ≡ handled_by s.old h.last (ran_on (group_at self.now.groups.now h.first_parameter) s.old (block_between self.now.terms.table.now h.from h.end)) }
+    {
+        let none = [0i64; 0];
+        let mut kinds = s.kinds;
+        let mut numbers = s.numbers;
+        let mut texts = s.texts;
+        let mut holdings = holdings::holdings_of(&s.assets, &none);
+        let mut runner = Runner {
+            table: self.terms.table,
+            kinds: &mut kinds,
+            numbers: &mut numbers,
+            texts: &mut texts,
+            holdings: &mut holdings,
+            labels: &mut *labels,
+            count: 0,
+            values: &none,
+            clock: s.clock,
+            groups: self.groups,
+            first_parameter: h.first_parameter,
+        };
+        let ran = runner.run(h.from, h.end);
+        let count = runner.count;
+        if let Err(question) = ran {
+            clear(labels);
+            return silent(Outcome::Failed(question));
+        }
+        holdings::reach(s, &runner.memory(), h.last);
+        Reply {
+            outcome: Outcome::Accepted(Rule::EventMatch),
+            count,
+        }
     }
-    holdings::reach(s, &runner.memory(), h.last);
-    Reply {
-        outcome: Outcome::Accepted(Rule::EventMatch),
-        count,
-    }
-}
 
-// The event at place k is fired.
-fn handle(table: &[u64], s: &mut State, k: usize, labels: &mut [i64; Label::ROOM]) -> Reply
-    requires k_in_bounds { k < length (live s.old) }
-    requires no_labels { labels_from labels.old ≡ no_labels }
-    ensures { stepped_in result s.new labels.new ≡ fire_by_due (contract_of table.now) s.old (Some k) }
-{
-    let p = s.live()[k];
-    let h = handler_of(table, p);
-    s.remove(k);
-    run_handler(table, s, h, labels)
-}
-
-// A firing on a contract's state, by the event that is due.
-fn fire_on(
-    table: &[u64],
-    s: &mut State,
-    due: Option<usize>,
-    labels: &mut [i64; Label::ROOM],
-) -> Reply
-    requires due { due ≡ due_in (contract_of table.now) s.old }
-    requires no_labels { labels_from labels.old ≡ no_labels }
-    ensures { stepped_in result s.new labels.new ≡ fired (contract_of table.now) s.old }
-{
-    if !s.agreed {
-        return silent(Outcome::Refused(Question::Agreed));
+    // The event at place k is fired.
+    fn handle(&self, s: &mut State, k: usize, labels: &mut [i64; Label::ROOM]) -> Reply
+        requires k_in_bounds { k < length (live s.old) }
+        requires no_labels { labels_from labels.old ≡ no_labels }
+        ensures { stepped_in result s.new labels.new ≡ fire_by_due (contract_of self.now.terms.table.now) s.old (Some k) }
+    {
+        let p = s.live()[k];
+        let h = handler_of(self.terms.table, p);
+        s.remove(k);
+        self.run_handler(s, h, labels)
     }
-    let Some(k) = due else {
-        return silent(Outcome::Refused(Question::SomethingDue));
-    };
-    handle(table, s, k, labels)
+
+    // A firing on a contract's state, by the event that is due.
+    fn fire_on(&self, s: &mut State, due: Option<usize>, labels: &mut [i64; Label::ROOM]) -> Reply
+        requires due { due ≡ due_in (contract_of self.now.terms.table.now) s.old }
+        requires no_labels { labels_from labels.old ≡ no_labels }
+        ensures { stepped_in result s.new labels.new ≡ fired (contract_of self.now.terms.table.now) s.old }
+    {
+        if !s.agreed {
+            return silent(Outcome::Refused(Question::Agreed));
+        }
+        let Some(k) = due else {
+            return silent(Outcome::Refused(Question::SomethingDue));
+        };
+        self.handle(s, k, labels)
+    }
 }
 
 // ---- Call: the function that is called.
@@ -347,12 +353,12 @@ fn guard(memory: &Memory, first: usize, j: usize) -> Result<Value, Question>
 impl Called<'_> {
     // Its events join those that are pending, if there is room for so many more; where a question refuses, the state that is left is free.
     fn schedule(&self, s: &mut State, memory: &Memory) -> Result<(), Question>
-        ensures { left_by result s.new ≡ scheduled_state s.old (schedule (memory_of memory.now.kinds.now memory.now.numbers.now memory.now.texts.now memory.now.holdings.now memory.now.values.now s.old.clock) s.old.clock self.now.n 0 (function_at self.now.terms.table.now self.now.n).events) }
+        ensures { left_by result s.new ≡ scheduled_state s.old (schedule (memory_of memory.now.kinds.now memory.now.numbers.now memory.now.texts.now memory.now.holdings.now memory.now.values.now s.old.clock) s.old.clock self.now.n 0 (function_at self.now.whole.terms.table.now self.now.n).events) }
     {
         let row = self.row;
         // The caller's memory has this table and clock too; so no clause has to say it.
         let memory = Memory {
-            table: self.terms.table,
+            table: self.whole.terms.table,
             clock: s.clock,
             ..*memory
         };
@@ -388,7 +394,7 @@ impl Called<'_> {
     // Kept: (b) a state is copied only where an event may be refused: with a copy of it for each call, changed and copied back, a desk took
     // 68,052,865 instructions for a mixed session, where it takes 64,424,505 (two builds without proof of one tree).
     fn conclude(&self, s: &mut State, memory: &Memory) -> Result<(), Question>
-        ensures { (n : ℕ) → (ls : List Label) → ended_call result s.new ls n ≡ concluded s.old self.now.n (function_at self.now.terms.table.now self.now.n) memory.now.values.now (work_from memory.now.kinds.now memory.now.numbers.now memory.now.texts.now memory.now.holdings.now ls n None) }
+        ensures { (n : ℕ) → (ls : List Label) → ended_call result s.new ls n ≡ concluded s.old self.now.n (function_at self.now.whole.terms.table.now self.now.n) memory.now.values.now (work_from memory.now.kinds.now memory.now.numbers.now memory.now.texts.now memory.now.holdings.now ls n None) }
     {
         let row = self.row;
         let no_events = row.events == 0;
@@ -407,7 +413,7 @@ impl Called<'_> {
 
     // The body has run, and no question refused.
     fn finish(&self, s: &mut State, memory: &Memory) -> Result<(), Question>
-        ensures { (n : ℕ) → (ls : List Label) → ended_call result s.new ls n ≡ finished s.old self.now.n (function_at self.now.terms.table.now self.now.n) memory.now.values.now (work_from memory.now.kinds.now memory.now.numbers.now memory.now.texts.now memory.now.holdings.now ls n None) }
+        ensures { (n : ℕ) → (ls : List Label) → ended_call result s.new ls n ≡ finished s.old self.now.n (function_at self.now.whole.terms.table.now self.now.n) memory.now.values.now (work_from memory.now.kinds.now memory.now.numbers.now memory.now.texts.now memory.now.holdings.now ls n None) }
     {
         if holdings::parameters_empty(memory.holdings) {
             self.conclude(s, memory)
@@ -425,7 +431,7 @@ impl Called<'_> {
         labels: &mut [i64; Label::ROOM],
     ) -> Result<usize, Question>
         requires { labels_from labels.old ≡ no_labels }
-        ensures { stepped_in (reply_of result) s.new labels.new ≡ finished s.old self.now.n (function_at self.now.terms.table.now self.now.n) values.now (ran values.now s.old.clock (work_from s.old.kinds s.old.numbers s.old.texts holdings.old no_labels 0 None) (function_at self.now.terms.table.now self.now.n).body) }
+        ensures { stepped_in (reply_of result) s.new labels.new ≡ by_precondition (place_groups (contract_of self.now.whole.terms.table.now) self.now.n) s.old self.now.n (function_at self.now.whole.terms.table.now self.now.n) values.now (work_from s.old.kinds s.old.numbers s.old.texts holdings.old no_labels 0 None) (Ok true) }
     {
         let row = self.row;
         let mut kinds = s.kinds;
@@ -433,7 +439,7 @@ impl Called<'_> {
         let mut texts = s.texts;
         let from = row.first + row.precondition;
         let mut runner = Runner {
-            table: self.terms.table,
+            table: self.whole.terms.table,
             kinds: &mut kinds,
             numbers: &mut numbers,
             texts: &mut texts,
@@ -442,6 +448,8 @@ impl Called<'_> {
             count: 0,
             values,
             clock: s.clock,
+            groups: self.whole.groups,
+            first_parameter: Contract::ASSETS + self.n * Function::PARAMETERS,
         };
         let ran = runner.run(from, from + row.body);
         let count = runner.count;
@@ -465,7 +473,7 @@ impl Called<'_> {
         labels: &mut [i64; Label::ROOM],
     ) -> Result<usize, Question>
         requires { labels_from labels.old ≡ no_labels }
-        ensures { stepped_in (reply_of result) s.new labels.new ≡ invoked s.old (arguments values.now assets.now) self.now.n (function_at self.now.terms.table.now self.now.n) }
+        ensures { stepped_in (reply_of result) s.new labels.new ≡ invoked (place_groups (contract_of self.now.whole.terms.table.now) self.now.n) s.old (arguments values.now assets.now) self.now.n (function_at self.now.whole.terms.table.now self.now.n) }
     {
         let row = self.row;
         if values.len() != row.values || assets.len() != row.parameters {
@@ -476,7 +484,7 @@ impl Called<'_> {
         }
         let mut holdings = holdings::holdings_of(&s.assets, assets);
         let memory = Memory {
-            table: self.terms.table,
+            table: self.whole.terms.table,
             kinds: &s.kinds,
             numbers: &s.numbers,
             texts: &s.texts,
@@ -520,7 +528,7 @@ impl Whole<'_> {
         };
         let row = contract::function_at(table, n);
         let called = Called {
-            terms: self.terms,
+            whole: *self,
             n,
             row,
         };
@@ -530,26 +538,24 @@ impl Whole<'_> {
 
 // ---- The steps.
 
-impl<'a> Whole<'a> {
-    // The table, or the first question of every step that is answered by no.
-    // Kept: (d) each public step, here and below, begins with a call of this: one function around the five would take a closure, with a function
-    // of the contract beside it in its contract, in place of three lines.
-    #[tactic(auto, unfolding(crate::specs::Private::admission, laws::specs::Choice::pick))]
-    fn admit(table: &'a [u64], s: &State, room: usize) -> Result<Whole<'a>, Question>
-        ensures { admitted result ≡ admission table.now room s.now }
-    {
-        let Some(terms) = Passed::of(table) else {
-            return Err(Question::TableCheck);
-        };
-        if !s.in_range(table) {
-            return Err(Question::StateRanges);
-        }
-        let short = room < Label::MOST;
-        if short {
-            return Err(Question::LabelRoom);
-        }
-        Ok(Whole { terms })
+// The table, or the first question of every step that is answered by no.
+// Kept: (d) each public step, here and below, begins with a call of this: one function around the five would take a closure, with a function
+// of the contract beside it in its contract, in place of three lines.
+#[tactic(auto, unfolding(crate::specs::Private::admission, laws::specs::Choice::pick))]
+fn admit<'a>(table: &'a [u64], s: &State, room: usize) -> Result<Passed<'a>, Question>
+    ensures { admitted result ≡ admission table.now room s.now }
+{
+    let Some(terms) = Passed::of(table) else {
+        return Err(Question::TableCheck);
+    };
+    if !s.in_range(table) {
+        return Err(Question::StateRanges);
     }
+    let short = room < Label::MOST;
+    if short {
+        return Err(Question::LabelRoom);
+    }
+    Ok(terms)
 }
 
 // Agreement: the parties' clauses, with the fields' values.
@@ -566,7 +572,7 @@ pub fn agree(
 ) -> Stepped
     ensures { result ≡ step table.now room s (λ c. agreed_on c s (parts_in line.now (length parts.now / 4) parts.now spans.now values.now)) }
 {
-    if let Err(q) = Whole::admit(table, &s, room) {
+    if let Err(q) = admit(table, &s, room) {
         return outcomes::refuse(s, q);
     }
     let mut next = s;
@@ -586,11 +592,16 @@ pub fn call(
 ) -> Stepped
     ensures { result ≡ step table.now room s (λ c. called c s (record { caller = caller.now; function = function.now; values = values.now; assets = assets.now })) }
 {
-    let whole = match Whole::admit(table, &s, room) {
-        Ok(whole) => whole,
+    let terms = match admit(table, &s, room) {
+        Ok(terms) => terms,
         Err(q) => return outcomes::refuse(s, q),
     };
-    let due = s.first_due(whole.terms.table);
+    let groups = groups::groups_of(&terms);
+    let whole = Whole {
+        terms,
+        groups: &groups,
+    };
+    let due = s.first_due(table);
     let mut next = s;
     let mut labels = [0i64; Label::ROOM];
     let r = whole.call_on(
@@ -609,13 +620,19 @@ pub fn call(
 pub fn fire(table: &[u64], s: State, room: usize) -> Stepped
     ensures { result ≡ step table.now room s (λ c. fired c s) }
 {
-    if let Err(q) = Whole::admit(table, &s, room) {
-        return outcomes::refuse(s, q);
-    }
+    let terms = match admit(table, &s, room) {
+        Ok(terms) => terms,
+        Err(q) => return outcomes::refuse(s, q),
+    };
+    let groups = groups::groups_of(&terms);
+    let whole = Whole {
+        terms,
+        groups: &groups,
+    };
     let due = s.first_due(table);
     let mut next = s;
     let mut labels = [0i64; Label::ROOM];
-    let r = fire_on(table, &mut next, due, &mut labels);
+    let r = whole.fire_on(&mut next, due, &mut labels);
     with_labels(r, next, &labels)
 }
 
@@ -623,7 +640,7 @@ pub fn fire(table: &[u64], s: State, room: usize) -> Stepped
 pub fn tick(table: &[u64], s: State, room: usize) -> Stepped
     ensures { result ≡ step table.now room s (λ c. ticked c s) }
 {
-    if let Err(q) = Whole::admit(table, &s, room) {
+    if let Err(q) = admit(table, &s, room) {
         return outcomes::refuse(s, q);
     }
     let due = s.first_due(table);
@@ -636,7 +653,7 @@ pub fn tick(table: &[u64], s: State, room: usize) -> Stepped
 pub fn jump(table: &[u64], s: State, room: usize, to: i64) -> Stepped
     ensures { result ≡ step table.now room s (λ c. jumped c s to) }
 {
-    if let Err(q) = Whole::admit(table, &s, room) {
+    if let Err(q) = admit(table, &s, room) {
         return outcomes::refuse(s, q);
     }
     let due = s.first_due(table);
@@ -662,6 +679,11 @@ pub fn play(
     ensures integers_after { integers.new ≡ sets integers.old 0 (integers_of (reports_of table.now s input.now (room_in (length numbers.old) (length integers.old)))) }
 {
     let room = turns::label_room(numbers, integers);
-    let whole = Whole::admit(table, &s, room)?;
+    let terms = admit(table, &s, room)?;
+    let groups = groups::groups_of(&terms);
+    let whole = Whole {
+        terms,
+        groups: &groups,
+    };
     Ok(whole.play_on(s, input, numbers, integers))
 }

@@ -143,7 +143,7 @@ impl Whole<'_> {
         ensures { stepped_in result s.new labels.new ≡ heard (contract_of self.now.terms.table.now) s.old (said_of input.now at next) }
     {
         match next {
-            Next::Event(k) => crate::fire_on(self.terms.table, s, Some(k), labels),
+            Next::Event(k) => self.fire_on(s, Some(k), labels),
             Next::Line(end) => {
                 self.take_line(s, tokens::between(input, at, end), numbers, labels)
             }
@@ -165,8 +165,8 @@ fn place_after(at: usize, next: Next) -> usize
 // ---- A session.
 
 // No labels, after a step that sent so many, which are the first.
-// Kept: (b) the words of those sent alone: with all 192 cleared a desk took 59,359,719 instructions for a mixed session, where it takes
-// 58,171,884 (two builds without proof of one tree).
+// Kept: (b) the words of those sent alone: with all words cleared, three a label then, a desk took 59,359,719 instructions for a mixed session,
+// where it took 58,171,884 with these alone (two builds without proof of one tree).
 fn clear_sent(labels: &mut [i64; Label::ROOM], count: usize)
     requires { drop count (labels_from labels.old) ≡ drop count no_labels }
     ensures { labels_from labels.new ≡ no_labels }

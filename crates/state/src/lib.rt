@@ -329,7 +329,7 @@ impl State {
     // The slots after the last pending event become blank.
     pub fn clear_rest(&mut self)
         ensures value { self.new ≡ with_pending self.old (live self.old) }
-        ensures at_most { length (live self.old) ≤ max_pending }
+        ensures few { self.new.pending ≤ max_pending }
     {
         let n = self.live().len();
         self.events[n..].fill(BLANK);

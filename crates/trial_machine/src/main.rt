@@ -16,10 +16,10 @@
 //   p NAME               question 3: print the name and whether the table passes
 //   # ..                 print the line
 // A step prints its line and what came of it, the state's number or -, clock, number of pending events | assets | fields (_ nothing,
-// "N string N, ? else), and a line a label: kind, party, value. Other lines are left out; those with a semicolon are contracts' texts.
+// "N string N, ? else), and a line a label: kind, party, value, group. Other lines are left out; those with a semicolon are contracts' texts.
 // Expected results: worked steps on contracts whose texts stand beside their words in `stdin`, to be read against the documents (who worked
-// them out, and how, is not recorded here; those of jumps, and of a right side of && without a value, were worked out from document 02, F-3
-// and F-5, before they were run); and for question 3 whether a table passes, as its name in `stdin` says.
+// them out, and how, is not recorded here; those of jumps, of a right side of && without a value, and of groups, were worked out from document
+// 02, F-3, F-5 and F-7, before they were run); and for question 3 whether a table passes, as its name in `stdin` says.
 #![tactic(auto)]
 
 use contract::Contract;
@@ -171,7 +171,10 @@ fn print_state(rt: &impl Print, table: &[u64], s: &State) -> io::Result<()> {
 
 fn print_labels(rt: &impl Print, r: &Stepped) -> io::Result<()> {
     for label in r.labels.iter().take(r.count) {
-        println!(rt; "  {} {} {}", label.kind, label.party, label.value)?;
+        println!(rt;
+            "  {} {} {} {}",
+            label.kind, label.party, label.value, label.group
+        )?;
     }
     Ok(())
 }

@@ -3,15 +3,15 @@
 //   f CLOCK              the fresh state at a clock
 //   s h AGREED STATE CLOCK PENDING, s v PLACE KIND NUMBER TEXT, s a PLACE AMOUNT, s e PLACE FUNCTION EVENT TIME
 //                        the state's own numbers, a field, an asset, an event are set
-//   e SLOTS              firing with a slice of up to 100 entries, entry i of kind 9, party i and value 1000
+//   e SLOTS              firing with a slice of up to 100 entries, entry i of kind 9, party i, value 1000 and group 9
 //   j SLOTS T            jump to clock T with such a slice; a minus stands straight before T's digits
 //   e SLOTS 1, j SLOTS T 1
 //                        the next line has the state that it left, which is printed: clock, state, the pending events' times, oldest first
 //   # ..                 print the line
 // A step prints its line, what came of it, how many labels there are, and how many entries the slice kept; and then each entry
-// that it did not keep: its place, kind, party, value. Without that last 1 the next line has the state from before it. Lines with a semicolon are contracts' texts.
+// that it did not keep: its place, kind, party, value, group. Without that last 1 the next line has the state from before it. Lines with a semicolon are contracts' texts.
 // Expected results: to be read against document 01 (question 20, the labels' order; entries past them are kept); who worked them out, and how, is not recorded here.
-// Those of jumps and of due events in the order of the text were worked out from document 02, F-3 and F-4, before they were run.
+// Those of jumps, of due events in the order of the text and of groups were worked out from document 02, F-3, F-4 and F-7, before they were run.
 #![tactic(auto)]
 
 use contract::Contract;
@@ -40,6 +40,7 @@ fn mark(i: usize) -> Label {
         kind: 9,
         party: i,
         value: 1000,
+        group: 9,
     }
 }
 
@@ -56,7 +57,10 @@ fn print_left(rt: &impl Print, left: &Left, labels: &[Label]) -> io::Result<()> 
     )?;
     for (i, label) in labels.iter().enumerate() {
         if *label != mark(i) {
-            println!(rt; "  {i}: {} {} {}", label.kind, label.party, label.value)?;
+            println!(rt;
+                "  {i}: {} {} {} {}",
+                label.kind, label.party, label.value, label.group
+            )?;
         }
     }
     Ok(())

@@ -1,11 +1,12 @@
 -- `machine::call` meets its contract. Assumes nothing.
-use mathlib.Core.Path.{ap, ◌∙◌}
+use mathlib.Core.Path.{sym, ap, ◌∙◌}
 use mathlib.Core.List.{List}
 use Prim.Native.Nat.{ℕ}
 use Rattle.contract.specs.Decode.{contract_of}
 use Rattle.outcomes.specs.declared.Stepped.{Stepped}
 use Rattle.contract.specs.Tree.{Contract}
 use Rattle.laws.specs.Lists.{repeated}
+use Rattle.state.specs.States.{due_in}
 use Rattle.machine.specs.Steps.{Invocation, called}
 use Rattle.machine.proofs.Gates.{refused_first, same_table, stepped}
 use Rattle.outcomes.proofs.Labels.{no_labels_lem}
@@ -20,7 +21,10 @@ returns-in-Err c =
 pub call_on-r-requires : goal.call_on-r-requires
 unfolding repeated
 call_on-r-requires c =
-    record { due = c.first_due-due.ensures; no_labels = no_labels_lem }
+    record {
+      due = c.first_due-due.ensures ∙ ap (λ (w : List ℕ). due_in (contract_of w) c.args.s) (sym (same_table c.args.table.now c.args.room c.args.s _ c.admit.ensures _ c.in-Ok.is));
+      no_labels = no_labels_lem;
+    }
 
 pub returns : goal.returns
 returns c =

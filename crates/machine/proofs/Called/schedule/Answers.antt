@@ -23,7 +23,7 @@ loop-j-init c =
 
 pub returns-in_default : goal.returns-in_default
 returns-in_default c =
-    let table = c.args.self.now.terms.table.now in
+    let table = c.args.self.now.whole.terms.table.now in
     let l = c.loop-j in
     let s = c.args.s.now in
     let m = memory_of c.args.memory.now.kinds.now c.args.memory.now.numbers.now c.args.memory.now.texts.now c.args.memory.now.holdings.now c.args.memory.now.values.now s.clock in
@@ -32,7 +32,7 @@ returns-in_default c =
 
 pub returns-in_default-value : goal.returns-in_default-value
 returns-in_default-value c =
-    let table = c.args.self.now.terms.table.now in
+    let table = c.args.self.now.whole.terms.table.now in
     let l = c.loop-j in
     let s = c.args.s.now in
     let m = memory_of c.args.memory.now.kinds.now c.args.memory.now.numbers.now c.args.memory.now.texts.now c.args.memory.now.holdings.now c.args.memory.now.values.now s.clock in
@@ -41,7 +41,7 @@ returns-in_default-value c =
 
 pub returns-then-full : goal.returns-then-full
 returns-then-full c =
-    let table = c.args.self.now.terms.table.now in
+    let table = c.args.self.now.whole.terms.table.now in
     let l = c.loop-j in
     let s = c.args.s.now in
     let m = memory_of c.args.memory.now.kinds.now c.args.memory.now.numbers.now c.args.memory.now.texts.now c.args.memory.now.holdings.now c.args.memory.now.values.now s.clock in
@@ -50,7 +50,7 @@ returns-then-full c =
 
 pub returns : goal.returns
 returns c =
-    let table = c.args.self.now.terms.table.now in
+    let table = c.args.self.now.whole.terms.table.now in
     let l = c.loop-j in
     let s = c.args.s.now in
     let m = memory_of c.args.memory.now.kinds.now c.args.memory.now.numbers.now c.args.memory.now.texts.now c.args.memory.now.holdings.now c.args.memory.now.values.now s.clock in
@@ -59,16 +59,16 @@ returns c =
 
 pub overflow_cast-self : goal.overflow_cast-self
 overflow_cast-self c =
-    omega (arith, (placed c.args.self.now.terms.table.now c.args.self.now.terms.whole c.args.self.now.n c.args.self.now.inside).number)
+    omega (arith, (placed c.args.self.now.whole.terms.table.now c.args.self.now.whole.terms.whole c.args.self.now.n c.args.self.now.inside).number)
 
 pub overflow_cast-j : goal.overflow_cast-j
 overflow_cast-j c =
-    let p = placed c.args.self.now.terms.table.now c.args.self.now.terms.whole c.args.self.now.n c.args.self.now.inside in
-    omega (arith, row_events c.args.self.now.terms.table.now c.args.self.now.n _ c.args.self.now.read p, c.loop-j-test.true)
+    let p = placed c.args.self.now.whole.terms.table.now c.args.self.now.whole.terms.whole c.args.self.now.n c.args.self.now.inside in
+    omega (arith, row_events c.args.self.now.whole.terms.table.now c.args.self.now.n _ c.args.self.now.read p, c.loop-j-test.true)
 
 pub loop-j-preserved : goal.loop-j-preserved
 loop-j-preserved c =
-    let table = c.args.self.now.terms.table.now in
+    let table = c.args.self.now.whole.terms.table.now in
     let l = c.loop-j in
     let s = c.args.s.now in
     let m = memory_of c.args.memory.now.kinds.now c.args.memory.now.numbers.now c.args.memory.now.texts.now c.args.memory.now.holdings.now c.args.memory.now.values.now s.clock in

@@ -13,5 +13,5 @@ pub returns : goal.returns
 returns c =
     let n = c.min-sent.result in
     let ws = c.args.labels.now in
-    let k : length (take (3 * n) ws) ≡ 3 * n = length-take-le (3 * n) ws (omega (arith, c.min-sent.ensures, c.told-labels)) in
+    let k : length (take (4 * n) ws) ≡ 4 * n = length-take-le (4 * n) ws (omega (arith, c.min-sent.ensures, c.told-labels)) in
     all_cleared c.args.count n ws _ c.min-sent.ensures c.told-labels c.requires (c.fill.ensures.after (search rules) ∙ ap (λ (m : ℕ). replicate m (pos 0)) k)
