@@ -14,11 +14,12 @@ use borrow.Author.Tests.{eqb-true}
 use Rattle.laws.specs.Choice.{pick}
 use Rattle.laws.proofs.Choice.{true_false}
 use Rattle.laws.proofs.Members.{every_head, every_tail}
+use Rattle.laws.proofs.Truths.{both_true}
 use Rattle.laws.specs.Lists.{every, repeated}
 use Rattle.statements.specs.declared.Label.{Label}
 use Rattle.statements.specs.Running.{asset_label}
 use Rattle.holdings.specs.Holdings.{amounts}
-use Rattle.history.specs.Histories.{payouts_in, total, values_of, weighed, alike}
+use Rattle.history.specs.Histories.{Deposit, payouts_in, total, amounts_of, values_of, weighed, alike}
 
 -- what payouts come to, weighed by their labels
 unfoldable pub paid_out : (Label → ℕ) → List Label → ℕ
@@ -29,9 +30,16 @@ paid_out g (l ∷ ls) = g l * nat_abs l.value + paid_out g ls
 abbrev pub evenly : Label → ℕ
 evenly l = 1
 
--- the weight of amounts, as integers
-abbrev pub brought : List ℤ → ℕ
-brought zs = weighed alike 0 (amounts zs)
+-- a payout is an amount, and a deposit
+abbrev pub is_amount : Label → Bool
+is_amount l = le_z (pos 0) l.value
+
+abbrev pub brings : Deposit → Bool
+brings d = le_z (pos 0) d.amount
+
+-- what deposits come to
+abbrev pub brought : List Deposit → ℕ
+brought ds = weighed alike 0 (amounts (amounts_of ds))
 
 module _ (f : ℕ → ℕ) where
   -- a weight by another way to the place
@@ -114,11 +122,6 @@ unfolding paid_out
 paid_append g [] b = omega arith
 paid_append g (l ∷ a) b = omega (arith, paid_append g a b)
 
-pub values_append : (a b : List Label) → values_of (a ++ b) ≡ values_of a ++ values_of b
-unfolding values_of
-values_append [] b = refl
-values_append (l ∷ a) b = ap (λ zs. l.value ∷ zs) (values_append a b)
-
 pick_append : {A : Type 0} (t : Bool) (x : A) (a b c : List A) → c ≡ a ++ b → pick t (x ∷ c) c ≡ pick t (x ∷ a) a ++ b
 unfolding pick
 pick_append true x a b c e = ap (λ l. x ∷ l) e
@@ -136,9 +139,16 @@ unfolding amounts
 amounts_append [] b = refl
 amounts_append (z ∷ a) b = ap (λ ns. nat_abs z ∷ ns) (amounts_append a b)
 
-pub brought_append : (a b : List ℤ) → brought (a ++ b) ≡ brought a + brought b
+deposits_append : (a b : List Deposit) → amounts_of (a ++ b) ≡ amounts_of a ++ amounts_of b
+unfolding amounts_of
+deposits_append [] b = refl
+deposits_append (d ∷ a) b = ap (λ zs. d.amount ∷ zs) (deposits_append a b)
+
+pub brought_append : (a b : List Deposit) → brought (a ++ b) ≡ brought a + brought b
 brought_append a b =
-    omega (arith, ap (weighed alike 0) (amounts_append a b), weighed_append alike 0 (amounts a) (amounts b), alike_anywhere (0 + length (amounts a)) 0 (amounts b))
+    let x = amounts (amounts_of a) in
+    let y = amounts (amounts_of b) in
+    omega (arith, ap (λ (zs : List ℤ). weighed alike 0 (amounts zs)) (deposits_append a b), ap (weighed alike 0) (amounts_append (amounts_of a) (amounts_of b)), weighed_append alike 0 x y, alike_anywhere (0 + length x) 0 y)
 
 paid_values : (ls : List Label) (k : ℕ) → weighed alike k (amounts (values_of ls)) ≡ paid_out evenly ls
 unfolding weighed amounts values_of paid_out
@@ -160,8 +170,18 @@ total_from k (z ∷ zs) e = go z (every_head (le_z (pos 0)) z zs e) (total_from 
     go (pos n) e h = let q : n + weighed alike (suc k) (amounts zs) ≡ 1 * n + weighed alike (suc k) (amounts zs) = omega arith in ap (λ x. pos n +ℤ x) h ∙ ap pos q
     go (negsuc n) e h = true_false (sym e)
 
-pub total_brought : (zs : List ℤ) → every (le_z (pos 0)) zs ≡ true → total zs ≡ pos (brought zs)
-total_brought zs e = total_from 0 zs e
+pub amounts_are : (ds : List Deposit) → every brings ds ≡ true → every (le_z (pos 0)) (amounts_of ds) ≡ true
+unfolding every amounts_of
+amounts_are [] e = refl
+amounts_are (d ∷ ds) e = both_true (brings d) _ (every_head brings d ds e) (amounts_are ds (every_tail brings d ds e))
 
-pub total_paid : (ls : List Label) → every (le_z (pos 0)) (values_of ls) ≡ true → total (values_of ls) ≡ pos (paid_out evenly ls)
-total_paid ls e = total_from 0 (values_of ls) e ∙ ap pos (paid_values ls 0)
+pub total_brought : (ds : List Deposit) → every brings ds ≡ true → total (amounts_of ds) ≡ pos (brought ds)
+total_brought ds e = total_from 0 (amounts_of ds) (amounts_are ds e)
+
+pub values_are : (ls : List Label) → every is_amount ls ≡ true → every (le_z (pos 0)) (values_of ls) ≡ true
+unfolding every values_of
+values_are [] e = refl
+values_are (l ∷ ls) e = both_true (is_amount l) _ (every_head is_amount l ls e) (values_are ls (every_tail is_amount l ls e))
+
+pub total_paid : (ls : List Label) → every is_amount ls ≡ true → total (values_of ls) ≡ pos (paid_out evenly ls)
+total_paid ls e = total_from 0 (values_of ls) (values_are ls e) ∙ ap pos (paid_values ls 0)

@@ -30,7 +30,7 @@ use Rattle.outcomes.specs.declared.Outcome.TheVariants.{Accepted, Failed}
 use Rattle.outcomes.specs.declared.Stepped.{Stepped}
 use Rattle.outcomes.specs.Outcomes.{answered, refused}
 use Rattle.holdings.specs.Holdings.{amounts}
-use Rattle.machine.specs.Steps.{accepted, begun, ended, Invocation, Chosen, chosen, answers_to, choose, precondition_holds, Scheduled, times, no, schedule, with_scheduled, finished, by_precondition, invoked, by_chosen, call_by_due, called, handled, fire_by_due, fired, tick_by_due, ticked, jump_by_due, jumped, step, Request, agreement, call, firing, tick, jump, requested, room_needed}
+use Rattle.machine.specs.Steps.{place_groups, accepted, begun, ended, Invocation, Chosen, chosen, answers_to, choose, precondition_holds, Scheduled, times, no, schedule, with_scheduled, finished, by_precondition, invoked, by_chosen, call_by_due, called, handled, fire_by_due, fired, tick_by_due, ticked, jump_by_due, jumped, step, Request, agreement, call, firing, tick, jump, requested, room_needed}
 use Rattle.agreements.specs.Agreement.{Part, set_clauses, agreed_on}
 use Rattle.history.specs.Histories.{Step, answer_to}
 use Rattle.numbers.specs.Numbers.{Truth}
@@ -39,14 +39,14 @@ use Rattle.questions.specs.declared.Question.{Question}
 use Rattle.machine.proofs.Refusals.{by_refusal}
 
 -- the work of a call's body, and of the handler of an event
-abbrev pub body_ran : State → Invocation → Function → Work
-body_ran s i f = ran i.values s.clock (begun s (amounts i.assets)) f.body
+abbrev pub body_ran : Contract → State → Invocation → ℕ → Function → Work
+body_ran c s i n f = ran (place_groups c n) i.values s.clock (begun s (amounts i.assets)) f.body
 
 abbrev pub event_at : Contract → State → ℕ → Event
 event_at c s k = event_of c (get_or (live s) k blank)
 
 abbrev pub handler_ran : Contract → State → ℕ → Work
-handler_ran c s k = ran [] s.clock (begun s []) (event_at c s k).handler
+handler_ran c s k = ran (place_groups c (get_or (live s) k blank).function) [] s.clock (begun s []) (event_at c s k).handler
 
 -- what a call that is accepted was found to keep to, as it gives these pending events
 pub record CallOk (c : Contract) (s : State) (i : Invocation) (n : ℕ) (f : Function) (ps : List Pending) : Type 0 where
@@ -59,16 +59,16 @@ pub record CallOk (c : Contract) (s : State) (i : Invocation) (n : ℕ) (f : Fun
   pub values : length i.values ≡ length f.values
   pub assets : length i.assets ≡ length f.parameters
   pub deposits : every (le_z (pos 0)) i.assets ≡ true
-  pub went : (body_ran s i f).refusal ≡ None
-  pub spent : every (λ a. eqb a 0) (drop max_assets (body_ran s i f).holdings) ≡ true
-  pub given : schedule (memory_in i.values s.clock (body_ran s i f)) s.clock n 0 f.events ≡ times ps
+  pub went : (body_ran c s i n f).refusal ≡ None
+  pub spent : every (λ a. eqb a 0) (drop max_assets (body_ran c s i n f).holdings) ≡ true
+  pub given : schedule (memory_in i.values s.clock (body_ran c s i n f)) s.clock n 0 f.events ≡ times ps
   pub room : length (live s) + length ps ≤ max_pending
 
 pub data ComesOut (c : Contract) (s : State) : Request → Stepped → Type 0 where
   refusal : {q : Request} (n : Question) → ComesOut c s q (refused s n)
   agrees : (ps : List Part) → s.agreed ≡ false → ComesOut c s (agreement ps) (answered (Accepted Agree) (opened (set_clauses s c.clauses ps) c.initial))
   calls : (i : Invocation) (n : ℕ) (f : Function) (ps : List Pending) → CallOk c s i n f ps
-      → ComesOut c s (call i) (accepted Call (ended s (body_ran s i f) f.last (live s ++ ps)) (body_ran s i f))
+      → ComesOut c s (call i) (accepted Call (ended s (body_ran c s i n f) f.last (live s ++ ps)) (body_ran c s i n f))
   fires : (k : ℕ) → s.agreed ≡ true → due_in c s ≡ Some k → (handler_ran c s k).refusal ≡ None
       → ComesOut c s firing (accepted EventMatch (ended s (handler_ran c s k) (event_at c s k).last (live (removed s k))) (handler_ran c s k))
   fails : (k : ℕ) (n : Question) → s.agreed ≡ true → due_in c s ≡ Some k → (handler_ran c s k).refusal ≡ Some n
@@ -101,9 +101,9 @@ agreement_came c s ps =
 module _ (c : Contract) (s : State) (i : Invocation) (e : s.agreed ≡ true) (d : due_in c s ≡ None) where
   module _ (n : ℕ) (f : Function) (k : choose c s i 0 c.functions ≡ chosen n f) (l : n < length c.functions) (g : get_or c.functions n no_function ≡ f)
       (v : length i.values ≡ length f.values) (a : length i.assets ≡ length f.parameters) (z : every (le_z (pos 0)) i.assets ≡ true) where
-    scheduled_came : (body_ran s i f).refusal ≡ None → every (λ a. eqb a 0) (drop max_assets (body_ran s i f).holdings) ≡ true → (x : Scheduled)
-        → schedule (memory_in i.values s.clock (body_ran s i f)) s.clock n 0 f.events ≡ x
-        → ComesOut c s (call i) (with_scheduled s (body_ran s i f) f.last x)
+    scheduled_came : (body_ran c s i n f).refusal ≡ None → every (λ a. eqb a 0) (drop max_assets (body_ran c s i n f).holdings) ≡ true → (x : Scheduled)
+        → schedule (memory_in i.values s.clock (body_ran c s i n f)) s.clock n 0 f.events ≡ x
+        → ComesOut c s (call i) (with_scheduled s (body_ran c s i n f) f.last x)
     scheduled_came w h (no q) t = refusal q
     scheduled_came w h (times ps) t =
         by_cases (ComesOut c s (call i)) _ _ _
@@ -124,22 +124,22 @@ module _ (c : Contract) (s : State) (i : Invocation) (e : s.agreed ≡ true) (d 
         }))
         (λ _. refusal ask.PendingRoom)
 
-    finished_came : ComesOut c s (call i) (finished s n f i.values (body_ran s i f))
+    finished_came : ComesOut c s (call i) (finished s n f i.values (body_ran c s i n f))
     unfolding finished
     finished_came =
-        by_refusal (ComesOut c s (call i)) (body_ran s i f).refusal (refused s) _
-        (λ w. by_cases (ComesOut c s (call i)) (every (λ a. eqb a 0) (drop max_assets (body_ran s i f).holdings)) _ _
+        by_refusal (ComesOut c s (call i)) (body_ran c s i n f).refusal (refused s) _
+        (λ w. by_cases (ComesOut c s (call i)) (every (λ a. eqb a 0) (drop max_assets (body_ran c s i n f).holdings)) _ _
         (λ h. scheduled_came w h _ refl)
         (λ _. refusal ask.ParametersEmpty))
         (λ q _. refusal q)
 
-    precondition_came : (t : Truth) → ComesOut c s (call i) (by_precondition s n f i.values (begun s (amounts i.assets)) t)
+    precondition_came : (t : Truth) → ComesOut c s (call i) (by_precondition (place_groups c n) s n f i.values (begun s (amounts i.assets)) t)
     precondition_came (Err q) = refusal q
     precondition_came (Ok false) = refusal ask.Precondition
     precondition_came (Ok true) = finished_came
 
   invoked_came : (n : ℕ) (f : Function) → choose c s i 0 c.functions ≡ chosen n f → n < length c.functions → get_or c.functions n no_function ≡ f
-      → ComesOut c s (call i) (invoked s i n f)
+      → ComesOut c s (call i) (invoked (place_groups c n) s i n f)
   unfolding invoked
   invoked_came n f k l g =
       by_cases (ComesOut c s (call i)) _ _ _
@@ -154,11 +154,11 @@ module _ (c : Contract) (s : State) (i : Invocation) (e : s.agreed ≡ true) (d 
 
   -- the first that answers among the functions from n on
   chosen_came : (n : ℕ) (fs : List Function) → drop n c.functions ≡ fs → choose c s i 0 c.functions ≡ choose c s i n fs
-      → ComesOut c s (call i) (by_chosen s i (choose c s i n fs))
+      → ComesOut c s (call i) (by_chosen c s i (choose c s i n fs))
   unfolding choose
   chosen_came n [] h k = refusal ask.FunctionKnown
   chosen_came n (f ∷ fs) h k =
-      by_cases (λ (z : Chosen). ComesOut c s (call i) (by_chosen s i z)) (answers_to c s i f) (chosen n f) (choose c s i (suc n) fs)
+      by_cases (λ (z : Chosen). ComesOut c s (call i) (by_chosen c s i z)) (answers_to c s i f) (chosen n f) (choose c s i (suc n) fs)
       (λ e. invoked_came n f (k ∙ pick_true _ _ _ e) (some_left n c.functions h) (next_is no_function n c.functions h))
       (λ e. chosen_came (suc n) fs (rest_is n c.functions h) (k ∙ pick_false _ _ _ e))
 

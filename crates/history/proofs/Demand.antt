@@ -9,6 +9,8 @@ use Rattle.state.specs.States.{fresh_at}
 use Rattle.history.specs.Histories.{Step, history, within64}
 use Rattle.history.specs.Demand.{Demand}
 use Rattle.history.proofs.Count.{counts, count}
+use Rattle.history.proofs.AmountSums.{amounts_are, values_are}
+use Rattle.history.proofs.GroupCount.{all_deposits_grouped, all_payouts_grouped, count_of_group}
 use Rattle.history.proofs.Striking.{struck_same, all_struck}
 use Rattle.history.proofs.StepsKeepGood.{last_ok}
 use Rattle.history.proofs.GoodState.{good_ok}
@@ -19,8 +21,11 @@ pub demand : (w : List ℕ) → passes w ≡ true → (clock : ℕ) (xs : List S
 demand w e clock xs f =
     record {
       count = count w clock xs;
-      deposits_are_amounts = (counts w clock xs).deposits;
-      payouts_are_amounts = (counts w clock xs).payouts;
+      count_by_group = count_of_group w e clock xs;
+      deposits_in_groups = all_deposits_grouped w e clock xs;
+      payouts_in_groups = all_payouts_grouped w e clock xs;
+      deposits_are_amounts = amounts_are (history w (fresh_at clock) xs).deposits (counts w clock xs).deposits;
+      payouts_are_amounts = values_are (history w (fresh_at clock) xs).payouts (counts w clock xs).payouts;
       in_range = λ h. last_ok w e clock h xs f;
       striking = λ ys rs t. struck_same t;
       striking_all = struck_same (all_struck w (fresh_at clock) xs);

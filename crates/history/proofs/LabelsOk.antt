@@ -72,11 +72,11 @@ module _ (k : Contract) where
   unfolding value_ok
   integer_ok z = pick_true _ _ _ refl
 
-  label_ok_lem : (kind a : ℕ) (z : ℤ) → ranges 1 kind 3 ≡ true → a < length k.parties → value_ok k kind z ≡ true → payout_ok kind z ≡ true
-      → label_ok k (record { kind = kind; party = a; value = z }) ≡ true
+  label_ok_lem : (group kind a : ℕ) (z : ℤ) → ranges 1 kind 3 ≡ true → a < length k.parties → value_ok k kind z ≡ true → payout_ok kind z ≡ true
+      → label_ok k (record { kind = kind; party = a; value = z; group = group }) ≡ true
   unfolding report_ok
-  label_ok_lem kind a z r h v q =
-      both_true (report_ok k (label_report (record { kind = kind; party = a; value = z }))) (payout_ok kind z)
+  label_ok_lem group kind a z r h v q =
+      both_true (report_ok k (label_report (record { kind = kind; party = a; value = z; group = group }))) (payout_ok kind z)
       (both_true (ranges 1 kind 3) (ltb a (length k.parties) && value_ok k kind z) r
       (both_true (ltb a (length k.parties)) (value_ok k kind z) (lt-ltb a (length k.parties) h) v))
       q
@@ -94,10 +94,10 @@ module _ {k : Contract} {w : Work} (o : Fair k w) where
   holdings_fair : (hs : List ℕ) → Fair k (with_holdings w hs)
   holdings_fair hs = record { labels_length = o.labels_length; labels = o.labels; stop = o.stop }
 
-  labelled_fair : (kind a : ℕ) (z : ℤ) → label_ok k (record { kind = kind; party = a; value = z }) ≡ true → Fair k (labelled w kind a z)
+  labelled_fair : (kind a : ℕ) (z : ℤ) (group : ℕ) → label_ok k (record { kind = kind; party = a; value = z; group = group }) ≡ true → Fair k (labelled w kind a z group)
   unfolding labelled every
-  labelled_fair kind a z h =
-      let x : Label = record { kind = kind; party = a; value = z } in
+  labelled_fair kind a z group h =
+      let x : Label = record { kind = kind; party = a; value = z; group = group } in
       by_cases (Fair k) _ _ _
       (λ l. record {
         labels_length = length-set w.labels w.count x ∙ o.labels_length;
@@ -110,8 +110,8 @@ module _ {k : Contract} {w : Work} (o : Fair k w) where
 
   sent_fair : (a : ℕ) (v : Value) → a < length k.parties → ValueIn (length k.strings) v → Fair k (sent w a v)
   unfolding ranges
-  sent_fair a (Integer z) h i = labelled_fair integer_label a z (label_ok_lem k integer_label a z refl h (integer_ok k z) (value_fits integer_label z refl))
-  sent_fair a (Text n) h i = labelled_fair string_label a (pos n) (label_ok_lem k string_label a (pos n) refl h (string_ok_lem k n i) (value_fits string_label (pos n) refl))
+  sent_fair a (Integer z) h i = labelled_fair integer_label a z 0 (label_ok_lem k _ integer_label a z refl h (integer_ok k z) (value_fits integer_label z refl))
+  sent_fair a (Text n) h i = labelled_fair string_label a (pos n) 0 (label_ok_lem k _ string_label a (pos n) refl h (string_ok_lem k n i) (value_fits string_label (pos n) refl))
 
   moved_fair : (i j n : ℕ) → j < max_holdings → Fair k (moved w i j n)
   unfolding moved ranges
@@ -132,12 +132,12 @@ module _ {k : Contract} {w : Work} (o : Fair k w) where
   amount_fair (Ok (Integer (pos n))) f s g = g n
   amount_fair (Ok (Integer (negsuc n))) f s g = stopped_fair ask.AmountSign refl
 
-paid_fair : {k : Contract} {w : Work} → Fair k w → (i a n : ℕ) → a < length k.parties → amount_at w i ≤ top → Fair k (paid w i a n)
+paid_fair : {k : Contract} {w : Work} (u : ℕ → ℕ) → Fair k w → (i a n : ℕ) → a < length k.parties → amount_at w i ≤ top → Fair k (paid u w i a n)
 unfolding paid ranges
-paid_fair {k} {w} o i a n h m =
+paid_fair {k} {w} u o i a n h m =
     by_cases (Fair k) _ _ _ (λ _. stopped_fair o ask.AmountHeld refl) λ e.
-    labelled_fair (holdings_fair o _) asset_label a (pos n)
-    (label_ok_lem k asset_label a (pos n) refl h (amount_ok k n) (amount_fits n (omega (arith, ltb-false (amount_at w i) n e))))
+    labelled_fair (holdings_fair o _) asset_label a (pos n) _
+    (label_ok_lem k _ asset_label a (pos n) refl h (amount_ok k n) (amount_fits n (omega (arith, ltb-false (amount_at w i) n e))))
 
 onward_fair : {k : Contract} {w : Work} (f : Work → Work) → Fair k w → Fair k (f w) → Fair k (onward w f)
 unfolding onward
@@ -174,44 +174,44 @@ module _ (k : Contract) (c : Scope) (q : Inside k c) (v : List ℤ) (values : (i
   holder_few : (h : Holder) → holder_in c h ≡ true → place h < max_holdings
   holder_few = place_few c q.assets_few q.parameters_few
 
-  performed_fair : {w : Work} (a : Action) → action_in c a ≡ true → Right c w → Fair k w → Fair k (performed v t w a)
+  performed_fair : {w : Work} (u : ℕ → ℕ) (a : Action) → action_in c a ≡ true → Right c w → Fair k w → Fair k (performed u v t w a)
   unfolding performed action_in expression_in
-  performed_fair {w} (assign e x) i r o =
+  performed_fair {w} u (assign e x) i r o =
       let ei = both_left (expression_in c e) (ltb x c.fields) i in
       value_fair o c.strings (value_of (memory_in v t w) e) _ (value_stops c (memory_in v t w) e ei)
       (value_in c (memory_in v t w) (memory_in_lem c q.fields_few v values t r) e ei) (λ z _. stored_fair o x z)
-  performed_fair {w} (send e a) i r o =
+  performed_fair {w} u (send e a) i r o =
       let ei = both_left (expression_in c e) (ltb a c.parties) i in
       value_fair o c.strings (value_of (memory_in v t w) e) _ (value_stops c (memory_in v t w) e ei)
       (value_in c (memory_in v t w) (memory_in_lem c q.fields_few v values t r) e ei)
       (λ z h. sent_fair o (receiver a) z (party_few a (both_right (expression_in c e) (ltb a c.parties) i)) (text_few z h))
-  performed_fair {w} (move e h j) i r o =
+  performed_fair {w} u (move e h j) i r o =
       let both = both_right (expression_in c e) (holder_in c h && holder_in c j) i in
       amount_fair o (value_of (memory_in v t w) e) _ (value_stops c (memory_in v t w) e (both_left (expression_in c e) (holder_in c h && holder_in c j) i))
       (λ n. moved_fair o (place h) (place j) n (holder_few j (both_right (holder_in c h) (holder_in c j) both)))
-  performed_fair {w} (pay e h a) i r o =
+  performed_fair {w} u (pay e h a) i r o =
       let both = both_right (expression_in c e) (holder_in c h && ltb a c.parties) i in
       amount_fair o (value_of (memory_in v t w) e) _ (value_stops c (memory_in v t w) e (both_left (expression_in c e) (holder_in c h && ltb a c.parties) i))
-      (λ n. paid_fair o (place h) (receiver a) n (party_few a (both_right (holder_in c h) (ltb a c.parties) both)) (r.amounts.most (place h)))
-  performed_fair {w} (move_all h j) i r o =
+      (λ n. paid_fair u o (place h) (receiver a) n (party_few a (both_right (holder_in c h) (ltb a c.parties) both)) (r.amounts.most (place h)))
+  performed_fair {w} u (move_all h j) i r o =
       amount_fair o (value_of (memory_in v t w) (held h)) _ (value_stops c (memory_in v t w) (held h) (both_left (holder_in c h) (holder_in c j) i))
       (λ n. moved_fair o (place h) (place j) n (holder_few j (both_right (holder_in c h) (holder_in c j) i)))
-  performed_fair {w} (pay_all h a) i r o =
+  performed_fair {w} u (pay_all h a) i r o =
       amount_fair o (value_of (memory_in v t w) (held h)) _ (value_stops c (memory_in v t w) (held h) (both_left (holder_in c h) (ltb a c.parties) i))
-      (λ n. paid_fair o (place h) (receiver a) n (party_few a (both_right (holder_in c h) (ltb a c.parties) i)) (r.amounts.most (place h)))
+      (λ n. paid_fair u o (place h) (receiver a) n (party_few a (both_right (holder_in c h) (ltb a c.parties) i)) (r.amounts.most (place h)))
 
-  pub ran_fair : {w : Work} (b : Block) → block_in c b ≡ true → Right c w → Fair k w → Fair k (ran v t w b)
+  pub ran_fair : {w : Work} (x : ℕ → ℕ) (b : Block) → block_in c b ≡ true → Right c w → Fair k w → Fair k (ran x v t w b)
   unfolding ran block_in
-  ran_fair none i r o = o
-  ran_fair {w} (perform b a) i r o =
+  ran_fair x none i r o = o
+  ran_fair {w} x (perform b a) i r o =
       let bi = both_left (block_in c b) (action_in c a) i in
-      let g = ran_fair b bi r o in
-      onward_fair _ g (performed_fair a (both_right (block_in c b) (action_in c a) i) (ran_right c q.fields_few v values t b bi r) g)
-  ran_fair {w} (conditional b u s) i r o =
+      let g = ran_fair x b bi r o in
+      onward_fair _ g (performed_fair x a (both_right (block_in c b) (action_in c a) i) (ran_right c q.fields_few v values t x b bi r) g)
+  ran_fair {w} x (conditional b u s) i r o =
       let bi = both_left (block_in c b) (condition_in c u && block_in c s) i in
       let us = both_right (block_in c b) (condition_in c u && block_in c s) i in
-      let g = ran_fair b bi r o in
+      let g = ran_fair x b bi r o in
       onward_fair _ g
-      (truth_fair (truth_of (memory_in v t (ran v t w b)) u) (truth_stops c (memory_in v t (ran v t w b)) u (both_left (condition_in c u) (block_in c s) us)) g
-      (ran_fair {w = ran v t w b} s (both_right (condition_in c u) (block_in c s) us) (ran_right c q.fields_few v values t b bi r) g))
-  ran_fair broken_block i r o = true_false (sym i)
+      (truth_fair (truth_of (memory_in v t (ran x v t w b)) u) (truth_stops c (memory_in v t (ran x v t w b)) u (both_left (condition_in c u) (block_in c s) us)) g
+      (ran_fair {w = ran x v t w b} x s (both_right (condition_in c u) (block_in c s) us) (ran_right c q.fields_few v values t x b bi r) g))
+  ran_fair x broken_block i r o = true_false (sym i)

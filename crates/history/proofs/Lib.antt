@@ -5,7 +5,9 @@ pub mod AmountSums
 pub mod StatementsConserve
 pub mod Parameters
 pub mod ContractBounds
+pub mod Grouping
 pub mod Count
+pub mod GroupCount
 pub mod ValuesInRange
 pub mod Ranges
 pub mod GoodState

@@ -33,13 +33,13 @@ stored_same : {hs : List ℕ} {w : Work} (x : ℕ) (v : Value) → Parameters hs
 stored_same x (Integer z) o = record { amounts = o.amounts }
 stored_same x (Text n) o = record { amounts = o.amounts }
 
-labelled_same : {hs : List ℕ} {w : Work} (kind party : ℕ) (value : ℤ) → Parameters hs w → Parameters hs (labelled w kind party value)
+labelled_same : {hs : List ℕ} {w : Work} (kind party : ℕ) (value : ℤ) (group : ℕ) → Parameters hs w → Parameters hs (labelled w kind party value group)
 unfolding labelled
-labelled_same {hs} kind party value o = by_cases (Parameters hs) _ _ _ (λ _. record { amounts = o.amounts }) (λ _. o)
+labelled_same {hs} kind party value group o = by_cases (Parameters hs) _ _ _ (λ _. record { amounts = o.amounts }) (λ _. o)
 
 sent_same : {hs : List ℕ} {w : Work} (a : ℕ) (v : Value) → Parameters hs w → Parameters hs (sent w a v)
-sent_same a (Integer z) o = labelled_same integer_label a z o
-sent_same a (Text n) o = labelled_same string_label a (pos n) o
+sent_same a (Integer z) o = labelled_same integer_label a z 0 o
+sent_same a (Text n) o = labelled_same string_label a (pos n) 0 o
 
 module _ {hs : List ℕ} {w : Work} (o : Parameters hs w) where
   moved_same : (i j n : ℕ) → i < max_assets → j < max_assets → Parameters hs (moved w i j n)
@@ -52,11 +52,11 @@ module _ {hs : List ℕ} {w : Work} (o : Parameters hs w) where
       let a = amount_at w i - n in
       record { amounts = drop-set-lt max_assets (set w.holdings i a) j (amount_at w j + n) k ∙ drop-set-lt max_assets w.holdings i a h ∙ o.amounts }
 
-  paid_same : (i a n : ℕ) → i < max_assets → Parameters hs (paid w i a n)
+  paid_same : (u : ℕ → ℕ) (i a n : ℕ) → i < max_assets → Parameters hs (paid u w i a n)
   unfolding paid
-  paid_same i a n h =
+  paid_same u i a n h =
       by_cases (Parameters hs) _ _ _ (λ _. stopped_same ask.AmountHeld o) λ _.
-      labelled_same asset_label a (pos n) (record { amounts = drop-set-lt max_assets w.holdings i (amount_at w i - n) h ∙ o.amounts })
+      labelled_same asset_label a (pos n) _ (record { amounts = drop-set-lt max_assets w.holdings i (amount_at w i - n) h ∙ o.amounts })
 
   amount_same : (x : Answer) (f : ℕ → Work) → ((n : ℕ) → Parameters hs (f n)) → Parameters hs (with_amount w x f)
   amount_same (Err n) f g = stopped_same n o
@@ -83,31 +83,31 @@ module _ (c : Scope) (few : c.assets ≤ max_assets) (nothing : c.parameters ≡
   place_in (asset i) e = omega (arith, ltb-true i c.assets e)
   place_in (asset_parameter i) e = absurd (omega (arith, ltb-true i c.parameters e))
 
-  performed_same : {hs : List ℕ} {w : Work} (v : List ℤ) (t : ℕ) (a : Action) → action_in c a ≡ true → Parameters hs w → Parameters hs (performed v t w a)
+  performed_same : {hs : List ℕ} {w : Work} (g : ℕ → ℕ) (v : List ℤ) (t : ℕ) (a : Action) → action_in c a ≡ true → Parameters hs w → Parameters hs (performed g v t w a)
   unfolding performed action_in
-  performed_same {w = w} v t (assign e x) i o = value_same o (value_of (memory_in v t w) e) _ (λ z. stored_same x z o)
-  performed_same {w = w} v t (send e a) i o = value_same o (value_of (memory_in v t w) e) _ (λ z. sent_same (receiver a) z o)
-  performed_same {w = w} v t (move e h k) i o =
+  performed_same {w = w} g v t (assign e x) i o = value_same o (value_of (memory_in v t w) e) _ (λ z. stored_same x z o)
+  performed_same {w = w} g v t (send e a) i o = value_same o (value_of (memory_in v t w) e) _ (λ z. sent_same (receiver a) z o)
+  performed_same {w = w} g v t (move e h k) i o =
       let both = both_right (expression_in c e) (holder_in c h && holder_in c k) i in
       amount_same o (value_of (memory_in v t w) e) _
       (λ n. moved_same o (place h) (place k) n (place_in h (both_left (holder_in c h) (holder_in c k) both)) (place_in k (both_right (holder_in c h) (holder_in c k) both)))
-  performed_same {w = w} v t (pay e h a) i o =
+  performed_same {w = w} g v t (pay e h a) i o =
       amount_same o (value_of (memory_in v t w) e) _
-      (λ n. paid_same o (place h) (receiver a) n (place_in h (both_left (holder_in c h) _ (both_right (expression_in c e) _ i))))
-  performed_same {w = w} v t (move_all h k) i o =
+      (λ n. paid_same o g (place h) (receiver a) n (place_in h (both_left (holder_in c h) _ (both_right (expression_in c e) _ i))))
+  performed_same {w = w} g v t (move_all h k) i o =
       amount_same o (value_of (memory_in v t w) (held h)) _
       (λ n. moved_same o (place h) (place k) n (place_in h (both_left (holder_in c h) (holder_in c k) i)) (place_in k (both_right (holder_in c h) (holder_in c k) i)))
-  performed_same {w = w} v t (pay_all h a) i o =
-      amount_same o (value_of (memory_in v t w) (held h)) _ (λ n. paid_same o (place h) (receiver a) n (place_in h (both_left (holder_in c h) _ i)))
+  performed_same {w = w} g v t (pay_all h a) i o =
+      amount_same o (value_of (memory_in v t w) (held h)) _ (λ n. paid_same o g (place h) (receiver a) n (place_in h (both_left (holder_in c h) _ i)))
 
-  pub ran_same : {hs : List ℕ} {w : Work} (v : List ℤ) (t : ℕ) (b : Block) → block_in c b ≡ true → Parameters hs w → Parameters hs (ran v t w b)
+  pub ran_same : {hs : List ℕ} {w : Work} (g : ℕ → ℕ) (v : List ℤ) (t : ℕ) (b : Block) → block_in c b ≡ true → Parameters hs w → Parameters hs (ran g v t w b)
   unfolding ran block_in
-  ran_same v t none i o = o
-  ran_same v t (perform b a) i o =
-      onward_same _ (ran_same v t b (both_left (block_in c b) (action_in c a) i) o)
-      (λ g. performed_same v t a (both_right (block_in c b) (action_in c a) i) g)
-  ran_same {w = w} v t (conditional b u s) i o =
-      onward_same _ (ran_same v t b (both_left (block_in c b) (condition_in c u && block_in c s) i) o)
-      (λ g. truth_same (truth_of (memory_in v t (ran v t w b)) u) g
-      (ran_same {w = ran v t w b} v t s (both_right (condition_in c u) (block_in c s) (both_right (block_in c b) (condition_in c u && block_in c s) i)) g))
-  ran_same v t broken_block i o = stopped_same ask.TableCheck o
+  ran_same g v t none i o = o
+  ran_same g v t (perform b a) i o =
+      onward_same _ (ran_same g v t b (both_left (block_in c b) (action_in c a) i) o)
+      (λ k. performed_same g v t a (both_right (block_in c b) (action_in c a) i) k)
+  ran_same {w = w} g v t (conditional b u s) i o =
+      onward_same _ (ran_same g v t b (both_left (block_in c b) (condition_in c u && block_in c s) i) o)
+      (λ k. truth_same (truth_of (memory_in v t (ran g v t w b)) u) k
+      (ran_same {w = ran g v t w b} g v t s (both_right (condition_in c u) (block_in c s) (both_right (block_in c b) (condition_in c u && block_in c s) i)) k))
+  ran_same g v t broken_block i o = stopped_same ask.TableCheck o

@@ -62,13 +62,13 @@ module _ {c : Scope} {w : Work} (o : Right c w) where
   stopped_right : (n : Question) → Right c (stopped w n)
   stopped_right n = record { fields = o.fields; amounts = o.amounts }
 
-  labelled_right : (kind party : ℕ) (value : ℤ) → Right c (labelled w kind party value)
+  labelled_right : (kind party : ℕ) (value : ℤ) (group : ℕ) → Right c (labelled w kind party value group)
   unfolding labelled
-  labelled_right kind party value = by_cases (Right c) _ _ _ (λ _. record { fields = o.fields; amounts = o.amounts }) (λ _. o)
+  labelled_right kind party value group = by_cases (Right c) _ _ _ (λ _. record { fields = o.fields; amounts = o.amounts }) (λ _. o)
 
   sent_right : (a : ℕ) (v : Value) → Right c (sent w a v)
-  sent_right a (Integer z) = labelled_right integer_label a z
-  sent_right a (Text n) = labelled_right string_label a (pos n)
+  sent_right a (Integer z) = labelled_right integer_label a z 0
+  sent_right a (Text n) = labelled_right string_label a (pos n) 0
 
   stored_right : c.fields ≤ max_fields → (x : ℕ) (v : Value) → x < c.fields → ValueIn c.strings v → Right c (stored w x v)
   unfolding field_ok pick
@@ -101,11 +101,11 @@ module _ {c : Scope} {w : Work} (o : Right c w) where
   amount_right (Ok (Integer (pos n))) f g = g n
   amount_right (Ok (Integer (negsuc n))) f g = stopped_right ask.AmountSign
 
-paid_right : {c : Scope} {w : Work} (o : Right c w) (i : ℕ) → Held c.assets i → (a n : ℕ) → Right c (paid w i a n)
+paid_right : {c : Scope} {w : Work} (u : ℕ → ℕ) (o : Right c w) (i : ℕ) → Held c.assets i → (a n : ℕ) → Right c (paid u w i a n)
 unfolding paid
-paid_right {c} o i from a n =
+paid_right {c} u o i from a n =
     by_cases (Right c) _ _ _ (λ _. stopped_right o ask.AmountHeld) λ _.
-    labelled_right (holdings_right o _ (less o i from n)) asset_label a (pos n)
+    labelled_right (holdings_right o _ (less o i from n)) asset_label a (pos n) _
 
 onward_right : {c : Scope} {w : Work} (f : Work → Work) → Right c w → (Right c w → Right c (f w)) → Right c (onward w f)
 unfolding onward
@@ -128,34 +128,34 @@ module _ (c : Scope) (few : c.fields ≤ max_fields) (v : List ℤ) (values : (i
   pub memory_in_lem : {w : Work} → Right c w → MemoryIn c (memory_in v t w)
   memory_in_lem o = record { fields = o.fields; fields_few = few; values = values }
 
-  performed_right : {w : Work} (a : Action) → action_in c a ≡ true → Right c w → Right c (performed v t w a)
+  performed_right : {w : Work} (u : ℕ → ℕ) (a : Action) → action_in c a ≡ true → Right c w → Right c (performed u v t w a)
   unfolding performed action_in
-  performed_right {w} (assign e x) i o =
+  performed_right {w} u (assign e x) i o =
       value_right o (value_of (memory_in v t w) e) _ (value_in c (memory_in v t w) (memory_in_lem o) e (both_left (expression_in c e) (ltb x c.fields) i))
       (λ z h. stored_right o few x z (ltb-true x c.fields (both_right (expression_in c e) (ltb x c.fields) i)) h)
-  performed_right {w} (send e a) i o =
+  performed_right {w} u (send e a) i o =
       value_right o (value_of (memory_in v t w) e) _ (value_in c (memory_in v t w) (memory_in_lem o) e (both_left (expression_in c e) (ltb a c.parties) i))
       (λ z _. sent_right o (receiver a) z)
-  performed_right {w} (move e h k) i o =
+  performed_right {w} u (move e h k) i o =
       let both = both_right (expression_in c e) (holder_in c h && holder_in c k) i in
       amount_right o (value_of (memory_in v t w) e) _
       (moved_right o (place h) (place_held c h (both_left (holder_in c h) (holder_in c k) both)) (place k) (place_held c k (both_right (holder_in c h) (holder_in c k) both)))
-  performed_right {w} (pay e h a) i o =
+  performed_right {w} u (pay e h a) i o =
       amount_right o (value_of (memory_in v t w) e) _
-      (paid_right o (place h) (place_held c h (both_left (holder_in c h) (ltb a c.parties) (both_right (expression_in c e) (holder_in c h && ltb a c.parties) i))) (receiver a))
-  performed_right {w} (move_all h k) i o =
+      (paid_right u o (place h) (place_held c h (both_left (holder_in c h) (ltb a c.parties) (both_right (expression_in c e) (holder_in c h && ltb a c.parties) i))) (receiver a))
+  performed_right {w} u (move_all h k) i o =
       amount_right o (value_of (memory_in v t w) (held h)) _
       (moved_right o (place h) (place_held c h (both_left (holder_in c h) (holder_in c k) i)) (place k) (place_held c k (both_right (holder_in c h) (holder_in c k) i)))
-  performed_right {w} (pay_all h a) i o =
-      amount_right o (value_of (memory_in v t w) (held h)) _ (paid_right o (place h) (place_held c h (both_left (holder_in c h) (ltb a c.parties) i)) (receiver a))
+  performed_right {w} u (pay_all h a) i o =
+      amount_right o (value_of (memory_in v t w) (held h)) _ (paid_right u o (place h) (place_held c h (both_left (holder_in c h) (ltb a c.parties) i)) (receiver a))
 
-  pub ran_right : {w : Work} (b : Block) → block_in c b ≡ true → Right c w → Right c (ran v t w b)
+  pub ran_right : {w : Work} (g : ℕ → ℕ) (b : Block) → block_in c b ≡ true → Right c w → Right c (ran g v t w b)
   unfolding ran block_in
-  ran_right none i o = o
-  ran_right (perform b a) i o =
-      onward_right _ (ran_right b (both_left (block_in c b) (action_in c a) i) o) (performed_right a (both_right (block_in c b) (action_in c a) i))
-  ran_right {w} (conditional b u s) i o =
-      onward_right _ (ran_right b (both_left (block_in c b) (condition_in c u && block_in c s) i) o)
-      (λ g. truth_right (truth_of (memory_in v t (ran v t w b)) u) g
-      (ran_right {w = ran v t w b} s (both_right (condition_in c u) (block_in c s) (both_right (block_in c b) (condition_in c u && block_in c s) i)) g))
-  ran_right broken_block i o = stopped_right o ask.TableCheck
+  ran_right g none i o = o
+  ran_right g (perform b a) i o =
+      onward_right _ (ran_right g b (both_left (block_in c b) (action_in c a) i) o) (performed_right g a (both_right (block_in c b) (action_in c a) i))
+  ran_right {w} g (conditional b u s) i o =
+      onward_right _ (ran_right g b (both_left (block_in c b) (condition_in c u && block_in c s) i) o)
+      (λ k. truth_right (truth_of (memory_in v t (ran g v t w b)) u) k
+      (ran_right {w = ran g v t w b} g s (both_right (condition_in c u) (block_in c s) (both_right (block_in c b) (condition_in c u && block_in c s) i)) k))
+  ran_right g broken_block i o = stopped_right o ask.TableCheck

@@ -37,7 +37,7 @@ use Rattle.outcomes.specs.declared.Outcome.TheVariants.{Accepted, Failed}
 use Rattle.outcomes.specs.declared.Stepped.{Stepped}
 use Rattle.outcomes.specs.Outcomes.{no_label, answered, refused}
 use Rattle.holdings.specs.Holdings.{amounts}
-use Rattle.machine.specs.Steps.{accepted, begun, Invocation, Chosen, chosen, answers_to, choose, precondition_holds, Scheduled, times, no, scheduled, schedule, with_scheduled, finished, by_precondition, invoked, by_chosen, call_by_due, called, handled, fire_by_due, fired, tick_by_due, ticked, jump_by_due, jumped, step, Request, agreement, call, firing, tick, jump, requested}
+use Rattle.machine.specs.Steps.{place_groups, accepted, begun, Invocation, Chosen, chosen, answers_to, choose, precondition_holds, Scheduled, times, no, scheduled, schedule, with_scheduled, finished, by_precondition, invoked, by_chosen, call_by_due, called, handled, fire_by_due, fired, tick_by_due, ticked, jump_by_due, jumped, step, Request, agreement, call, firing, tick, jump, requested}
 use Rattle.agreements.specs.Agreement.{Part, agreed_on}
 use Rattle.step_reports.specs.Reports.{rule_number, report_of, label_report, label_reports, told}
 use Rattle.history.specs.Histories.{Step, answer_to, within64}
@@ -188,7 +188,7 @@ module _ (c : Contract) (e : fits c ≡ true) where
     handler_fair a k =
         let p = get_or (live s) k blank in
         let b : BoundedEvent c (event_at c s k) = ((bounded c e).functions p.function).events p.event in
-        ran_fair c (scope_of c 0 0) (inside 0 0 (omega arith)) [] (λ _. refl) s.clock (event_at c s k).handler b.handler_in
+        ran_fair c (scope_of c 0 0) (inside 0 0 (omega arith)) [] (λ _. refl) s.clock _ (event_at c s k).handler b.handler_in
         (begun_right g a 0 0 [] (λ _. omega arith)) (begun_fair c s [])
 
     firing_fine : Once c (fired c s)
@@ -218,18 +218,18 @@ module _ (c : Contract) (e : fits c ≡ true) where
             (λ _ _. refused_fine c s ask.ParametersEmpty refl))
             (λ p e _. refused_fine c s p (stops_refusal p (o.stop p e)))
 
-        body_fair : every (le_z (pos 0)) i.assets ≡ true → Fair c (body_ran s i f)
+        body_fair : every (le_z (pos 0)) i.assets ≡ true → Fair c (body_ran c s i n f)
         body_fair p =
-            ran_fair c (scope_in c f) (inside (length f.values) (length f.parameters) q.parameters_few) i.values (values_in i.values v) s.clock f.body q.body
+            ran_fair c (scope_in c f) (inside (length f.values) (length f.parameters) q.parameters_few) i.values (values_in i.values v) s.clock _ f.body q.body
             (begun_right g a (length f.values) (length f.parameters) (amounts i.assets) (amounts_most i.assets d p)) (begun_fair c s (amounts i.assets))
 
-        precondition_fine : every (le_z (pos 0)) i.assets ≡ true → (u : Truth) → TruthStops u → Once c (by_precondition s n f i.values (begun s (amounts i.assets)) u)
+        precondition_fine : every (le_z (pos 0)) i.assets ≡ true → (u : Truth) → TruthStops u → Once c (by_precondition (place_groups c n) s n f i.values (begun s (amounts i.assets)) u)
         unfolding refusal ranges
         precondition_fine p (Err m) h = λ _. refused_fine c s m (stops_refusal m h)
         precondition_fine p (Ok false) h = λ _. refused_fine c s ask.Precondition refl
-        precondition_fine p (Ok true) h = finished_fine (body_ran s i f) (body_fair p)
+        precondition_fine p (Ok true) h = finished_fine (body_ran c s i n f) (body_fair p)
 
-        invoked_fine : Once c (invoked s i n f)
+        invoked_fine : Once c (invoked (place_groups c n) s i n f)
         unfolding invoked refusal ranges
         invoked_fine =
             let m = memory_in i.values s.clock (begun s (amounts i.assets)) in
@@ -239,11 +239,11 @@ module _ (c : Contract) (e : fits c ≡ true) where
             (λ _ _. refused_fine c s ask.AssetArguments refl))
             (λ _ _. refused_fine c s ask.ArgumentCount refl)
 
-      chosen_fine : (n : ℕ) (fs : List Function) → every (function_in c) fs ≡ true → Once c (by_chosen s i (choose c s i n fs))
+      chosen_fine : (n : ℕ) (fs : List Function) → every (function_in c) fs ≡ true → Once c (by_chosen c s i (choose c s i n fs))
       unfolding choose refusal ranges
       chosen_fine n [] h = λ _. refused_fine c s ask.FunctionKnown refl
       chosen_fine n (f ∷ fs) h =
-          by_cases (λ (z : Chosen). Once c (by_chosen s i z)) (answers_to c s i f) (chosen n f) (choose c s i (suc n) fs)
+          by_cases (λ (z : Chosen). Once c (by_chosen c s i z)) (answers_to c s i f) (chosen n f) (choose c s i (suc n) fs)
           (λ _. invoked_fine n f (fits_function c f (every_head (function_in c) f fs h)))
           (λ _. chosen_fine (suc n) fs (every_tail (function_in c) f fs h))
 

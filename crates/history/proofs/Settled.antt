@@ -63,11 +63,11 @@ labels_settled r clock (l ∷ ls) rs = go (eqb l.kind 3) refl (labels_settled r 
   where
     go : (t : Bool) → eqb l.kind 3 ≡ t
         → payouts (rule_number r) clock (label_reports ls ++ rs) ≡ map (entry_by r clock) (payouts_in ls) ++ payouts (rule_number r) clock rs
-        → pick t (record { kind = 3; party = l.party; rule = rule_number r; clock = clock; value = l.value } ∷ payouts (rule_number r) clock (label_reports ls ++ rs)) (payouts (rule_number r) clock (label_reports ls ++ rs))
+        → pick t (record { kind = 3; party = l.party; rule = rule_number r; clock = clock; value = l.value; group = l.group } ∷ payouts (rule_number r) clock (label_reports ls ++ rs)) (payouts (rule_number r) clock (label_reports ls ++ rs))
         ≡ map (entry_by r clock) (pick t (l ∷ payouts_in ls) (payouts_in ls)) ++ payouts (rule_number r) clock rs
     go true e h =
         let k : l.kind ≡ 3 = eqb-true l.kind 3 e in
-        λ i. record { kind = sym k i; party = l.party; rule = rule_number r; clock = clock; value = l.value } ∷ h i
+        λ i. record { kind = sym k i; party = l.party; rule = rule_number r; clock = clock; value = l.value; group = l.group } ∷ h i
     go false e h = h
 
 -- a step's result lines, whatever rule and clock came before them; what follows them gives es
@@ -160,7 +160,7 @@ module _ (c : Contract) where
   unfolding payouts_in every
   came_payable (refusal n) f h = refl
   came_payable (agrees ps a) f h = refl
-  came_payable {s} (calls i n g ps o) f h = labels_payable Call refl _ h (take (body_ran s i g).count (body_ran s i g).labels) f.labels
+  came_payable {s} (calls i n g ps o) f h = labels_payable Call refl _ h (take (body_ran c s i n g).count (body_ran c s i n g).labels) f.labels
   came_payable {s} (fires k a d e) f h = labels_payable EventMatch refl _ h (take (handler_ran c s k).count (handler_ran c s k).labels) f.labels
   came_payable (fails k n a d e) f h = refl
   came_payable (ticks a d l) f h = refl

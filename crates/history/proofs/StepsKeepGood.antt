@@ -98,20 +98,20 @@ module _ (c : Contract) (t : FitsContract c) where
       others_few k = omega (arith, without_length k (live s), live_length g, g.events.few)
 
       call_good : (i : Invocation) (n : ℕ) (f : Function) (ps : List Pending) → CallOk c s i n f ps → every within i.values ≡ true → every within i.assets ≡ true
-          → Good c (ended s (body_ran s i f) f.last (live s ++ ps))
+          → Good c (ended s (body_ran c s i n f) f.last (live s ++ ps))
       unfolding scope_of
       call_good i n f ps o v d =
           let q : FitsFunction c f =
           subst (FitsFunction c) o.function_is (fits_function c (get_or c.functions n no_function) (every_at (function_in c) c.functions t.functions n o.known no_function)) in
           let b = scope_in c f in
-          let r : Right b (body_ran s i f) =
-          ran_right b t.fields_few i.values (values_in i.values v) s.clock f.body q.body
+          let r : Right b (body_ran c s i n f) =
+          ran_right b t.fields_few i.values (values_in i.values v) s.clock _ f.body q.body
           (begun_right g a (length f.values) (length f.parameters) (amounts i.assets) (amounts_most i.assets d o.deposits)) in
           let es : Each (λ p. pending_ok c s.clock p ≡ true) ps =
           subst (ScheduledIn c s.clock) o.given
-          (schedule_in c f n s.clock (memory_in i.values s.clock (body_ran s i f)) (memory_in_lem b t.fields_few i.values (values_in i.values v) s.clock r) o.known
+          (schedule_in c f n s.clock (memory_in i.values s.clock (body_ran c s i n f)) (memory_in_lem b t.fields_few i.values (values_in i.values v) s.clock r) o.known
           0 f.events (zero-add (length f.events) ∙ ap (λ (h : Function). length h.events) (sym o.function_is)) q.events) in
-          ended_good g a (length f.values) (length f.parameters) (body_ran s i f) r t.assets_few f.last q.last (live s ++ ps)
+          ended_good g a (length f.values) (length f.parameters) (body_ran c s i n f) r t.assets_few f.last q.last (live s ++ ps)
           (omega (arith, length-append (live s) ps, o.room)) (each_append (live_ok c s (good_within g)) es)
 
       firing_good : (k : ℕ) → Good c (ended s (handler_ran c s k) (event_at c s k).last (live (removed s k)))
@@ -120,7 +120,7 @@ module _ (c : Contract) (t : FitsContract c) where
           let e : EventRight c (event_at c s k) = event_right (get_or (live s) k blank) in
           subst (λ ps. Good c (ended s (handler_ran c s k) (event_at c s k).last ps)) (sym (live_removed s k))
           (ended_good g a 0 0 (handler_ran c s k)
-          (ran_right (scope_of c 0 0) t.fields_few [] (λ _. refl) s.clock (event_at c s k).handler e.handler (begun_right g a 0 0 [] (λ _. omega arith)))
+          (ran_right (scope_of c 0 0) t.fields_few [] (λ _. refl) s.clock _ (event_at c s k).handler e.handler (begun_right g a 0 0 [] (λ _. omega arith)))
           t.assets_few (event_at c s k).last e.last (without k (live s)) (others_few k) (others_in k))
 
       removed_good : (k : ℕ) → Good c (removed s k)

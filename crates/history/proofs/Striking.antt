@@ -7,6 +7,8 @@ use Prim.Native.Nat.{ℕ}
 use Rattle.laws.specs.Choice.{pick}
 use Rattle.laws.proofs.Choice.{true_false}
 use Rattle.laws.specs.Lists.{keep}
+use Rattle.contract.specs.Tree.{Contract}
+use Rattle.contract.specs.Decode.{contract_of}
 use Rattle.state.specs.declared.State.{State}
 use Rattle.outcomes.specs.declared.Outcome.{Outcome}
 use Rattle.outcomes.specs.declared.Outcome.TheVariants.{Accepted, Failed, Refused}
@@ -20,14 +22,14 @@ use Rattle.history.proofs.Untouched.{step_idle}
 refused_same : (w : List ℕ) (s : State) (a : Step) → is_refused (answer_to w s a).outcome ≡ true → (answer_to w s a).state ≡ s
 refused_same w s a = (step_idle w s a).state_same
 
-no_deposit : (q : Request) (o : Outcome) → is_refused o ≡ true → deposit q o ≡ []
-no_deposit (call i) (Accepted r) e = true_false (sym e)
-no_deposit (call i) (Failed n) e = refl
-no_deposit (call i) (Refused n) e = refl
-no_deposit (agreement ps) o e = refl
-no_deposit firing o e = refl
-no_deposit tick o e = refl
-no_deposit (jump T) o e = refl
+no_deposit : (c : Contract) (s : State) (q : Request) (o : Outcome) → is_refused o ≡ true → deposit c s q o ≡ []
+no_deposit c s (call i) (Accepted r) e = true_false (sym e)
+no_deposit c s (call i) (Failed n) e = refl
+no_deposit c s (call i) (Refused n) e = refl
+no_deposit c s (agreement ps) o e = refl
+no_deposit c s firing o e = refl
+no_deposit c s tick o e = refl
+no_deposit c s (jump T) o e = refl
 
 no_payout : (r : Returned) (o : Outcome) → is_refused o ≡ true → payouts_of r o ≡ []
 no_payout r (Accepted q) e = true_false (sym e)
@@ -43,7 +45,7 @@ stays_same {w} {s} {a} t =
     record {
       state = t.state;
       answer = ap (λ rs. returned w s a ∷ rs) t.answer;
-      deposit = ap (λ zs. deposit a.request (answer_to w s a).outcome ++ zs) t.deposit;
+      deposit = ap (λ ds. deposit (contract_of w) s a.request (answer_to w s a).outcome ++ ds) t.deposit;
       payout = ap (λ ls. payouts_of (returned w s a) (answer_to w s a).outcome ++ ls) t.payout;
     }
 
@@ -58,7 +60,7 @@ strikes_same {w} {s} {a} {xs} {ys} e t =
       answer = ap (λ (h : History). h.answers) back ∙ t.answer;
       deposit =
           ap (λ (h : History). h.deposits) back ∙ t.deposit
-          ∙ ap (λ zs. zs ++ (history w (answer_to w s a).state xs).deposits) (sym (no_deposit a.request (answer_to w s a).outcome e));
+          ∙ ap (λ ds. ds ++ (history w (answer_to w s a).state xs).deposits) (sym (no_deposit (contract_of w) s a.request (answer_to w s a).outcome e));
       payout =
           ap (λ (h : History). h.payouts) back ∙ t.payout
           ∙ ap (λ ls. ls ++ (history w (answer_to w s a).state xs).payouts) (sym (no_payout (returned w s a) (answer_to w s a).outcome e));

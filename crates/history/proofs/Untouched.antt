@@ -26,7 +26,7 @@ use Rattle.outcomes.specs.declared.Outcome.TheVariants.{Refused}
 use Rattle.outcomes.specs.declared.Stepped.{Stepped}
 use Rattle.machine.specs.Steps.{Request, step}
 use Rattle.step_reports.specs.Reports.{max_told}
-use Rattle.machine.specs.Sessions.{Session, session, played, reports_of}
+use Rattle.machine.specs.Sessions.{session, played, reports_of}
 use Rattle.steps.specs.Left.{copied_of}
 use Rattle.history.specs.Histories.{Step, answer_to, returned, is_refused}
 use Rattle.history.specs.Untouched.{by_rule, Untouched}

@@ -194,7 +194,7 @@ after_step r = comes r.outcome r.state.pending
 
 abbrev pub result : Case → Result
 result (works_out e) = gives (value_of (memory_of [] [] [] [] [] 0) e)
-result (moves a b m) = after_move (performed [] 0 (begun (agreed_at 0 0 a b) []) m)
+result (moves a b m) = after_move (performed (λ i. 0) [] 0 (begun (agreed_at 0 0 a b) []) m)
 result (steps c s q) = after_step (answer_to (encode c) s (record { request = q; slice = no_labels }))
 
 unfoldable pub results : List Case → List Result

@@ -5,6 +5,7 @@ use Rattle.contract.specs.Limits.{top}
 use Rattle.laws.specs.Lists.{every}
 use Rattle.numbers.specs.Numbers.{within}
 use Rattle.contract.specs.Decode.{contract_of}
+use Rattle.groups.specs.Chains.{is_group}
 use Rattle.state.specs.declared.State.{State}
 use Rattle.state.specs.States.{fresh_at, state_ok, due_in}
 use Rattle.statements.specs.declared.Label.{Label}
@@ -13,7 +14,7 @@ use Rattle.outcomes.specs.declared.Outcome.TheVariants.{Accepted}
 use Rattle.outcomes.specs.declared.Stepped.{Stepped}
 use Rattle.outcomes.specs.Outcomes.{answered}
 use Rattle.machine.specs.Steps.{tick, jump, room_needed}
-use Rattle.history.specs.Histories.{Step, Returned, answer_to, History, history, total, values_of, holdings, Struck, unrefused, stayed, firings, ticks, AllTicks, steps_towards, none_refused}
+use Rattle.history.specs.Histories.{Step, Returned, answer_to, History, history, total, amounts_of, values_of, holdings, group_deposits, group_payouts, group_holdings, Struck, unrefused, stayed, firings, ticks, AllTicks, steps_towards, none_refused}
 
 -- after the steps that stay: the same state, deposits and payouts in order, and these answers to them
 pub record Same (w : List ℕ) (s : State) (xs ys : List Step) (rs : List Returned) : Type 0 where
@@ -86,9 +87,15 @@ pub record Reaches (w : List ℕ) (T : ℤ) (s : State) : Type 0 where
 -- what holds of h, which a list of steps from the fresh state at a clock comes to
 pub record Holds (w : List ℕ) (clock : ℕ) (xs : List Step) (h : History) : Type 0 where
   -- deposits of accepted calls are the holdings and the asset payouts; a holding is a natural number, so none is below 0
-  pub count : total h.deposits ≡ pos (holdings h.state) +ℤ total (values_of h.payouts)
+  pub count : total (amounts_of h.deposits) ≡ pos (holdings h.state) +ℤ total (values_of h.payouts)
+  -- and for each group by itself (document 02, F-7)
+  pub count_by_group : (g : ℕ)
+      → total (amounts_of (group_deposits g h.deposits)) ≡ pos (group_holdings (contract_of w) g h.state) +ℤ total (values_of (group_payouts g h.payouts))
+  -- each deposit is of a group, and each payout: none is missing from these counts
+  pub deposits_in_groups : every (λ d. is_group (contract_of w) d.group) h.deposits ≡ true
+  pub payouts_in_groups : every (λ l. is_group (contract_of w) l.group) h.payouts ≡ true
   -- no deposit is below 0, and no payout
-  pub deposits_are_amounts : every (le_z (pos 0)) h.deposits ≡ true
+  pub deposits_are_amounts : every (le_z (pos 0)) (amounts_of h.deposits) ≡ true
   pub payouts_are_amounts : every (le_z (pos 0)) (values_of h.payouts) ≡ true
   -- the last state is within question 4, so that only assets of the contract hold anything, each at most top
   pub in_range : clock ≤ top → state_ok (contract_of w) h.state ≡ true

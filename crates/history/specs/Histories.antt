@@ -1,8 +1,9 @@
 -- Lists of agreements, calls, firings, ticks and jumps, each with any arguments and a lent label slice of any length.
-use Rattle.std.specs.Prelude.{ℕ, suc, ◌+◌, ◌*◌, ◌≡◌, Bool, true, false, not, ◌&&◌, List, [], ◌∷◌, ◌++◌, length, take, eqb, ℤ, pos, ◌+ℤ◌, Option, Some, None}
+use Rattle.std.specs.Prelude.{ℕ, suc, ◌+◌, ◌*◌, ◌≡◌, Bool, true, false, not, ◌&&◌, List, [], ◌∷◌, ◌++◌, length, map, take, eqb, ℤ, pos, ◌+ℤ◌, Option, Some, None}
 use Rattle.laws.specs.Choice.{pick}
 use Rattle.laws.specs.Lists.{every, keep}
 use Rattle.numbers.specs.Numbers.{within}
+use Rattle.contract.specs.Tree.{Contract}
 use Rattle.contract.specs.Decode.{contract_of}
 use Rattle.state.specs.declared.State.{State}
 use Rattle.state.specs.States.{due_in}
@@ -12,7 +13,8 @@ use Rattle.outcomes.specs.declared.Rule.TheVariants.{Tick}
 use Rattle.outcomes.specs.declared.Outcome.{Outcome}
 use Rattle.outcomes.specs.declared.Outcome.TheVariants.{Accepted, Failed, Refused}
 use Rattle.outcomes.specs.declared.Stepped.{Stepped}
-use Rattle.machine.specs.Steps.{Request, agreement, call, firing, tick, jump, requested, step}
+use Rattle.groups.specs.Groups.{first_parameter, group_of}
+use Rattle.machine.specs.Steps.{Chosen, chosen, unknown, choose, Request, agreement, call, firing, tick, jump, requested, step}
 use Rattle.steps.specs.declared.Left.{Left}
 use Rattle.steps.specs.Left.{left_of, slots_of}
 
@@ -35,15 +37,30 @@ returned w s a = record { left = left_of (answer_to w s a); slice = slots_of a.s
 
 -- ---- what a step brings in and pays out
 
+-- an asset argument of an accepted call, with the group of its parameter (document 02, F-7)
+pub record Deposit : Type 0 where
+  pub group : ℕ
+  pub amount : ℤ
+
+-- those of function n's parameters from j on
+unfoldable pub deposits_to : Contract → ℕ → ℕ → List ℤ → List Deposit
+deposits_to c n j [] = []
+deposits_to c n j (z ∷ zs) = record { group = group_of c (first_parameter n + j); amount = z } ∷ deposits_to c n (suc j) zs
+
+-- every asset argument is a deposit; of an unknown function, which 26 refuses, it is of no group
+abbrev pub deposits_by : Contract → List ℤ → Chosen → List Deposit
+deposits_by c zs (chosen n f) = deposits_to c n 0 zs
+deposits_by c zs unknown = map (λ z. record { group = 0; amount = z }) zs
+
 -- the asset arguments of a call that is accepted
-abbrev pub deposit : Request → Outcome → List ℤ
-deposit (call i) (Accepted r) = i.assets
-deposit (call i) (Failed n) = []
-deposit (call i) (Refused n) = []
-deposit (agreement ps) o = []
-deposit firing o = []
-deposit tick o = []
-deposit (jump T) o = []
+abbrev pub deposit : Contract → State → Request → Outcome → List Deposit
+deposit c s (call i) (Accepted r) = deposits_by c i.assets (choose c s i 0 c.functions)
+deposit c s (call i) (Failed n) = []
+deposit c s (call i) (Refused n) = []
+deposit c s (agreement ps) o = []
+deposit c s firing o = []
+deposit c s tick o = []
+deposit c s (jump T) o = []
 
 -- the asset payouts among some labels
 unfoldable pub payouts_in : List Label → List Label
@@ -58,32 +75,38 @@ payouts_of r (Refused n) = []
 
 -- ---- a list of steps
 
--- what a list of steps comes to: the last state, what callers hold after each step, the asset arguments of accepted calls, the payouts
+-- what a list of steps comes to: the last state, what callers hold after each step, the asset arguments of accepted calls
+-- with their groups, the payouts
 pub record History : Type 0 where
   pub state : State
   pub answers : List Returned
-  pub deposits : List ℤ
+  pub deposits : List Deposit
   pub payouts : List Label
 
 -- one step, and what those after it come to
-abbrev pub followed : Request → Returned → History → History
-followed q r h =
+abbrev pub followed : Contract → State → Request → Returned → History → History
+followed c s q r h =
     record {
       state = h.state;
       answers = r ∷ h.answers;
-      deposits = deposit q r.left.outcome ++ h.deposits;
+      deposits = deposit c s q r.left.outcome ++ h.deposits;
       payouts = payouts_of r r.left.outcome ++ h.payouts;
     }
 
 unfoldable pub history : List ℕ → State → List Step → History
 history w s [] = record { state = s; answers = []; deposits = []; payouts = [] }
-history w s (a ∷ xs) = followed a.request (returned w s a) (history w (answer_to w s a).state xs)
+history w s (a ∷ xs) = followed (contract_of w) s a.request (returned w s a) (history w (answer_to w s a).state xs)
 
 -- ---- the count
 
 unfoldable pub total : List ℤ → ℤ
 total [] = pos 0
 total (z ∷ zs) = z +ℤ total zs
+
+-- the amounts of deposits
+unfoldable pub amounts_of : List Deposit → List ℤ
+amounts_of [] = []
+amounts_of (d ∷ ds) = d.amount ∷ amounts_of ds
 
 -- the values of labels
 unfoldable pub values_of : List Label → List ℤ
@@ -102,6 +125,24 @@ alike i = 1
 -- what the state holds
 abbrev pub holdings : State → ℕ
 holdings s = weighed alike 0 s.assets
+
+-- ---- by group (document 02, F-7)
+
+-- the deposits of a group
+abbrev pub group_deposits : ℕ → List Deposit → List Deposit
+group_deposits g = keep (λ d. eqb d.group g)
+
+-- the payouts of a group
+abbrev pub group_payouts : ℕ → List Label → List Label
+group_payouts g = keep (λ l. eqb l.group g)
+
+-- the weight of place i: 1 for an asset of group g, 0 for any other
+abbrev pub in_group : Contract → ℕ → ℕ → ℕ
+in_group c g i = pick (eqb (group_of c i) g) 1 0
+
+-- what the state holds of a group
+abbrev pub group_holdings : Contract → ℕ → State → ℕ
+group_holdings c g s = weighed (in_group c g) 0 s.assets
 
 -- ---- striking out
 

@@ -10,7 +10,7 @@ use Rattle.history.specs.Histories.{Returned, payouts_of}
 
 -- a label that a step sent, with its rule and the clock after it, which is the one before it: calls and firings leave the clock (`clock_left`)
 abbrev pub entry_by : Rule → ℕ → Label → Entry
-entry_by r clock l = record { kind = l.kind; party = l.party; rule = rule_number r; clock = clock; value = l.value }
+entry_by r clock l = record { kind = l.kind; party = l.party; rule = rule_number r; clock = clock; value = l.value; group = l.group }
 
 -- labels of a step as entries; a failed firing and a refused step have none
 abbrev pub entries_by : Outcome → ℕ → List Label → List Entry
@@ -29,4 +29,4 @@ settled (r ∷ rs) = settled_by r ++ settled rs
 
 -- entries as labels again
 abbrev pub labels_in : List Entry → List Label
-labels_in = map (λ e. record { kind = e.kind; party = e.party; value = e.value })
+labels_in = map (λ e. record { kind = e.kind; party = e.party; value = e.value; group = e.group })

@@ -2,7 +2,7 @@
 -- nothing.
 use mathlib.Core.Path.{◌≡◌, refl, sym, ap, subst, ◌∙◌}
 use mathlib.Core.Bool.{true, ◌&&◌}
-use mathlib.Core.List.{List, [], ◌∷◌, ◌++◌, append-nil}
+use mathlib.Core.List.{List, [], ◌∷◌, ◌++◌, map, map-append, append-nil}
 use Prim.Native.Nat.{ℕ, suc, ◌+◌, ◌<◌, ◌≤◌}
 use native.Mathlib.Omega.{arith}
 use lib.ListN.{length, take, length-set}
@@ -28,11 +28,11 @@ use Rattle.statements.specs.declared.Label.{Label}
 use Rattle.statements.specs.Running.{Work, integer_label, string_label, asset_label, max_labels, max_holdings, memory_in, stored, labelled, sent, receiver, place, amount_at, moved, paid, performed}
 use Rattle.statements.specs.Running as running
 use Rattle.history.proofs.RefusalNumbers.{Stops, AnswerStops, value_stops}
-use Rattle.published.specs.Published.{Statement, act, spelled, Table3, value_send, asset_send, field_update, asset_update, asset_update_self, NoAmount, refuses, string, negative, uncovered, Meets, send_meets, assign_meets, pay_meets, move_meets, move_full}
+use Rattle.published.specs.Published.{as_published, Statement, act, spelled, Table3, value_send, asset_send, field_update, asset_update, asset_update_self, NoAmount, refuses, string, negative, uncovered, Meets, send_meets, assign_meets, pay_meets, move_meets, move_full}
 
--- the labels sent so far
+-- the labels sent so far, as published
 abbrev pub labels_of : Work → List Label
-labels_of w = take w.count w.labels
+labels_of w = map as_published (take w.count w.labels)
 
 -- at most so many, and there is room for 64
 pub record Room (most : ℕ) (w : Work) : Type 0 where
@@ -73,21 +73,23 @@ module _ (v : List ℤ) (t : ℕ) where
     same_labels = sym (append-nil (labels_of w))
 
     -- one label more, on the memory of x
-    labelled_goes : (s : Statement) (x : Work) (kind party : ℕ) (value : ℤ) → x.labels ≡ w.labels → x.count ≡ w.count → x.refusal ≡ None
-        → ((rest : List Statement) → Table3 (memory_in v t w) (s ∷ rest) (record { kind = kind; party = party; value = value } ∷ []) (memory_in v t x) rest)
-        → Acted w s (suc m) (labelled x kind party value)
+    labelled_goes : (s : Statement) (x : Work) (kind party : ℕ) (value : ℤ) (group : ℕ) → x.labels ≡ w.labels → x.count ≡ w.count → x.refusal ≡ None
+        → ((rest : List Statement) → Table3 (memory_in v t w) (s ∷ rest) (record { kind = kind; party = party; value = value; group = 0 } ∷ []) (memory_in v t x) rest)
+        → Acted w s (suc m) (labelled x kind party value group)
     unfolding labelled
-    labelled_goes s x kind party value le ce re r =
-        let l : Label = record { kind = kind; party = party; value = value } in
+    labelled_goes s x kind party value group le ce re r =
+        let l : Label = record { kind = kind; party = party; value = value; group = group } in
         by_cases (Acted w s (suc m)) _ _ _
-        (λ _. goes (l ∷ []) re
+        (λ _. goes (as_published l ∷ []) re
         (record { labels_length = length-set x.labels x.count l ∙ ap length le ∙ o.labels_length; few = omega (arith, o.few) })
-        (take-suc-set x.labels x.count l (omega (arith, ap length le, o.few, o.labels_length)) ∙ (λ i. take (ce i) (le i) ++ (l ∷ []))) r)
+        (ap (map as_published) (take-suc-set x.labels x.count l (omega (arith, ap length le, o.few, o.labels_length)))
+        ∙ map-append as_published (take x.count x.labels) (l ∷ [])
+        ∙ (λ i. map as_published (take (ce i) (le i)) ++ (as_published l ∷ []))) r)
         (λ h. absurd (omega (arith, ltb-false x.count max_labels h, o.few)))
 
     sent_goes : (e : Expression) (a : ℕ) (x : Value) → value_of (memory_in v t w) e ≡ Ok x → Acted w (act (send e a)) (suc m) (sent w a x)
-    sent_goes e a (Integer y) h = labelled_goes (act (send e a)) w integer_label a y refl refl z (λ rest. value_send h)
-    sent_goes e a (Text n) h = labelled_goes (act (send e a)) w string_label a (pos n) refl refl z (λ rest. value_send h)
+    sent_goes e a (Integer y) h = labelled_goes (act (send e a)) w integer_label a y 0 refl refl z (λ rest. value_send h)
+    sent_goes e a (Text n) h = labelled_goes (act (send e a)) w string_label a (pos n) 0 refl refl z (λ rest. value_send h)
 
     stored_goes : (e : Expression) (x : ℕ) (y : Value) → value_of (memory_in v t w) e ≡ Ok y → Acted w (act (assign e x)) (suc m) (stored w x y)
     stored_goes e x (Integer y) h = goes [] z (more refl refl) same_labels (λ rest. field_update h)
@@ -96,12 +98,12 @@ module _ (v : List ℤ) (t : ℕ) where
     -- ---- amounts
 
     module _ (e : Expression) (h : Holder) where
-      paid_acts : (a n : ℕ) → value_of (memory_in v t w) e ≡ Ok (Integer (pos n)) → Acted w (act (pay e h a)) (suc m) (paid w (place_of h) a n)
+      paid_acts : (u : ℕ → ℕ) (a n : ℕ) → value_of (memory_in v t w) e ≡ Ok (Integer (pos n)) → Acted w (act (pay e h a)) (suc m) (paid u w (place_of h) a n)
       unfolding paid ranges
-      paid_acts a n g =
+      paid_acts u a n g =
           by_cases (Acted w (act (pay e h a)) (suc m)) _ _ _
           (λ l. sticks refl (pay_meets (uncovered g (ltb-true (amount_at w (place_of h)) n l))) refl)
-          (λ l. labelled_goes (act (pay e h a)) _ asset_label a (pos n) refl refl z (λ rest. asset_send g (ltb-false (amount_at w (place_of h)) n l)))
+          (λ l. labelled_goes (act (pay e h a)) _ asset_label a (pos n) (u (place_of h)) refl refl z (λ rest. asset_send g (ltb-false (amount_at w (place_of h)) n l)))
 
       moved_acts : (k : Holder) → place_of k < max_holdings → (n : ℕ) → value_of (memory_in v t w) e ≡ Ok (Integer (pos n)) → Acted w (act (move e h k)) (suc m) (moved w (place_of h) (place_of k) n)
       unfolding moved ranges
@@ -146,30 +148,30 @@ module _ (v : List ℤ) (t : ℕ) where
           (moved_acts e h k (place_in c l k i') n q)))
           (value_of (memory_in v t w) e) (value_stops c (memory_in v t w) e j) refl
 
-      pay_acts : (a : ℕ) → ltb a c.parties ≡ true → Acted w (act (pay e h a)) (suc m) (running.with_amount w (value_of (memory_in v t w) e) (paid w (place h) (receiver a)))
-      pay_acts a i' =
+      pay_acts : (u : ℕ → ℕ) (a : ℕ) → ltb a c.parties ≡ true → Acted w (act (pay e h a)) (suc m) (running.with_amount w (value_of (memory_in v t w) e) (paid u w (place h) (receiver a)))
+      pay_acts u a i' =
           amount_acts e h _ _ (λ n x. pay_meets x)
-          (λ n q. subst (λ (x : ℕ). Acted w (act (pay e h a)) (suc m) (paid w x (receiver a) n)) (same_place c l h i)
-          (subst (λ (x : ℕ). Acted w (act (pay e h a)) (suc m) (paid w (place_of h) x n)) (same_receiver c l a i') (paid_acts e h a n q)))
+          (λ n q. subst (λ (x : ℕ). Acted w (act (pay e h a)) (suc m) (paid u w x (receiver a) n)) (same_place c l h i)
+          (subst (λ (x : ℕ). Acted w (act (pay e h a)) (suc m) (paid u w (place_of h) x n)) (same_receiver c l a i') (paid_acts e h u a n q)))
           (value_of (memory_in v t w) e) (value_stops c (memory_in v t w) e j) refl
 
-    pub performed_acts : (c : Scope) → Limited c → (a : Action) → action_in c a ≡ true → Acted w (act (spelled a)) (suc m) (performed v t w a)
+    pub performed_acts : (u : ℕ → ℕ) (c : Scope) → Limited c → (a : Action) → action_in c a ≡ true → Acted w (act (spelled a)) (suc m) (performed u v t w a)
     unfolding performed action_in expression_in
-    performed_acts c l (assign e x) i =
+    performed_acts u c l (assign e x) i =
         value_acts e _ _ (λ n q. assign_meets q) (stored_goes e x) (value_of (memory_in v t w) e) (value_stops c (memory_in v t w) e (both_left (expression_in c e) _ i)) refl
-    performed_acts c l (send e a) i =
+    performed_acts u c l (send e a) i =
         value_acts e _ _ (λ n q. send_meets q)
         (λ y q. subst (λ (x : ℕ). Acted w (act (send e a)) (suc m) (sent w x y)) (same_receiver c l a (both_right (expression_in c e) (ltb a c.parties) i)) (sent_goes e a y q))
         (value_of (memory_in v t w) e) (value_stops c (memory_in v t w) e (both_left (expression_in c e) _ i)) refl
-    performed_acts c l (move e h k) i =
+    performed_acts u c l (move e h k) i =
         let j = both_right (expression_in c e) (holder_in c h && holder_in c k) i in
         move_acts c l e (both_left (expression_in c e) _ i) h (both_left (holder_in c h) (holder_in c k) j) k (both_right (holder_in c h) (holder_in c k) j)
-    performed_acts c l (pay e h a) i =
+    performed_acts u c l (pay e h a) i =
         let j = both_right (expression_in c e) (holder_in c h && ltb a c.parties) i in
-        pay_acts c l e (both_left (expression_in c e) _ i) h (both_left (holder_in c h) (ltb a c.parties) j) a (both_right (holder_in c h) (ltb a c.parties) j)
-    performed_acts c l (move_all h k) i =
+        pay_acts c l e (both_left (expression_in c e) _ i) h (both_left (holder_in c h) (ltb a c.parties) j) u a (both_right (holder_in c h) (ltb a c.parties) j)
+    performed_acts u c l (move_all h k) i =
         let j = both_left (holder_in c h) (holder_in c k) i in
         move_acts c l (held h) j h j k (both_right (holder_in c h) (holder_in c k) i)
-    performed_acts c l (pay_all h a) i =
+    performed_acts u c l (pay_all h a) i =
         let j = both_left (holder_in c h) (ltb a c.parties) i in
-        pay_acts c l (held h) j h j a (both_right (holder_in c h) (ltb a c.parties) i)
+        pay_acts c l (held h) j h j u a (both_right (holder_in c h) (ltb a c.parties) i)

@@ -75,16 +75,16 @@ module _ (v : List ℤ) (t : ℕ) where
   more_labels l (fails z k r) = fails z k r
 
   -- each statement sends at most one label
-  pub ran_ends : {m : ℕ} {w : Work} (c : Scope) → Limited c → (b : Block) → block_in c b ≡ true → m + statements b ≤ max_labels → Room m w → w.refusal ≡ None
-      → Ends w (in_order b) (m + statements b) (ran v t w b)
+  pub ran_ends : {m : ℕ} {w : Work} (g : ℕ → ℕ) (c : Scope) → Limited c → (b : Block) → block_in c b ≡ true → m + statements b ≤ max_labels → Room m w → w.refusal ≡ None
+      → Ends w (in_order b) (m + statements b) (ran g v t w b)
   unfolding ran statements in_order block_in
-  ran_ends {m} {w} c k none i h o z = finishes [] z (record { labels_length = o.labels_length; few = omega (arith, o.few) }) (sym (append-nil (labels_of w))) (λ rest. stop)
-  ran_ends {m} {w} c k (perform b a) i h o z =
-      onward_ends _ (ran_ends c k b (both_left (block_in c b) (action_in c a) i) (omega arith) o z)
-      (λ o' z'. more_labels (omega arith) (acted_ends (performed_acts v t o' z' (omega arith) c k a (both_right (block_in c b) (action_in c a) i))))
-  ran_ends {m} {w} c k (conditional b u s) i h o z =
+  ran_ends {m} {w} g c k none i h o z = finishes [] z (record { labels_length = o.labels_length; few = omega (arith, o.few) }) (sym (append-nil (labels_of w))) (λ rest. stop)
+  ran_ends {m} {w} g c k (perform b a) i h o z =
+      onward_ends _ (ran_ends g c k b (both_left (block_in c b) (action_in c a) i) (omega arith) o z)
+      (λ o' z'. more_labels (omega arith) (acted_ends (performed_acts v t o' z' (omega arith) g c k a (both_right (block_in c b) (action_in c a) i))))
+  ran_ends {m} {w} g c k (conditional b u s) i h o z =
       let j = both_right (block_in c b) (condition_in c u && block_in c s) i in
-      onward_ends _ (ran_ends c k b (both_left (block_in c b) (condition_in c u && block_in c s) i) (omega arith) o z)
-      (λ o' z'. when_ends u s z' o' (omega arith) (more_labels (omega arith) (ran_ends {m = m + statements b} {w = ran v t w b} c k s (both_right (condition_in c u) (block_in c s) j) (omega arith) o' z'))
-      (truth_of (memory_in v t (ran v t w b)) u) (truth_stops c (memory_in v t (ran v t w b)) u (both_left (condition_in c u) (block_in c s) j)) refl)
-  ran_ends {m} {w} c k broken_block i h o z = true_false (sym i)
+      onward_ends _ (ran_ends g c k b (both_left (block_in c b) (condition_in c u && block_in c s) i) (omega arith) o z)
+      (λ o' z'. when_ends u s z' o' (omega arith) (more_labels (omega arith) (ran_ends {m = m + statements b} {w = ran g v t w b} g c k s (both_right (condition_in c u) (block_in c s) j) (omega arith) o' z'))
+      (truth_of (memory_in v t (ran g v t w b)) u) (truth_stops c (memory_in v t (ran g v t w b)) u (both_left (condition_in c u) (block_in c s) j)) refl)
+  ran_ends {m} {w} g c k broken_block i h o z = true_false (sym i)

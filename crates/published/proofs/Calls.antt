@@ -32,7 +32,7 @@ use Rattle.outcomes.specs.declared.Outcome.TheVariants.{Accepted}
 use Rattle.outcomes.specs.declared.Stepped.{Stepped}
 use Rattle.outcomes.specs.Outcomes.{refused}
 use Rattle.holdings.specs.Holdings.{amounts}
-use Rattle.machine.specs.Steps.{accepted, begun, ended, Invocation, Chosen, chosen, unknown, choose, precondition_holds, Scheduled, times, no, schedule, with_scheduled, finished, by_precondition, invoked, by_chosen, call_by_due, called}
+use Rattle.machine.specs.Steps.{accepted, begun, ended, Invocation, Chosen, chosen, unknown, choose, precondition_holds, place_groups, Scheduled, times, no, schedule, with_scheduled, finished, by_precondition, invoked, by_chosen, call_by_due, called}
 use Rattle.machine.proofs.Refusals.{by_refusal}
 use Rattle.history.proofs.Cases.{body_ran}
 use Rattle.published.specs.Published.{here, there, Configuration, runtime, in_state, nothing, in_order, bound, unbound, Statements, First, Called, Times, integers, call, function, state_change, Whole, whole, phase_of, memory_at, idle, Comes}
@@ -87,8 +87,8 @@ module _ (c : Contract) (fit : FitsContract c) (s : State) (i : Invocation) wher
         few = omega (arith, g.body_few);
       }
 
-  pub call_counts : (n : ℕ) (f : Function) → choose c s i 0 c.functions ≡ chosen n f → (body_ran s i f).refusal ≡ None → (body_ran s i f).count ≡ length (labels_of (body_ran s i f))
-  call_counts n f e z = body_counts s i.values (amounts i.assets) f.body (body_fit (first_called c s i 0 n f c.functions e).2) z
+  pub call_counts : (n : ℕ) (f : Function) → choose c s i 0 c.functions ≡ chosen n f → (body_ran c s i n f).refusal ≡ None → (body_ran c s i n f).count ≡ length (labels_of (body_ran c s i n f))
+  call_counts n f e z = body_counts (place_groups c n) s i.values (amounts i.assets) f.body (body_fit (first_called c s i 0 n f c.functions e).2) z
 
   -- ---- from the machine to the rules
 
@@ -101,34 +101,34 @@ module _ (c : Contract) (fit : FitsContract c) (s : State) (i : Invocation) wher
   module _ (a : s.agreed ≡ true) (d : due_in c s ≡ None) {n : ℕ} {f : Function} (h : First (Called c s.state i) n f c.functions) where
     module _ (v : length i.values ≡ length f.values) (l : length i.assets ≡ length f.parameters) (p : every (le_z (pos 0)) i.assets ≡ true) where
       module _ (q : precondition_holds (bound (memory_at s) i.values (amounts i.assets)) f.precondition ≡ Ok true) where
-        scheduled_derives : (body_ran s i f).refusal ≡ None → every (λ a. eqb a 0) (drop max_assets (body_ran s i f).holdings) ≡ true → (z : Scheduled)
-            → schedule (memory_in i.values s.clock (body_ran s i f)) s.clock n 0 f.events ≡ z
-            → Derives (with_scheduled s (body_ran s i f) f.last z)
+        scheduled_derives : (body_ran c s i n f).refusal ≡ None → every (λ a. eqb a 0) (drop max_assets (body_ran c s i n f).holdings) ≡ true → (z : Scheduled)
+            → schedule (memory_in i.values s.clock (body_ran c s i n f)) s.clock n 0 f.events ≡ z
+            → Derives (with_scheduled s (body_ran c s i n f) f.last z)
         scheduled_derives w e (no k) t = refused_derives k
         scheduled_derives w e (times ps) t =
             by_cases Derives _ _ _
             (λ r ls C o.
-            whole_same (sym (idle_standing s a)) o.labels_are (sym (idle_ended s (body_ran s i f) f.last (live s ++ ps) i.values a) ∙ o.leads_to)
+            whole_same (sym (idle_standing s a)) o.labels_are (sym (idle_ended s (body_ran c s i n f) f.last (live s ++ ps) i.values a) ∙ o.leads_to)
             (whole
             (function (amounts i.assets) h (none_ready c s d) v (length_amounts i.assets ∙ l) (integers_amounts i.assets p) q)
-            (body_runs s i.values (amounts i.assets) f.body (body_fit h) w)
-            (state_change e (schedule_times (memory_in i.values s.clock (body_ran s i f)) n 0 f.events ps t) (leb-true (length (live s) + length ps) max_pending r))))
+            (body_runs (place_groups c n) s i.values (amounts i.assets) f.body (body_fit h) w)
+            (state_change e (schedule_times (memory_in i.values s.clock (body_ran c s i n f)) n 0 f.events ps t) (leb-true (length (live s) + length ps) max_pending r))))
             (λ _. refused_derives ask.PendingRoom)
 
-        finished_derives : Derives (finished s n f i.values (body_ran s i f))
+        finished_derives : Derives (finished s n f i.values (body_ran c s i n f))
         unfolding finished
         finished_derives =
-            by_refusal Derives (body_ran s i f).refusal (refused s) _
-            (λ w. by_cases Derives (every (λ a. eqb a 0) (drop max_assets (body_ran s i f).holdings)) _ _ (λ e. scheduled_derives w e _ refl) (λ _. refused_derives ask.ParametersEmpty))
+            by_refusal Derives (body_ran c s i n f).refusal (refused s) _
+            (λ w. by_cases Derives (every (λ a. eqb a 0) (drop max_assets (body_ran c s i n f).holdings)) _ _ (λ e. scheduled_derives w e _ refl) (λ _. refused_derives ask.ParametersEmpty))
             (λ q _. refused_derives q)
 
       precondition_derives : (t : Truth) → precondition_holds (bound (memory_at s) i.values (amounts i.assets)) f.precondition ≡ t
-          → Derives (by_precondition s n f i.values (begun s (amounts i.assets)) t)
+          → Derives (by_precondition (place_groups c n) s n f i.values (begun s (amounts i.assets)) t)
       precondition_derives (Err k) q = refused_derives k
       precondition_derives (Ok false) q = refused_derives ask.Precondition
       precondition_derives (Ok true) q = finished_derives q
 
-    invoked_derives : Derives (invoked s i n f)
+    invoked_derives : Derives (invoked (place_groups c n) s i n f)
     unfolding invoked
     invoked_derives =
         by_cases Derives _ _ _
@@ -140,7 +140,7 @@ module _ (c : Contract) (fit : FitsContract c) (s : State) (i : Invocation) wher
         (λ _. refused_derives ask.AssetArguments))
         (λ _. refused_derives ask.ArgumentCount)
 
-  chosen_derives : s.agreed ≡ true → due_in c s ≡ None → (z : Chosen) → choose c s i 0 c.functions ≡ z → Derives (by_chosen s i z)
+  chosen_derives : s.agreed ≡ true → due_in c s ≡ None → (z : Chosen) → choose c s i 0 c.functions ≡ z → Derives (by_chosen c s i z)
   chosen_derives a d unknown e = refused_derives ask.FunctionKnown
   chosen_derives a d (chosen n f) e =
       let h = first_called c s i 0 n f c.functions e in
@@ -163,22 +163,22 @@ module _ (c : Contract) (fit : FitsContract c) (s : State) (i : Invocation) wher
   module _ {n : ℕ} (f : Function) {ps : List Pending}
       (v : length i.values ≡ length f.values) (l : length i.assets ≡ length f.parameters) (p : every (le_z (pos 0)) i.assets ≡ true)
       (q : precondition_holds (bound (memory_at s) i.values (amounts i.assets)) f.precondition ≡ Ok true)
-      (w : (body_ran s i f).refusal ≡ None) (e : every (λ a. eqb a 0) (drop max_assets (body_ran s i f).holdings) ≡ true)
-      (t : Times (memory_in i.values s.clock (body_ran s i f)) n 0 f.events ps) (r : length (live s) + length ps ≤ max_pending) where
-    finished_is : finished s n f i.values (body_ran s i f) ≡ accepted Call (ended s (body_ran s i f) f.last (live s ++ ps)) (body_ran s i f)
+      (w : (body_ran c s i n f).refusal ≡ None) (e : every (λ a. eqb a 0) (drop max_assets (body_ran c s i n f).holdings) ≡ true)
+      (t : Times (memory_in i.values s.clock (body_ran c s i n f)) n 0 f.events ps) (r : length (live s) + length ps ≤ max_pending) where
+    finished_is : finished s n f i.values (body_ran c s i n f) ≡ accepted Call (ended s (body_ran c s i n f) f.last (live s ++ ps)) (body_ran c s i n f)
     unfolding finished
     finished_is =
         goes_on _ _ w
         ∙ pick_true _ _ _ e
-        ∙ ap (with_scheduled s (body_ran s i f) f.last) (times_schedule (memory_in i.values s.clock (body_ran s i f)) n 0 t)
+        ∙ ap (with_scheduled s (body_ran c s i n f) f.last) (times_schedule (memory_in i.values s.clock (body_ran c s i n f)) n 0 t)
         ∙ pick_true _ _ _ (le-leb (length (live s) + length ps) max_pending r)
 
-    invoked_is : invoked s i n f ≡ accepted Call (ended s (body_ran s i f) f.last (live s ++ ps)) (body_ran s i f)
+    invoked_is : invoked (place_groups c n) s i n f ≡ accepted Call (ended s (body_ran c s i n f) f.last (live s ++ ps)) (body_ran c s i n f)
     unfolding invoked
     invoked_is =
         pick_true _ _ _ (both_true _ _ (eq-eqb (length i.values) (length f.values) v) (eq-eqb (length i.assets) (length f.parameters) l))
         ∙ pick_true _ _ _ p
-        ∙ ap (by_precondition s n f i.values (begun s (amounts i.assets))) q
+        ∙ ap (by_precondition (place_groups c n) s n f i.values (begun s (amounts i.assets))) q
         ∙ finished_is
 
   derived_comes : {ls : List Label} {C : Configuration} (x : Bool) → s.agreed ≡ x → Whole c (runtime (phase_of x s.state) (memory_at s) nothing (live s)) (call i) ls C
@@ -187,12 +187,12 @@ module _ (c : Contract) (fit : FitsContract c) (s : State) (i : Invocation) wher
   derived_comes false a (whole t r u) = absurd (starts t)
   derived_comes true a (whole {ls = ls} (function {n = n} {f = f} vs h d v l e q) r (state_change {m = m} {Ψ' = ps} z t k)) =
       let same : amounts i.assets ≡ vs = ap amounts e ∙ amounts_integers vs in
-      let run = run_is s i.values (amounts i.assets) f.body (body_fit h)
+      let run = run_is (place_groups c n) s i.values (amounts i.assets) f.body (body_fit h)
       (subst (λ (y : List ℕ). Statements (bound (memory_at s) i.values y) (in_order f.body) ls m []) (sym same) r) in
       comes_by
       (pick_true _ _ _ a
       ∙ ap (call_by_due c s i) (ready_none c s d)
-      ∙ ap (by_chosen s i) (called_first c s i 0 h ∙ ap (λ (j : ℕ). chosen j f) (omega arith))
+      ∙ ap (by_chosen c s i) (called_first c s i 0 h ∙ ap (λ (j : ℕ). chosen j f) (omega arith))
       ∙ invoked_is f v (ap length e ∙ length_integers vs ∙ l) (ap (every (le_z (pos 0))) e ∙ integers_positive vs)
       (subst (λ (y : List ℕ). precondition_holds (bound (memory_at s) i.values y) f.precondition ≡ Ok true) (sym same) q)
       run.0
@@ -201,9 +201,9 @@ module _ (c : Contract) (fit : FitsContract c) (s : State) (i : Invocation) wher
       k)
       (record {
         outcome_is = refl;
-        count_is = body_counts s i.values (amounts i.assets) f.body (body_fit h) run.0 ∙ ap length run.1;
+        count_is = body_counts (place_groups c n) s i.values (amounts i.assets) f.body (body_fit h) run.0 ∙ ap length run.1;
         labels_are = run.1;
-        leads_to = idle_ended s (body_ran s i f) f.last (live s ++ ps) i.values a ∙ (λ j. runtime (in_state f.last) (unbound (run.2 j)) nothing (live s ++ ps));
+        leads_to = idle_ended s (body_ran c s i n f) f.last (live s ++ ps) i.values a ∙ (λ j. runtime (in_state f.last) (unbound (run.2 j)) nothing (live s ++ ps));
       })
 
   pub call_comes : {ls : List Label} {C : Configuration} → Whole c (idle s) (call i) ls C → Comes (called c s i) (Accepted Call) ls C

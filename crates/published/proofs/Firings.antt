@@ -25,7 +25,7 @@ use Rattle.statements.specs.Running.{memory_in}
 use Rattle.outcomes.specs.declared.Rule.TheVariants.{EventMatch}
 use Rattle.outcomes.specs.declared.Outcome.TheVariants.{Accepted, Failed}
 use Rattle.outcomes.specs.declared.Stepped.{Stepped}
-use Rattle.machine.specs.Steps.{begun, ended, handled, fire_by_due, fired}
+use Rattle.machine.specs.Steps.{place_groups, begun, ended, handled, fire_by_due, fired}
 use Rattle.machine.specs.Steps as steps
 use Rattle.history.proofs.Parameters.{Parameters, ran_same}
 use Rattle.history.proofs.ContractBounds.{Bounded, BoundedEvent}
@@ -55,14 +55,14 @@ module _ (c : Contract) (b : Bounded c) (s : State) where
       }
 
   pub handler_counts : (k : ℕ) → (handler_ran c s k).refusal ≡ None → (handler_ran c s k).count ≡ length (labels_of (handler_ran c s k))
-  handler_counts k z = body_counts s [] [] (event_at c s k).handler (handler_fit k) z
+  handler_counts k z = body_counts (place_groups c (pending_at s k).function) s [] [] (event_at c s k).handler (handler_fit k) z
 
   -- a handler names no parameter
   handler_spends : (k : ℕ) → every (λ a. eqb a 0) (drop max_assets (handler_ran c s k).holdings) ≡ true
   unfolding scope_of
   handler_spends k =
       let z : Parameters (drop max_assets (begun s []).holdings) (handler_ran c s k) =
-      ran_same (scope_of c 0 0) b.assets_few refl [] s.clock (event_at c s k).handler (handler_bounded k).handler_in (record { amounts = refl }) in
+      ran_same (scope_of c 0 0) b.assets_few refl (place_groups c (pending_at s k).function) [] s.clock (event_at c s k).handler (handler_bounded k).handler_in (record { amounts = refl }) in
       ap (every (λ a. eqb a 0)) z.amounts ∙ nothing_bound s
 
   idle_fired : (k : ℕ) → s.agreed ≡ true
@@ -85,7 +85,7 @@ module _ (c : Contract) (b : Bounded c) (s : State) where
     fired_derives (fails k x a d h) o = let z : ◌≡◌ {A = ℕ} 0 1 = cc o.outcome_is in absurd (omega arith)
     fired_derives {ls = ls} {C = C} (fires k a d h) o =
         whole_same (sym (idle_standing s a)) o.labels_are (sym (idle_fired k a) ∙ o.leads_to)
-        (whole (event_match (first_ready c s k d)) (body_runs s [] [] (event_at c s k).handler (handler_fit k) h)
+        (whole (event_match (first_ready c s k d)) (body_runs (place_groups c (pending_at s k).function) s [] [] (event_at c s k).handler (handler_fit k) h)
         (state_change (handler_spends k) no_event (omega (arith, without_length k (live s)))))
 
     pub firing_derives : {ls : List Label} {C : Configuration} → Comes (fired c s) (Accepted EventMatch) ls C → Whole c (idle s) match ls C
@@ -99,7 +99,7 @@ module _ (c : Contract) (b : Bounded c) (s : State) where
       subst (λ (x : Configuration). Table2 c x (failure n) C) (sym (idle_standing s a))
       (subst (Table2 c (standing s) (failure n)) (sym (idle_removed k a) ∙ o.leads_to)
       (subst (λ (x : Question). Table2 c (standing s) (failure x) (runtime (in_state s.state) (memory_at s) nothing (without k (live s)))) e
-      (go (body_sticks s [] [] (event_at c s k).handler (handler_fit k) x h))))
+      (go (body_sticks (place_groups c (pending_at s k).function) s [] [] (event_at c s k).handler (handler_fit k) x h))))
     where
       go : {x : Question} → Sticks (bound (memory_at s) [] []) (in_order (event_at c s k).handler) x
           → Table2 c (standing s) (failure x) (runtime (in_state s.state) (memory_at s) nothing (without k (live s)))
@@ -118,7 +118,7 @@ module _ (c : Contract) (b : Bounded c) (s : State) where
   unfolding fired handled
   changed_comes {k} {p} {m} {ls} a f r (state_change h no_event l) =
       let e : pending_at s k ≡ p = first_at blank f in
-      let t = run_is s [] [] (event_at c s k).handler (handler_fit k)
+      let t = run_is (place_groups c (pending_at s k).function) s [] [] (event_at c s k).handler (handler_fit k)
       (subst (λ (x : Pending). Statements (bound (memory_at s) [] []) (in_order (event_of c x).handler) ls m []) (sym e) r) in
       comes_by (pick_true _ _ _ a ∙ ap (fire_by_due c s) (ready_first c s f) ∙ goes_on _ _ t.0)
       (record {
@@ -144,7 +144,7 @@ module _ (c : Contract) (b : Bounded c) (s : State) where
       let e : pending_at s k ≡ p = first_at blank f in
       let g : Sticks (bound (memory_at s) [] []) (in_order (event_at c s k).handler) n =
       subst (λ (z : Pending). Sticks (bound (memory_at s) [] []) (in_order (event_of c z).handler) n) (sym e) (at r y) in
-      let j : (handler_ran c s k).refusal ≡ Some n = stick_is s [] [] (event_at c s k).handler (handler_fit k) g in
+      let j : (handler_ran c s k).refusal ≡ Some n = stick_is (place_groups c (pending_at s k).function) s [] [] (event_at c s k).handler (handler_fit k) g in
       comes_by (pick_true _ _ _ a ∙ ap (fire_by_due c s) (ready_first c s f) ∙ stops_at _ _ j)
       (record { outcome_is = refl; count_is = refl; labels_are = refl; leads_to = idle_removed k a })
 
@@ -158,7 +158,7 @@ module _ (c : Contract) (b : Bounded c) (s : State) where
   failed_stops (fires k a d h) o = let z : ◌≡◌ {A = ℕ} 0 1 = cc o.outcome_is in absurd (omega arith)
   failed_stops {n = n} (fails k x a d h) o =
       let e : x ≡ n = cc o.outcome_is in
-      subst Stops e (body_stops s [] [] (event_at c s k).handler (handler_fit k) x h)
+      subst Stops e (body_stops (place_groups c (pending_at s k).function) s [] [] (event_at c s k).handler (handler_fit k) x h)
 
   pub failure_stops : {n : Question} {C : Configuration} → Table2 c (idle s) (failure n) C → Stops n
   failure_stops t = failed_stops (firing_came c s) (failure_comes t)

@@ -1,7 +1,7 @@
 -- A step that is not refused came out by its rule, and no rule gives a refused one. Assumes nothing.
 use mathlib.Core.Path.{◌≡◌, refl, sym, ap, ◌∙◌}
 use mathlib.Core.Bool.{true}
-use mathlib.Core.List.{List, []}
+use mathlib.Core.List.{List, [], map}
 use mathlib.Core.Logic.{◌⊎◌, inl, inr}
 use lib.ListN.{take}
 use Rattle.questions.specs.declared.Question.{Question}
@@ -17,13 +17,13 @@ use Rattle.machine.specs.Steps.{Request, agreement, call, firing, tick, jump}
 use Rattle.history.specs.Histories.{is_refused}
 use Rattle.history.proofs.Cases.{ComesOut, refusal, agrees, calls, fires, fails, ticks, jumps}
 use Rattle.history.proofs.ContractBounds.{Bounded}
-use Rattle.published.specs.Published.{Configuration, idle, IsRefused, Comes}
+use Rattle.published.specs.Published.{as_published, Configuration, idle, IsRefused, Comes}
 use Rattle.published.proofs.Calls.{call_counts}
 use Rattle.published.proofs.Firings.{handler_counts}
 
 -- an answer by this rule, whatever it sends and leads to
 abbrev pub By : Outcome → Stepped → Type 0
-By o r = Comes r o (take r.count r.labels) (idle r.state)
+By o r = Comes r o (map as_published (take r.count r.labels)) (idle r.state)
 
 -- an answer by the rule of a request
 abbrev pub ByRule : Request → Stepped → Type 0

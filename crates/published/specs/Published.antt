@@ -1,7 +1,7 @@
 -- The published rules (source 000, section 4): Table 2 and Table 3 as relations, one constructor a rule; [ASSET UPDATE] has two
 -- constructors, and `event_failed` is document 01's. Where document 01 or 02 changes a rule or completes it, its words stand at that place. A
 -- jump (document 02) is so many [TICK]s.
-use Rattle.std.specs.Prelude.{ℕ, suc, ◌+◌, ◌-◌, ◌<◌, ◌≤◌, ◌≡◌, ◌↔◌, Bool, true, false, not, List, [], ◌∷◌, ◌++◌, length, get_or, take, drop, set, eqb, ℤ, pos, negsuc, Ok, Err}
+use Rattle.std.specs.Prelude.{ℕ, suc, ◌+◌, ◌-◌, ◌<◌, ◌≤◌, ◌≡◌, ◌↔◌, Bool, true, false, not, List, [], ◌∷◌, ◌++◌, length, map, get_or, take, drop, set, eqb, ℤ, pos, negsuc, Ok, Err}
 use Rattle.std.specs.Int.Signed.{le_z}
 use Rattle.questions.specs.declared.Question.{Question}
 use Rattle.questions.specs.declared.Question.TheVariants as ask
@@ -94,12 +94,16 @@ unbound m = memory_of m.kinds m.numbers m.texts (take max_assets m.holdings) [] 
 
 -- ---- Table 3, with the labels v -> A and v -o A
 
+-- A published label has no group (document 02, F-7): here it has 0.
+abbrev pub as_published : Label → Label
+as_published l = record { kind = l.kind; party = l.party; value = l.value; group = 0 }
+
 abbrev pub sends : Value → ℕ → Label
-sends (Integer z) a = record { kind = integer_label; party = a; value = z }
-sends (Text n) a = record { kind = string_label; party = a; value = pos n }
+sends (Integer z) a = record { kind = integer_label; party = a; value = z; group = 0 }
+sends (Text n) a = record { kind = string_label; party = a; value = pos n; group = 0 }
 
 abbrev pub pays : ℕ → ℕ → Label
-pays n a = record { kind = asset_label; party = a; value = pos n }
+pays n a = record { kind = asset_label; party = a; value = pos n; group = 0 }
 
 -- a memory and the statements left, the label sent if any, the memory and the statements left then; Φ, Ψ, W and Q' stay as they are
 pub data Table3 : Memory → List Statement → List Label → Memory → List Statement → Type 0 where
@@ -391,9 +395,9 @@ idle s = runtime (phase_of s.agreed s.state) (memory_at s) nothing (live s)
 abbrev pub IsRefused : State → Stepped → Type 0
 IsRefused s r = (q : Question) × (r ≡ refused s q)
 
--- a step of the machine comes out so, with these labels and no more, and leads to the idle configuration C
+-- a step of the machine comes out so, with these labels, their groups aside, and no more, and leads to the idle configuration C
 pub record Comes (r : Stepped) (o : Outcome) (ls : List Label) (C : Configuration) : Type 0 where
   pub outcome_is : r.outcome ≡ o
   pub count_is : r.count ≡ length ls
-  pub labels_are : take r.count r.labels ≡ ls
+  pub labels_are : map as_published (take r.count r.labels) ≡ ls
   pub leads_to : idle r.state ≡ C
