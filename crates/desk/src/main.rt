@@ -6,9 +6,12 @@
 use arguments::{Asked, Fault};
 use contract::Contract;
 use diagnoses::Diagnosis;
+use groups::Names;
 use pages::{Gathered, Sheet};
+use printing::Writer;
 use reading::Refusal;
 use results::Report;
+use reviews::Review;
 use state::State;
 use std::io;
 use std::io::Write;
@@ -333,7 +336,45 @@ fn refuse(
     printed
 }
 
-// What the terms say before any session: a line for each field that a clause sets and no clause agrees on.
+// Prints a group of assets and asset parameters on a line: its number, and then its names.
+fn review_group(
+    rt: &(impl Print + Errors),
+    table: &[u64],
+    numbers: &[u16; Names::MOST],
+    group: u16,
+) -> Result<(), Said> {
+    let mut line = [0u8; Report::ROOM];
+    let mut out = Writer::new(&mut line);
+    out.put_bytes(b"// group ");
+    out.put_number(group as u64);
+    let n = out.at;
+    print(rt, tokens::between(&line, 0, n))?;
+    let mut separator = words::COLON;
+    for (k, &number) in numbers.iter().enumerate() {
+        if number == group {
+            let mut name = [0u8; Review::HOLDER];
+            let n = reviews::holder_name(table, k, &mut name);
+            print(rt, words::spelling(separator))?;
+            print(rt, words::spelling(words::SPACE))?;
+            print(rt, tokens::between(&name, 0, n))?;
+            separator = words::COMMA;
+        }
+    }
+    print(rt, words::spelling(words::LINE_END))
+}
+
+// The groups of assets and asset parameters, a line each.
+// Kept: (d) the desk says what can't be written; trial_reviews hands the error on.
+fn review_groups(rt: &(impl Print + Errors), table: &[u64]) -> Result<(), Said> {
+    let numbers = reviews::group_numbers(table);
+    let count = numbers.iter().copied().max().unwrap_or(0);
+    for group in 1..=count {
+        review_group(rt, table, &numbers, group)?;
+    }
+    Ok(())
+}
+
+// What the terms say before any session: a line for each field that a clause sets and no clause agrees on, and the groups.
 fn review(rt: &(impl Print + Errors), table: &[u64]) -> Result<(), Said> {
     for x in 0..Contract::FIELDS {
         if reviews::never_agreed(table, x) {
@@ -344,7 +385,7 @@ fn review(rt: &(impl Print + Errors), table: &[u64]) -> Result<(), Said> {
             print(rt, words::spelling(words::LINE_END))?;
         }
     }
-    Ok(())
+    review_groups(rt, table)
 }
 
 // The contract's text, then what is asked.

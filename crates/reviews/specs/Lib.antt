@@ -1,2 +1,3 @@
 pub mod Reviews
+pub mod Holders
 pub mod Private

@@ -1,4 +1,5 @@
-// What the terms of a contract say before any session: the fields that a clause sets and no clause agrees on, and the names of fields.
+// What the terms of a contract say before any session: the fields that a clause sets and no clause agrees on, the names of fields, the groups
+// of assets and asset parameters, and how these are named.
 #![tactic(auto)]
 
 ghost use Rattle.std.specs.Prelude.{◌≡◌, ◌<◌, length};
@@ -8,10 +9,23 @@ ghost use Rattle.contract.specs.Decode.{clause_at, contract_of};
 ghost use Rattle.contract.specs.Rows.{said};
 ghost use Rattle.reviews.specs.Private.{says};
 ghost use Rattle.reviews.specs.Reviews.{is_in, names, never_agreed, field_name};
+ghost use Rattle.reviews.specs.Holders.{holder_name, group_numbers};
 
 use contract::{Contract, Verb};
+use groups::Names;
 use printing::Writer;
 use tables::Passed;
+
+mod holders;
+
+// The limits of a review.
+#[derive(Clone, Copy)]
+pub struct Review {}
+
+impl Review {
+    // The bytes of an asset or an asset parameter as it is named there: four names, and eight bytes around them.
+    pub const HOLDER: usize = 4 * Contract::NAME + 8;
+}
 
 // Whether clause i names field x.
 fn clause_names(terms: &Passed, i: usize, x: usize) -> bool
@@ -52,8 +66,8 @@ pub fn never_agreed(table: &[u64], x: usize) -> bool
 // The name of field x comes to the front of the buffer; answers how many bytes it has. There is none for a table that does not pass, or
 // past the last field.
 // Kept: (d) the number is the name's length, and no bytes are the name of no field, as the definition has it: an Option would say that twice;
-// (d) where the row of a name stands is worked out here and in nine more places of agreements, machine, tables, results, pages and trial_listing, each
-// with a number below a count, so that nothing overflows: a function of `contract` for any number would have to say what it answers past the
+// (d) where the row of a name stands is worked out here, in `holders`, and wherever agreements, machine, tables, results, pages and trial_listing
+// read one, each with a number below a count, so that nothing overflows: a function of `contract` for any number would have to say what it answers past the
 // greatest place.
 pub fn field_name(table: &[u64], x: usize, buffer: &mut [u8; Contract::NAME]) -> usize
     ensures value { result ≡ length (field_name table.now x) }
@@ -64,5 +78,33 @@ pub fn field_name(table: &[u64], x: usize, buffer: &mut [u8; Contract::NAME]) ->
     }
     let mut out = Writer::new(buffer);
     out.put_name(table, contract::FIELDS + x * contract::NAME_WORDS);
+    out.at
+}
+
+// The groups of the contract in a table; zeros for one that does not pass.
+#[tactic(auto, unfolding(laws::specs::Choice::pick, crate::specs::Holders::group_numbers, laws::specs::Lists::repeated))]
+pub fn group_numbers(table: &[u64]) -> [u16; Names::MOST]
+    ensures { result ≡ group_numbers table.now }
+{
+    let Some(terms) = Passed::of(table) else {
+        return [0; Names::MOST];
+    };
+    groups::groups_of(&terms)
+}
+
+// The asset or asset parameter with number k comes to the front of the buffer, as `--review` names it; answers how many bytes that has. There
+// is none for a table that does not pass, or for a number that is no name's.
+pub fn holder_name(table: &[u64], k: usize, buffer: &mut [u8; Review::HOLDER]) -> usize
+    ensures value { result ≡ length (holder_name table.now k) }
+    ensures buffer_after { buffer.new ≡ sets buffer.old 0 (holder_name table.now k) }
+{
+    let Some(terms) = Passed::of(table) else {
+        return 0;
+    };
+    if !groups::numbers_name(&terms, k) {
+        return 0;
+    }
+    let mut out = Writer::new(buffer);
+    holders::put_holder(&mut out, &terms, k);
     out.at
 }

@@ -1,6 +1,6 @@
 // Plays the session of each folder that standard input names, one a line, and prints the name and what the desk prints. What
 // stands under "a session" plays it as the desk does, without its options and without what it says of failures. Expected results: what the
-// published vectors expect of each session once requests up to F-6 have landed, byte for byte; of the examples, what the customer's plain
+// published vectors expect of each session once requests up to F-7 have landed, byte for byte; of the examples, what the customer's plain
 // desk prints.
 #![tactic(auto)]
 
