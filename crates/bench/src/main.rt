@@ -6,10 +6,18 @@ use contract::Contract;
 use reading::Refusal;
 use results::Report;
 use state::State;
-use std::io::ErrorKind;
-use std::{env, fs, io};
+use std::alloc::AllocError;
+use std::io;
+use std::rt::{Env, Files};
+use tokens::Digits;
 
-// The result lines that are told at once.
+// The bytes of a session, of a file's name and of the first argument; the result lines that are told at once.
+const SESSION: usize = 262144;
+
+const NAME: usize = 1024;
+
+const WORD: usize = 8;
+
 const LINES: usize = 1024;
 
 // A checksum with one number more.
@@ -78,31 +86,47 @@ fn play_often(table: &[u64], input: &[u8], times: u64) -> u64 {
     (0..times).fold(0, |sum, _| told.play(table, input, sum))
 }
 
-// How often an argument says.
-fn number(argument: &str) -> io::Result<u64> {
-    argument
-        .parse()
-        .map_err(|_| io::Error::from(ErrorKind::InvalidInput))
+// Argument i; none where there is no such one, or no room for it.
+fn argument<'a>(rt: &impl Env, i: usize, buffer: &'a mut [u8]) -> &'a [u8] {
+    match rt.arg(i, buffer) {
+        Ok(size) => &buffer[..size],
+        Err(_) => &[],
+    }
+}
+
+// The number that argument i begins with.
+fn number(rt: &impl Env, i: usize) -> u64 {
+    let mut digits = [0; Digits::MOST];
+    tokens::value_of(argument(rt, i, &mut digits), 0)
+}
+
+// The bytes of the file that argument i names; a file that can't be read has none.
+fn load<'a>(rt: &(impl Env + Files), i: usize, bytes: &'a mut [u8]) -> &'a [u8] {
+    let mut name = [0; NAME];
+    let size = streams::load(rt, argument(rt, i, &mut name), bytes).unwrap_or(0);
+    tokens::between(bytes, 0, size)
+}
+
+// Reads the text, so many times; then plays the session, so many times.
+fn work(rt: &(impl Env + Files + AllocGlobal), reads: u64, plays: u64) -> Result<u64, AllocError> {
+    let mut table = [0; Contract::TABLE];
+    let mut text = [0; Contract::TEXT + 1];
+    let answers = read_often(load(rt, 2, &mut text), &mut table, reads);
+    if plays == 0 {
+        return Ok(answers);
+    }
+    let mut session = vec![in rt.alloc(); 0; SESSION]?;
+    Ok(play_often(&table, load(rt, 3, &mut session), plays))
 }
 
 // Both kinds of work read by one call, so that their counts compare.
 fn main(rt: HostRuntime) -> io::Result<()> {
-    let args = env::args(&rt)?.collect::<Vec<String>>(rt.alloc())?;
-    let mut table = [0; Contract::TABLE];
-    let (file, reads, session) = match args.as_slice() {
-        [_, what, file, times] if what.as_str() == "read" => (file, number(times)?, None),
-        [_, what, file, session, times] if what.as_str() == "play" => (
-            file,
-            1,
-            Some((session, number(times)?)),
-        ),
-        _ => return Err(io::Error::from(ErrorKind::InvalidInput)),
-    };
-    let text = fs::read(&rt, file.as_str())?;
-    let answers = read_often(&text, &mut table, reads);
-    let sum = match session {
-        Some((session, plays)) => play_often(&table, &fs::read(&rt, session.as_str())?, plays),
-        None => answers,
+    let mut word = [0; WORD];
+    let _ = rt.arg(1, &mut word);
+    let sum = if word[0] == b'r' {
+        work(&rt, number(&rt, 3), 0)?
+    } else {
+        work(&rt, 1, number(&rt, 4))?
     };
     println!(rt; "{sum}")
 }

@@ -11,27 +11,46 @@ use contract::Contract;
 use diagnoses::Diagnosis;
 use reading::Refusal;
 use results::Report;
+use std::alloc::{AllocError, Global};
+use std::io;
+use std::io::Read;
 use std::rt::Files;
-use std::{fs, io};
+
+// The bytes of the folders' names that are read, of a file `args`, of its path and of a contract's path; what has no room is left out.
+const NAMES: u64 = 8192;
+
+const ARGUMENTS: usize = 16384;
+
+const PATH: usize = 128;
+
+const CONTRACT_PATH: usize = 1280;
+
+// A line without its end.
+fn line_of(line: &[u8]) -> &[u8] {
+    line.strip_suffix(b"\n").unwrap_or(line)
+}
 
 // What arguments ask for, one a line.
-fn ask(lines: &str) -> Result<Asked, Fault> {
+fn ask(lines: &[u8]) -> Result<Asked, Fault> {
     let mut asked = Asked::nothing();
-    for (argument, n) in lines.lines().zip(1..usize::MAX) {
-        asked = asked.hear(n, argument.as_bytes())?;
+    for (line, n) in lines.split_inclusive(|b| *b == b'\n').zip(1..usize::MAX) {
+        asked = asked.hear(n, line_of(line))?;
     }
     asked.finish()
 }
 
 // The argument with a number, the first with 1.
-fn argument(lines: &str, n: Option<usize>) -> Option<&str> {
-    lines.lines().nth(n?.checked_sub(1)?)
+fn argument(lines: &[u8], n: Option<usize>) -> Option<&[u8]> {
+    let line = lines
+        .split_inclusive(|b| *b == b'\n')
+        .nth(n?.checked_sub(1)?)?;
+    Some(line_of(line))
 }
 
 // A refused text, as the desk tells it.
 // Kept: (a) this and the next are the desk's. No crate can call into a program, and a library for both would have public functions that print,
 // of which no equation can be given; what is printed are bytes of `results`, `diagnoses` and `reviews`, which both call.
-fn refuse(rt: &impl Print, name: &str, text: &[u8], refusal: Refusal) -> io::Result<()> {
+fn refuse(rt: &impl Print, name: &[u8], text: &[u8], refusal: Refusal) -> io::Result<()> {
     let number = refusal.question.number();
     let place = refusal.place;
     let mut line = [0u8; Report::ROOM];
@@ -40,7 +59,7 @@ fn refuse(rt: &impl Print, name: &str, text: &[u8], refusal: Refusal) -> io::Res
         rt.write_all(tokens::between(&line, 0, n))?;
     }
     let mut out = [0u8; Diagnosis::ROOM];
-    let n = diagnoses::write(name.as_bytes(), text, number, place, &mut out);
+    let n = diagnoses::write(name, text, number, place, &mut out);
     rt.write_all(tokens::between(&out, 0, n))
 }
 
@@ -60,23 +79,24 @@ fn review(rt: &impl Print, table: &[u64]) -> io::Result<()> {
     Ok(())
 }
 
+// Bytes, and a line end.
+fn print_line(rt: &impl Print, bytes: &[u8]) -> io::Result<()> {
+    rt.write_all(bytes)?;
+    println!(rt)
+}
+
 // Where pages go, where they are asked for.
-fn accept(rt: &impl Print, out: Option<&str>) -> io::Result<()> {
+fn accept(rt: &impl Print, out: &[u8]) -> io::Result<()> {
     println!(rt; "accepted")?;
-    match out {
-        Some(out) => println!(rt; "pages in {out}"),
-        None => Ok(()),
+    if out.is_empty() {
+        return Ok(());
     }
+    print!(rt; "pages in ")?;
+    print_line(rt, out)
 }
 
 // What is asked of the text of a contract.
-fn begin(
-    rt: &impl Print,
-    asked: Asked,
-    out: Option<&str>,
-    name: &str,
-    text: &[u8],
-) -> io::Result<()> {
+fn begin(rt: &impl Print, asked: Asked, out: &[u8], name: &[u8], text: &[u8]) -> io::Result<()> {
     let mut table = [0u64; Contract::TABLE];
     match reader::read(text, &mut table) {
         Err(refusal) => refuse(rt, name, text, refusal),
@@ -85,32 +105,63 @@ fn begin(
     }
 }
 
-// What is asked of the contract in a folder.
-fn start(
-    rt: &(impl Alloc + Files + Print),
-    asked: Asked,
-    folder: &str,
-    lines: &str,
-) -> io::Result<()> {
-    if asked.help {
-        return println!(rt; "help");
-    }
-    let name = argument(lines, asked.file).unwrap_or("terms.stipula");
-    let path = format!(in rt.alloc(); "{folder}/{name}")?;
-    match fs::read(rt, path.as_str()) {
-        Ok(text) => begin(rt, asked, argument(lines, asked.pages), name, &text),
-        Err(_) => println!(rt; "desk: {name} can't be read"),
-    }
+// The path of a file in a folder, no longer than so many bytes.
+fn path_of(alloc: Global, folder: &[u8], file: &[u8], most: usize) -> Result<Vec<u8>, AllocError> {
+    let mut path = Vec::new(alloc);
+    path.extend_from_slice(folder)?;
+    path.extend_from_slice(b"/")?;
+    path.extend_from_slice(file)?;
+    path.truncate(most);
+    Ok(path)
 }
 
-fn show(rt: &(impl Alloc + Files + Print), folder: &str) -> io::Result<()> {
-    println!(rt; "== {folder}")?;
-    let path = format!(in rt.alloc(); "{folder}/args")?;
-    let lines = fs::read_to_string(rt, path.as_str())?;
-    match ask(lines.as_str()) {
-        Ok(asked) => start(rt, asked, folder, lines.as_str()),
-        Err(_) => println!(rt; "usage"),
+// What is asked of the contract in a folder. There is room for one byte more than a text may have, so that a longer one is refused. What
+// can't be printed is left out.
+fn start(
+    rt: &(impl AllocGlobal + Files + Print),
+    asked: Asked,
+    folder: &[u8],
+    lines: &[u8],
+) -> Result<(), AllocError> {
+    let name = argument(lines, asked.file).unwrap_or(b"terms.stipula");
+    let out = argument(lines, asked.pages).unwrap_or(&[]);
+    let path = path_of(rt.alloc(), folder, name, CONTRACT_PATH)?;
+    let mut text = [0; Contract::TEXT + 1];
+    let _ = match streams::load(rt, &path, &mut text) {
+        Ok(size) => begin(rt, asked, out, name, tokens::between(&text, 0, size)),
+        Err(_) => print_unread(rt, name),
+    };
+    Ok(())
+}
+
+fn print_unread(rt: &impl Print, name: &[u8]) -> io::Result<()> {
+    print!(rt; "desk: ")?;
+    rt.write_all(name)?;
+    println!(rt; " can't be read")
+}
+
+// What the arguments in a folder ask for; a file of them that can't be read has none.
+fn show(rt: &(impl AllocGlobal + Files + Print), folder: &[u8]) -> Result<(), AllocError> {
+    let path = path_of(rt.alloc(), folder, b"args", PATH)?;
+    let mut lines = vec![in rt.alloc(); 0; ARGUMENTS]?;
+    let size = streams::load(rt, &path, &mut lines).unwrap_or(0);
+    let lines = tokens::between(&lines, 0, size);
+    let _ = print_folder(rt, folder);
+    match ask(lines) {
+        Ok(asked) if asked.help => {
+            let _ = println!(rt; "help");
+        }
+        Ok(asked) => start(rt, asked, folder, lines)?,
+        Err(_) => {
+            let _ = println!(rt; "usage");
+        }
     }
+    Ok(())
+}
+
+fn print_folder(rt: &impl Print, folder: &[u8]) -> io::Result<()> {
+    print!(rt; "== ")?;
+    print_line(rt, folder)
 }
 
 // A question that has words.
@@ -124,17 +175,18 @@ fn show_words(rt: &impl Print, question: u8) -> io::Result<()> {
     println!(rt)
 }
 
-fn show_all_words(rt: &impl Print) -> io::Result<()> {
+fn show_all_words(rt: &impl Print) {
     for question in 0..=u8::MAX {
-        show_words(rt, question)?;
+        let _ = show_words(rt, question);
     }
-    Ok(())
 }
 
 fn main(rt: HostRuntime) -> io::Result<()> {
-    let names = io::read_to_string(rt.alloc(), rt.reader())?;
-    for name in names.as_str().lines() {
-        show(&rt, name)?;
+    let mut names = Vec::new(rt.alloc());
+    rt.reader().take(NAMES).read_to_end(&mut names)?;
+    for line in names.split_inclusive(|b| *b == b'\n') {
+        show(&rt, line_of(line))?;
     }
-    show_all_words(&rt)
+    show_all_words(&rt);
+    Ok(())
 }

@@ -9,6 +9,9 @@ use lines::{Agreement, Call, Line, Request};
 use std::io;
 use std::io::Read;
 
+// The bytes of standard input that are read.
+const INPUT: u64 = 65536;
+
 fn print_call(rt: &impl Print, call: Call, numbers: &[i64]) -> io::Result<()> {
     let Call {
         party,
@@ -48,14 +51,13 @@ fn print_agreement(rt: &impl Print, a: &Agreement) -> io::Result<()> {
     println!(rt)
 }
 
-// What one line asks for.
-fn show(rt: &impl Print, text: &[u8]) -> io::Result<()> {
-    let mut numbers = [0; Line::NUMBERS];
-    match lines::read(text, &mut numbers) {
+// What one line asks for. A call's integers are read into the list that is lent.
+fn show(rt: &impl Print, text: &[u8], numbers: &mut [i64; Line::NUMBERS]) -> io::Result<()> {
+    match lines::read(text, numbers) {
         Err(question) => println!(rt; "refused {}", question.number()),
         Ok(Request::Tick) => println!(rt; "tick"),
         Ok(Request::Jump(clock)) => println!(rt; "jump {clock}"),
-        Ok(Request::Call(call)) => print_call(rt, call, &numbers),
+        Ok(Request::Call(call)) => print_call(rt, call, numbers),
         Ok(Request::Agreement) => match lines::agreement_of(text) {
             Some(a) => print_agreement(rt, &a),
             None => Ok(()),
@@ -65,9 +67,11 @@ fn show(rt: &impl Print, text: &[u8]) -> io::Result<()> {
 
 fn main(rt: HostRuntime) -> io::Result<()> {
     let mut text = Vec::new(rt.alloc());
-    rt.reader().read_to_end(&mut text)?;
+    rt.reader().take(INPUT).read_to_end(&mut text)?;
+    let mut numbers = [0; Line::NUMBERS];
     for line in text.split_inclusive(|b| *b == b'\n') {
-        show(&rt, line.strip_suffix(b"\n").unwrap_or(line))?;
+        // What can't be printed is left out.
+        let _ = show(&rt, line.strip_suffix(b"\n").unwrap_or(line), &mut numbers);
     }
     Ok(())
 }

@@ -7,11 +7,19 @@
 use contract::Contract;
 use pieces::Listing;
 use std::alloc::Global;
-use std::{fs, io};
+use std::io;
+use std::io::Read;
+use std::rt::Files;
 
 mod listing;
 mod pieces;
 mod terms;
+
+// The bytes of standard input that are read.
+const INPUT: u64 = 65536;
+
+// The bytes of a text and of a listing: one more than a text may have, so that a longer one is told; what comes after them is left out.
+const MOST: usize = Contract::TEXT + 1;
 
 // Says whether a text reads as the contract of a table.
 fn read_back(rt: &impl Print, text: &[u8], table: &[u64]) -> io::Result<()> {
@@ -30,8 +38,11 @@ fn list(rt: &impl Print, alloc: Global, table: &[u64]) -> io::Result<()> {
         text: Vec::new(alloc),
     };
     listing.put_contract()?;
-    rt.write_all(&listing.text)?;
-    read_back(rt, &listing.text, table)
+    listing.text.truncate(MOST);
+    // What can't be printed is left out.
+    let _ = rt.write_all(&listing.text);
+    let _ = read_back(rt, &listing.text, table);
+    Ok(())
 }
 
 // Reads a text into a table, and lists its contract.
@@ -39,14 +50,25 @@ fn show(rt: &impl Print, alloc: Global, text: &[u8]) -> io::Result<()> {
     let mut table = [0u64; Contract::TABLE];
     match reader::read(text, &mut table) {
         Ok(()) => list(rt, alloc, &table),
-        Err(_) => println!(rt; "// refused"),
+        Err(_) => {
+            let _ = println!(rt; "// refused");
+            Ok(())
+        }
     }
 }
 
+// Reads the text in a file; a file that can't be read has no byte.
+fn show_file(rt: &(impl AllocGlobal + Files + Print), name: &[u8]) -> io::Result<()> {
+    let mut text = [0; MOST];
+    let size = streams::load(rt, name, &mut text).unwrap_or(0);
+    show(rt, rt.alloc(), &text[..size])
+}
+
 fn main(rt: HostRuntime) -> io::Result<()> {
-    let names = io::read_to_string(rt.alloc(), rt.reader())?;
-    for name in names.as_str().lines() {
-        show(&rt, rt.alloc(), &fs::read(&rt, name)?)?;
+    let mut names = Vec::new(rt.alloc());
+    rt.reader().take(INPUT).read_to_end(&mut names)?;
+    for line in names.split_inclusive(|b| *b == b'\n') {
+        show_file(&rt, line.strip_suffix(b"\n").unwrap_or(line))?;
     }
     Ok(())
 }

@@ -27,12 +27,19 @@ use evaluation::FieldKind;
 use outcomes::Stepped;
 use state::State;
 use std::alloc::{AllocError, Global};
+use std::io::Read;
 use std::{io, iter};
 use trial_states::{Part, Said};
-use trial_text::{first_word, number, number_at, store_line};
+use trial_text::{first_word, integer, number, store_line};
+
+// The bytes of standard input that are read.
+const INPUT: u64 = 65536;
 
 // One word more than a table has.
 const WORDS: usize = Contract::TABLE + 1;
+
+// The most numbers that a list of a line has, and the most parties and fields of an agreement.
+const MOST: usize = 64;
 
 // What the lines so far set up: a table of so many of these words, the words that are kept, and a state.
 // Kept: (d) how many words the table has is set beside them: a line may make it shorter and a later one longer, with the words still there.
@@ -46,20 +53,19 @@ struct Trial {
 
 // ---- the table and the state
 
-// Numbers that rise by the last of the words, at places so far apart.
-fn repeat(numbers: &mut [u64], words: &str) {
-    let step: usize = number_at(words, 1);
-    let add = number_at(words, 4);
-    let places = numbers
-        .iter_mut()
-        .skip(number_at(words, 0))
-        .step_by(step.max(1));
-    let values = iter::successors(
-        Some(number_at(words, 3)),
-        |v: &u64| Some(v.wrapping_add(add)),
-    );
-    for (place, value) in places.zip(values).take(number_at(words, 2)) {
-        *place = value;
+// Numbers that rise by the last number of a text, at places so far apart; a place past the end is left out.
+fn repeat(numbers: &mut [u64], text: &[u8]) {
+    let (at, text) = number(text);
+    let (step, text) = number(text);
+    let (times, text) = number(text);
+    let (first, text) = number(text);
+    let (add, _) = number(text);
+    let places = iter::successors(Some(at), |place: &u64| Some(place.wrapping_add(step)));
+    let values = iter::successors(Some(first), |value: &u64| Some(value.wrapping_add(add)));
+    for (place, value) in places.zip(values).take(times as usize) {
+        if let Some(number) = numbers.get_mut(place as usize) {
+            *number = value;
+        }
     }
 }
 
@@ -72,14 +78,14 @@ struct Parts {
     parts: Vec<usize>,
     spans: Vec<usize>,
     values: Vec<i64>,
-    // What was named last, so that numbers are its own.
-    named: Named,
 }
 
-#[derive(Clone, Copy)]
-enum Named {
-    Party,
-    Field,
+// One more in a list, if there is room.
+fn keep<T: Drop>(list: &mut Vec<T>, item: T) -> Result<(), AllocError> {
+    if list.len() < MOST {
+        list.push(item)?;
+    }
+    Ok(())
 }
 
 impl Parts {
@@ -88,49 +94,88 @@ impl Parts {
             parts: Vec::new(alloc),
             spans: Vec::new(alloc),
             values: Vec::new(alloc),
-            named: Named::Field,
         }
     }
 
-    // A word of the line, from its first byte up to, not including, its end.
-    fn add(&mut self, word: &str, start: usize, end: usize) -> Result<(), AllocError> {
-        let name = start.saturating_add(1);
-        match (word.as_bytes(), self.named) {
-            ([b'@', ..], _) => {
-                self.named = Named::Party;
-                self.parts.extend_from_slice(&[name, end])?;
-            }
-            ([b':' | b'?', ..], _) => {
-                self.named = Named::Field;
-                self.spans.extend_from_slice(&[name, end])?;
-            }
-            (_, Named::Party) => self.parts.push(number(word))?,
-            (_, Named::Field) => self.values.push(number(word))?,
+    // A party's name from its first byte up to, not including, its end, and then its verb and how many fields it has. Answers what stands
+    // behind them.
+    fn add_party<'a>(
+        &mut self,
+        start: usize,
+        end: usize,
+        text: &'a [u8],
+    ) -> Result<&'a [u8], AllocError> {
+        let (verb, text) = number(text);
+        let (fields, text) = number(text);
+        for part in [start, end, verb as usize, fields as usize] {
+            keep(&mut self.parts, part)?;
         }
-        Ok(())
+        Ok(text)
+    }
+
+    fn add_field(&mut self, start: usize, end: usize) -> Result<(), AllocError> {
+        keep(&mut self.spans, start)?;
+        keep(&mut self.spans, end)
+    }
+
+    // What a mark of the line opens, whose name starts at a place, and the text from there on. Answers what stands behind it.
+    fn add<'a>(&mut self, mark: u8, start: usize, text: &'a [u8]) -> Result<&'a [u8], AllocError> {
+        let (name, text) = first_word(text);
+        let end = start.saturating_add(name.len());
+        match mark {
+            b'@' => self.add_party(start, end, text),
+            b':' => {
+                self.add_field(start, end)?;
+                let (value, text) = integer(text);
+                keep(&mut self.values, value)?;
+                Ok(text)
+            }
+            _ => {
+                self.add_field(start, end)?;
+                Ok(text)
+            }
+        }
     }
 }
 
-// The parts that a line names after its letter and its room.
-// Kept: (d) the place of a word is the sum of the words before it: an iterator of words with their places would carry the same sum.
-fn parts_of(alloc: Global, line: &str) -> Result<Parts, AllocError> {
+// The parts that a line names in the text at its end.
+fn parts_of(alloc: Global, line: &[u8], text: &[u8]) -> Result<Parts, AllocError> {
     let mut p = Parts::none(alloc);
-    let mut start = 0usize;
-    for (i, word) in line.split(' ').enumerate() {
-        let end = start.saturating_add(word.len());
-        if 2 <= i {
-            p.add(word, start, end)?;
-        }
-        start = end.saturating_add(1);
+    let mut more = text;
+    for _ in 0..MOST {
+        let [mark, name @ ..] = more else {
+            break;
+        };
+        more = p.add(*mark, line.len().saturating_sub(name.len()), name)?;
     }
     Ok(p)
 }
 
-fn integers(alloc: Global, words: &str) -> Result<Vec<i64>, AllocError> {
-    words.split_whitespace().map(number).collect(alloc)
+// The integers of a text up to a slash, and what stands behind it.
+fn integers(alloc: Global, text: &[u8]) -> Result<(Vec<i64>, &[u8]), AllocError> {
+    let mut list = Vec::new(alloc);
+    let mut more = text;
+    for _ in 0..MOST {
+        match more {
+            [] => break,
+            [b'/', behind @ ..] => return Ok((list, behind)),
+            _ => {
+                let (value, behind) = integer(more);
+                list.push(value)?;
+                more = behind;
+            }
+        }
+    }
+    Ok((list, more))
 }
 
 // ---- printing
+
+// A line as it is.
+fn print_line(rt: &impl Print, line: &[u8]) -> io::Result<()> {
+    rt.write_all(line)?;
+    println!(rt)
+}
 
 fn print_field(rt: &impl Print, kind: u8, number: i64, text: u8) -> io::Result<()> {
     match kind {
@@ -179,8 +224,9 @@ fn print_labels(rt: &impl Print, r: &Stepped) -> io::Result<()> {
     Ok(())
 }
 
-fn print_step(rt: &impl Print, line: &str, table: &[u64], r: &Stepped) -> io::Result<()> {
-    print!(rt; "{line}: {}", Said(r.outcome))?;
+fn print_step(rt: &impl Print, line: &[u8], table: &[u64], r: &Stepped) -> io::Result<()> {
+    rt.write_all(line)?;
+    print!(rt; ": {}", Said(r.outcome))?;
     print_state(rt, table, &r.state)?;
     print_labels(rt, r)
 }
@@ -192,13 +238,19 @@ impl Trial {
         self.all.as_slice().get(..self.words).unwrap_or(&[])
     }
 
-    fn agree(&self, alloc: Global, room: usize, line: &str) -> Result<Stepped, AllocError> {
-        let p = parts_of(alloc, line)?;
+    fn agree(
+        &self,
+        alloc: Global,
+        room: usize,
+        line: &[u8],
+        text: &[u8],
+    ) -> Result<Stepped, AllocError> {
+        let p = parts_of(alloc, line, text)?;
         Ok(machine::agree(
             self.table(),
             self.state,
             room,
-            line.as_bytes(),
+            line,
             &p.parts,
             &p.spans,
             &p.values,
@@ -206,92 +258,122 @@ impl Trial {
     }
 
     // The caller, the function and the values, and the assets behind a slash.
-    fn call(&self, alloc: Global, room: usize, words: &str) -> Result<Stepped, AllocError> {
-        let (names, assets) = words.split_once('/').unwrap_or((words, ""));
-        let (caller, names) = first_word(names);
-        let (function, values) = first_word(names);
+    fn call(&self, alloc: Global, room: usize, text: &[u8]) -> Result<Stepped, AllocError> {
+        let (caller, text) = first_word(text);
+        let (function, text) = first_word(text);
+        let (values, text) = integers(alloc, text)?;
+        let (assets, _) = integers(alloc, text)?;
         Ok(machine::call(
             self.table(),
             self.state,
             room,
-            caller.as_bytes(),
-            function.as_bytes(),
-            &integers(alloc, values)?,
-            &integers(alloc, assets)?,
+            caller,
+            function,
+            &values,
+            &assets,
         ))
     }
 
-    // The step that a line asks for by its letter, its room and the words after it; none where its letter is no step's.
+    // The step that a line asks for by its letter, its room and the text after it; none where its letter is no step's.
     fn step(
         &self,
         alloc: Global,
-        kind: &str,
-        words: &str,
-        line: &str,
+        kind: u8,
+        text: &[u8],
+        line: &[u8],
     ) -> Result<Option<Stepped>, AllocError> {
-        let (room, rest) = first_word(words);
-        let room = number(room);
+        let (room, text) = number(text);
+        let room = room as usize;
         Ok(Some(match kind {
-            "a" => self.agree(alloc, room, line)?,
-            "c" => self.call(alloc, room, rest)?,
-            "e" => machine::fire(self.table(), self.state, room),
-            "j" => machine::jump(self.table(), self.state, room, number(rest)),
-            "t" => machine::tick(self.table(), self.state, room),
+            b'a' => self.agree(alloc, room, line, text)?,
+            b'c' => self.call(alloc, room, text)?,
+            b'e' => machine::fire(self.table(), self.state, room),
+            b'j' => machine::jump(self.table(), self.state, room, integer(text).0),
+            b't' => machine::tick(self.table(), self.state, room),
             _ => return Ok(None),
         }))
     }
 
-    // What a line says of the table or the state.
-    fn set_up(&mut self, kind: &str, rest: &str) -> Result<(), AllocError> {
+    // What a line says of the table.
+    fn set_table(&mut self, kind: u8, text: &[u8]) -> Result<(), AllocError> {
         match kind {
-            "w" => store_line(&mut self.all, rest),
-            "r" => repeat(&mut self.all, rest),
-            "l" => self.words = number_at(rest, 0),
-            "k" => self.kept = self.all.clone()?,
-            "b" => self.all = self.kept.clone()?,
-            "f" => self.state = State::fresh(number_at(rest, 0)),
-            "s" => self.state = Part::put_named(rest, self.state),
+            b'w' => store_line(&mut self.all, text),
+            b'r' => repeat(&mut self.all, text),
+            b'l' => self.words = number(text).0 as usize,
+            b'k' => self.kept = self.all.clone()?,
+            b'b' => self.all = self.kept.clone()?,
             _ => {}
         }
         Ok(())
     }
 
-    // Whether the table passes, after its name.
-    fn ask(&self, rt: &impl Print, name: &str) -> io::Result<()> {
-        if tables::table_passes(self.table()) {
-            println!(rt; "{name}: passes")
-        } else {
-            println!(rt; "{name}: refused")
+    // What a line says of the state.
+    fn set_state(&mut self, kind: u8, text: &[u8]) {
+        match kind {
+            b'f' => self.state = State::fresh(number(text).0),
+            b's' => self.state = Part::put_named(text, self.state),
+            _ => {}
         }
     }
 
-    fn take(&mut self, rt: &(impl Print + AllocGlobal), line: &str) -> io::Result<()> {
-        let (kind, words) = first_word(line);
-        match kind {
-            "#" => println!(rt; "{line}")?,
-            "p" => self.ask(rt, words)?,
-            _ => match self.step(rt.alloc(), kind, words, line)? {
-                Some(stepped) => {
-                    print_step(rt, line, self.table(), &stepped)?;
-                    self.state = stepped.state;
-                }
-                None => self.set_up(kind, words)?,
-            },
+    // Whether the table passes, after its name.
+    fn ask(&self, rt: &impl Print, name: &[u8]) -> io::Result<()> {
+        rt.write_all(name)?;
+        if tables::table_passes(self.table()) {
+            println!(rt; ": passes")
+        } else {
+            println!(rt; ": refused")
+        }
+    }
+
+    // A step, a part of the state, or what is only printed. What can't be printed is left out.
+    fn take_step(
+        &mut self,
+        rt: &(impl Print + AllocGlobal),
+        kind: u8,
+        text: &[u8],
+        line: &[u8],
+    ) -> Result<(), AllocError> {
+        if let Some(stepped) = self.step(rt.alloc(), kind, text, line)? {
+            let _ = print_step(rt, line, self.table(), &stepped);
+            self.state = stepped.state;
+            return Ok(());
+        }
+        let _ = match kind {
+            b'#' => print_line(rt, line),
+            b'p' if 2 <= line.len() => self.ask(rt, text),
+            _ => Ok(()),
+        };
+        self.set_state(kind, text);
+        Ok(())
+    }
+
+    // A line: its letter, and a text from its third byte on. With more words than there are, the table is no slice of them, and only lines of
+    // the table are taken.
+    fn take(&mut self, rt: &(impl Print + AllocGlobal), line: &[u8]) -> Result<(), AllocError> {
+        let [kind, rest @ ..] = line else {
+            return Ok(());
+        };
+        let text = rest.get(1..).unwrap_or(&[]);
+        self.set_table(*kind, text)?;
+        if self.words <= WORDS {
+            self.take_step(rt, *kind, text, line)?;
         }
         Ok(())
     }
 }
 
 fn main(rt: HostRuntime) -> io::Result<()> {
-    let text = io::read_to_string(rt.alloc(), rt.reader())?;
+    let mut text = Vec::new(rt.alloc());
+    rt.reader().take(INPUT).read_to_end(&mut text)?;
     let mut trial = Trial {
         all: vec![in rt.alloc(); 0; WORDS]?,
         words: Contract::TABLE,
         kept: vec![in rt.alloc(); 0; WORDS]?,
         state: State::fresh(0),
     };
-    for line in text.as_str().lines() {
-        trial.take(&rt, line)?;
+    for line in text.split_inclusive(|b| *b == b'\n') {
+        trial.take(&rt, line.strip_suffix(b"\n").unwrap_or(line))?;
     }
     Ok(())
 }

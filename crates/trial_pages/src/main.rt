@@ -19,9 +19,13 @@ use contract::Contract;
 use pages::{Gathered, Sheet};
 use questions::Question;
 use results::Report;
+use std::io;
+use std::io::Read;
 use std::rt::Files;
-use std::{array, fs, io};
-use trial_text::{first_word, number_at, rest_word};
+use trial_text::{number, rest_word, store};
+
+// The bytes of standard input that are read.
+const INPUT: u64 = 65536;
 
 // The entries that there is room for, and the bytes that there are for a buffer.
 const ENTRIES: usize = 130;
@@ -68,6 +72,12 @@ fn make_value(i: u64) -> i64 {
 
 // ---- pages
 
+// A line as it is.
+fn print_line(rt: &impl Print, line: &[u8]) -> io::Result<()> {
+    rt.write_all(line)?;
+    println!(rt)
+}
+
 fn show(rt: &impl Print, answer: Result<(), Question>, buffer: &[u8]) -> io::Result<()> {
     match answer {
         Ok(()) => {
@@ -85,10 +95,11 @@ fn show(rt: &impl Print, answer: Result<(), Question>, buffer: &[u8]) -> io::Res
 // ---- what the lines say
 
 impl Trial {
-    fn read_terms(&mut self, rt: &(impl Files + AllocGlobal)) -> io::Result<()> {
-        let text = fs::read(rt, "terms.stipula")?;
-        let _ = reader::read(&text, &mut self.table);
-        Ok(())
+    // The terms of a file that can't be read are an empty text.
+    fn read_terms(&mut self, rt: &impl Files) {
+        let mut text = [0; Contract::TEXT + 1];
+        let size = streams::load(rt, b"terms.stipula", &mut text).unwrap_or(0);
+        let _ = reader::read(&text[..size], &mut self.table);
     }
 
     // The first entries are given.
@@ -120,10 +131,11 @@ impl Trial {
         }
     }
 
-    // A result line, by its four numbers and its integer.
-    fn gather(&mut self, rt: &impl Print, words: &str) -> io::Result<()> {
-        let report: [u64; Report::WORDS] = array::from_fn(|k| number_at(words, k));
-        let integers = [number_at(words, Report::WORDS)];
+    // A result line, by its four numbers and its integer. As many payouts as there is room for are not given.
+    fn gather(&mut self, rt: &impl Print, text: &[u8]) -> io::Result<()> {
+        let mut report = [0; Report::WORDS + 1];
+        store(&mut report, 0, text);
+        let integers = [0i64.saturating_add_unsigned(report[Report::WORDS])];
         self.gathered = self.gathered.gather(
             &report,
             &integers,
@@ -132,9 +144,10 @@ impl Trial {
             &mut self.values,
         );
         let count = self.gathered.count;
-        println!(rt; "{count}")?;
-        self.give(count);
-        Ok(())
+        if count < ENTRIES {
+            self.give(count);
+        }
+        println!(rt; "{count}")
     }
 
     // Kept: (a) trial_results lends a buffer in the same way: one function for both would be public in `trial_text`, and require that its
@@ -152,39 +165,52 @@ impl Trial {
     }
 
     // A line with up to three numbers.
-    fn take_numbers(&mut self, rt: &impl Print, kind: &str, words: &str) -> io::Result<()> {
-        let first = number_at(words, 0);
+    fn take_numbers(&mut self, rt: &impl Print, kind: u8, text: &[u8]) -> io::Result<()> {
+        let (first, text) = number(text);
+        let (second, text) = number(text);
+        let (third, _) = number(text);
+        let place = first as usize;
         match kind {
-            "b" => self.size = first,
-            "e" => self.make_entries(first),
-            "k" => self.change_number(first, number_at(words, 1), number_at(words, 2)),
-            "v" => self.change_value(first, number_at(words, 1)),
-            "m" => self.change_value(first, -1 - number_at::<i64>(words, 1)),
-            "n" => {
-                self.numbers_given = first;
-                self.values_given = number_at(words, 1);
+            b'b' => self.size = place,
+            b'e' => self.make_entries(place),
+            b'k' => self.change_number(place, second as usize, third),
+            b'v' => self.change_value(place, 0i64.saturating_add_unsigned(second)),
+            b'm' => self.change_value(place, (-1i64).saturating_sub_unsigned(second)),
+            b'n' => {
+                self.numbers_given = place;
+                self.values_given = second as usize;
             }
-            "p" => self.ask(rt, first)?,
+            b'p' => self.ask(rt, place)?,
             _ => {}
         }
         Ok(())
     }
 
-    fn take(&mut self, rt: &(impl Files + Print + AllocGlobal), line: &str) -> io::Result<()> {
-        println!(rt; "{line}")?;
-        let (kind, words) = first_word(line);
-        match kind {
-            "t" => self.read_terms(rt)?,
-            "s" => self.gathered = Gathered::nothing(),
-            "g" => self.gather(rt, words)?,
-            _ => self.take_numbers(rt, kind, words)?,
-        }
-        Ok(())
+    // A line: its letter, and a text from its third byte on. What can't be printed is left out.
+    fn take(&mut self, rt: &(impl Files + Print), line: &[u8]) {
+        let _ = print_line(rt, line);
+        let [kind, rest @ ..] = line else {
+            return;
+        };
+        let text = rest.get(1..).unwrap_or(&[]);
+        let _ = match kind {
+            b't' => {
+                self.read_terms(rt);
+                Ok(())
+            }
+            b's' => {
+                self.gathered = Gathered::nothing();
+                Ok(())
+            }
+            b'g' => self.gather(rt, text),
+            _ => self.take_numbers(rt, *kind, text),
+        };
     }
 }
 
 fn main(rt: HostRuntime) -> io::Result<()> {
-    let text = io::read_to_string(rt.alloc(), rt.reader())?;
+    let mut text = Vec::new(rt.alloc());
+    rt.reader().take(INPUT).read_to_end(&mut text)?;
     let mut trial = Trial {
         table: vec![in rt.alloc(); 0; Contract::TABLE]?,
         size: ROOM,
@@ -194,8 +220,8 @@ fn main(rt: HostRuntime) -> io::Result<()> {
         values_given: 0,
         gathered: Gathered::nothing(),
     };
-    for line in text.as_str().lines() {
-        trial.take(&rt, line)?;
+    for line in text.split_inclusive(|b| *b == b'\n') {
+        trial.take(&rt, line.strip_suffix(b"\n").unwrap_or(line));
     }
     Ok(())
 }

@@ -1,6 +1,6 @@
 // Result lines. Lines of standard input, numbers with one space between them:
 //   w AT V V ..          words of the table from AT on
-//   b SIZE               the buffer has so many bytes, at most 640, each a dot before a line is written
+//   b SIZE               the buffer has so many bytes, at most 200, each a dot before a line is written
 //   r RULE STATE CLOCK   a rule, and the state and the clock after it
 //   s KIND PARTY VALUE GROUP, m KIND PARTY N GROUP
 //                        a label, one of the value -1 - N; of group 0 where none is given
@@ -8,7 +8,7 @@
 //   q NUMBER             a refusal
 //   f NUMBER             a failed firing
 //   t NUMBER PLACE       the refusal of a text
-//   l MANY N N ..        so many reports as numbers, four each, at once; their integers are 3, -1250, 0 and 7
+//   l MANY N N ..        so many reports as numbers, four each, at once; their integers are 3, -1250, 0 and 7, and the buffer has at most 640 bytes
 //   # ..                 print the line
 // A report prints its line, then how many bytes were written, those bytes, and whether the others are still dots; or the number
 // that refused, and whether all are. Reports at once also print how many were written.
@@ -20,10 +20,14 @@ use contract::Contract;
 use questions::Question;
 use results::{Batch, Report};
 use std::io;
-use trial_text::{first_word, number_at, rest_word, store, store_line};
+use std::io::Read;
+use trial_text::{number, rest_word, store, store_line};
 
-// The bytes that there are for a buffer, and the reports at once that there are numbers for.
-const ROOM: usize = 640;
+// The bytes of standard input that are read.
+const INPUT: u64 = 65536;
+
+// The most bytes of the buffer for one report, and the reports at once that there are numbers and a buffer for.
+const ROOM: usize = 200;
 
 const MANY: usize = 5;
 
@@ -32,6 +36,17 @@ const MANY: usize = 5;
 struct Trial {
     table: Vec<u64>,
     size: usize,
+}
+
+// The number of a byte; the greatest where it does not fit.
+fn byte(n: u64) -> u8 {
+    u8::try_from(n).unwrap_or(u8::MAX)
+}
+
+// A line as it is.
+fn print_line(rt: &impl Print, line: &[u8]) -> io::Result<()> {
+    rt.write_all(line)?;
+    println!(rt)
 }
 
 // ---- what came of a report
@@ -60,27 +75,32 @@ fn show_batch(rt: &impl Print, answer: Result<Batch, Question>, buffer: &[u8]) -
 // ---- what the lines say
 
 impl Trial {
-    // Lends the buffer, and shows what `write` answers and left there.
+    // Lends the buffer, which has at most so many bytes, and shows what `write` answers and left there.
     // Kept: (a) trial_pages lends a buffer in the same way: one function for both would be public in `trial_text`, and require that its
     // closures may be called.
     fn ask<T, W: FnOnce(&mut [u8]) -> T, S: FnOnce(T, &[u8]) -> io::Result<()>>(
         &self,
+        most: usize,
         write: W,
         show: S,
     ) -> io::Result<()>
         requires write { W.IsAlwaysCallable write }
         requires show { S.IsAlwaysCallable show }
     {
-        let mut buffer = [b'.'; ROOM];
+        let mut bytes = [b'.'; MANY * Report::ROOM];
+        let Some(buffer) = bytes.get_mut(..most) else {
+            return Ok(());
+        };
         let Some(part) = buffer.get_mut(..self.size) else {
             return Ok(());
         };
         let answer = write(part);
-        show(answer, &buffer)
+        show(answer, buffer)
     }
 
     fn write(&self, rt: &impl Print, report: Report) -> io::Result<()> {
         self.ask(
+            ROOM,
             |part| results::write(&self.table, report, part),
             |answer, buffer| show(rt, answer, buffer),
         )
@@ -88,74 +108,89 @@ impl Trial {
 
     fn write_refusal(&self, rt: &impl Print, question: u8, place: usize) -> io::Result<()> {
         self.ask(
+            ROOM,
             |part| results::write_text_refusal(question, place, part),
             |answer, buffer| show(rt, answer, buffer),
         )
     }
 
-    fn write_batch(&self, rt: &impl Print, words: &str) -> io::Result<()> {
-        let many = number_at(words, 0);
+    fn write_batch(&self, rt: &impl Print, text: &[u8]) -> io::Result<()> {
+        let (many, reports) = number(text);
+        let many = many as usize;
         let mut numbers = [0u64; MANY * Report::WORDS];
-        if let Some((_, reports)) = words.split_once(' ') {
-            store(&mut numbers, 0, reports);
-        }
+        store(&mut numbers, 0, reports);
         self.ask(
+            MANY * Report::ROOM,
             |part| results::write_batch(&self.table, &numbers, &[3, -1250, 0, 7], 0, many, part),
             |answer, buffer| show_batch(rt, answer, buffer),
         )
     }
 
     // A report of up to four numbers, or many at once.
-    fn report(&self, rt: &impl Print, kind: &str, words: &str) -> io::Result<()> {
+    fn report(&self, rt: &impl Print, kind: u8, text: &[u8]) -> io::Result<()> {
+        let (first, more) = number(text);
+        let (second, more) = number(more);
         match kind {
-            "q" => self.write(rt, Report::Refused(number_at(words, 0))),
-            "f" => self.write(rt, Report::Failed(number_at(words, 0))),
-            "h" => self.write(rt, Report::Held(number_at(words, 0), number_at(words, 1))),
-            "t" => self.write_refusal(rt, number_at(words, 0), number_at(words, 1)),
-            "l" => self.write_batch(rt, words),
-            _ => self.report_of_more(rt, kind, words),
+            b'q' => self.write(rt, Report::Refused(byte(first))),
+            b'f' => self.write(rt, Report::Failed(byte(first))),
+            b'h' => self.write(rt, Report::Held(first as usize, second)),
+            b't' => self.write_refusal(rt, byte(first), second as usize),
+            b'l' => self.write_batch(rt, text),
+            _ => self.report_of_more(rt, kind, byte(first), second as usize, more),
         }
     }
 
-    fn report_of_more(&self, rt: &impl Print, kind: &str, words: &str) -> io::Result<()> {
-        let first = number_at(words, 0);
-        let second = number_at(words, 1);
+    fn report_of_more(
+        &self,
+        rt: &impl Print,
+        kind: u8,
+        first: u8,
+        second: usize,
+        text: &[u8],
+    ) -> io::Result<()> {
+        let (third, more) = number(text);
+        let (group, _) = number(more);
         match kind {
-            "r" => self.write(rt, Report::Ruled(first, second, number_at(words, 2))),
-            "s" => self.write(
-                rt,
-                Report::Sent(first, second, number_at(words, 2), number_at(words, 3)),
-            ),
-            "m" => {
-                let value = -1 - number_at::<i64>(words, 2);
-                self.write(rt, Report::Sent(first, second, value, number_at(words, 3)))
+            b'r' => self.write(rt, Report::Ruled(first, second, third)),
+            b's' => {
+                let value = 0i64.saturating_add_unsigned(third);
+                self.write(rt, Report::Sent(first, second, value, group))
+            }
+            b'm' => {
+                let value = (-1i64).saturating_sub_unsigned(third);
+                self.write(rt, Report::Sent(first, second, value, group))
             }
             _ => Ok(()),
         }
     }
 
-    fn take(&mut self, rt: &impl Print, line: &str) -> io::Result<()> {
-        let (kind, words) = first_word(line);
-        if kind == "w" {
-            store_line(&mut self.table, words);
-            return Ok(());
+    // A line: its letter, and a text from its third byte on. What can't be printed is left out.
+    fn take(&mut self, rt: &impl Print, line: &[u8]) {
+        let [kind, rest @ ..] = line else {
+            return;
+        };
+        let text = rest.get(1..).unwrap_or(&[]);
+        if *kind == b'w' {
+            store_line(&mut self.table, text);
+            return;
         }
-        println!(rt; "{line}")?;
-        if kind == "b" {
-            self.size = number_at(words, 0);
+        let _ = print_line(rt, line);
+        if *kind == b'b' {
+            self.size = number(text).0 as usize;
         }
-        self.report(rt, kind, words)
+        let _ = self.report(rt, *kind, text);
     }
 }
 
 fn main(rt: HostRuntime) -> io::Result<()> {
-    let text = io::read_to_string(rt.alloc(), rt.reader())?;
+    let mut text = Vec::new(rt.alloc());
+    rt.reader().take(INPUT).read_to_end(&mut text)?;
     let mut trial = Trial {
         table: vec![in rt.alloc(); 0; Contract::TABLE]?,
         size: Report::ROOM,
     };
-    for line in text.as_str().lines() {
-        trial.take(&rt, line)?;
+    for line in text.split_inclusive(|b| *b == b'\n') {
+        trial.take(&rt, line.strip_suffix(b"\n").unwrap_or(line));
     }
     Ok(())
 }

@@ -9,14 +9,24 @@ use reading::Refusal;
 use results::Report;
 use state::State;
 use std::alloc::{AllocError, Global};
+use std::io;
 use std::io::Read;
 use std::rt::Files;
-use std::{fs, io};
 
 // The bytes of a session that are read at once, and the result lines that are told at once.
 const BLOCK: usize = 65536;
 
 const LINES: usize = 1024;
+
+// The bytes of the folders' names that are read, and of a path; what has no room in a path is left out.
+const NAMES: u64 = 8192;
+
+const PATH: usize = 128;
+
+// What can't be printed is left out.
+fn print(rt: &impl Print, bytes: &[u8]) {
+    let _ = rt.write_all(bytes);
+}
 
 // ---- a session
 
@@ -52,7 +62,7 @@ impl<'a> Session<'a> {
     }
 
     // Prints the first of the result lines that are given as numbers. There are 128 bytes for each, and no line is longer.
-    fn print_lines(&mut self, rt: &impl Print, many: usize) -> io::Result<()> {
+    fn print_lines(&mut self, rt: &impl Print, many: usize) {
         let batch = results::write_batch(
             self.table,
             &self.numbers,
@@ -62,16 +72,16 @@ impl<'a> Session<'a> {
             &mut self.out,
         );
         let used = batch.map_or(0, |lines| lines.used);
-        rt.write_all(tokens::between(&self.out, 0, used))
+        print(rt, tokens::between(&self.out, 0, used));
     }
 
-    // What is left of the last line comes to the front, and bytes of the file after it; at the file's end that line ends. The last byte
-    // stays free.
-    fn read_more(&mut self, file: &mut impl Read) -> io::Result<()> {
+    // What is left of the last line comes to the front, and bytes of the file after it; at the file's end, and where it can't be read, that
+    // line ends. The last byte stays free.
+    fn read_more(&mut self, file: &mut impl Read) {
         let kept = desk_lines::bring(&mut self.bytes, self.at, self.size);
         let last = self.bytes.len().saturating_sub(1);
         let n = match self.bytes.as_mut_slice().get_mut(kept..last) {
-            Some(room) => streams::get(file, room)?,
+            Some(room) => streams::get(file, room).unwrap_or(0),
             None => 0,
         };
         self.at = 0;
@@ -80,12 +90,11 @@ impl<'a> Session<'a> {
         } else {
             desk_lines::past(kept, n, last)
         };
-        Ok(())
     }
 
     // Takes lines of the bytes that are read, and fires events that are due. Answers whether there is more to do with these bytes, or the
     // session is over.
-    fn turn(&mut self, rt: &impl Print, file: &mut impl Read) -> io::Result<bool> {
+    fn turn(&mut self, rt: &impl Print, file: &mut impl Read) -> bool {
         let input = tokens::between(&self.bytes, self.at, self.size);
         let Ok(played) = machine::play(
             self.table,
@@ -94,64 +103,86 @@ impl<'a> Session<'a> {
             &mut self.numbers,
             &mut self.integers,
         ) else {
-            return Ok(false);
+            return false;
         };
-        self.print_lines(rt, played.many)?;
+        self.print_lines(rt, played.many);
         self.state = played.state;
         self.at = desk_lines::past(self.at, played.used, self.size);
         if played.many != 0 {
-            return Ok(true);
+            return true;
         }
-        self.read_more(file)?;
-        Ok(self.size != 0)
+        self.read_more(file);
+        self.size != 0
     }
 
     // The session in a file, then what each asset holds.
-    fn run(&mut self, rt: &impl Print, file: &mut impl Read) -> io::Result<()> {
+    fn run(&mut self, rt: &impl Print, file: &mut impl Read) {
         // A file may have no end, and a loop has to be shown to end: so many turns as 64 bits count.
         for _ in 0..u64::MAX {
-            if !self.turn(rt, file)? {
+            if !self.turn(rt, file) {
                 break;
             }
         }
         let assets = desk_lines::held(self.table, self.state, &mut self.numbers);
-        self.print_lines(rt, assets)
+        self.print_lines(rt, assets);
     }
 }
 
 // A refused text.
-fn refuse(rt: &impl Print, refusal: Refusal) -> io::Result<()> {
+fn refuse(rt: &impl Print, refusal: Refusal) {
     let number = refusal.question.number();
     let mut out = [0u8; Report::ROOM];
-    match results::write_text_refusal(number, refusal.place, &mut out) {
-        Ok(n) => rt.write_all(tokens::between(&out, 0, n)),
-        Err(_) => Ok(()),
+    if let Ok(n) = results::write_text_refusal(number, refusal.place, &mut out) {
+        print(rt, tokens::between(&out, 0, n));
     }
 }
 
 // The contract's text, then the session in a file.
-fn begin(rt: &(impl Print + AllocGlobal), text: &[u8], file: &mut impl Read) -> io::Result<()> {
+fn begin(
+    rt: &(impl Print + AllocGlobal),
+    text: &[u8],
+    file: &mut impl Read,
+) -> Result<(), AllocError> {
     let mut table = [0; Contract::TABLE];
     match reader::read(text, &mut table) {
         Err(refusal) => refuse(rt, refusal),
         Ok(()) => Session::new(rt.alloc(), &table)?.run(rt, file),
     }
+    Ok(())
 }
 
 // ---- the trial
 
-// The folder's `terms.stipula` and its `session`.
-fn play(rt: &(impl Files + Print + AllocGlobal), folder: &str) -> io::Result<()> {
-    println!(rt; "== {folder}")?;
-    let text = fs::read(rt, format!(in rt.alloc(); "{folder}/terms.stipula")?)?;
-    let mut session = fs::open(rt, format!(in rt.alloc(); "{folder}/session")?)?;
-    begin(rt, &text, &mut session)
+// The path of a file in a folder.
+fn path_of(alloc: Global, folder: &[u8], file: &[u8]) -> Result<Vec<u8>, AllocError> {
+    let mut path = Vec::new(alloc);
+    path.extend_from_slice(folder)?;
+    path.extend_from_slice(file)?;
+    path.truncate(PATH);
+    Ok(path)
+}
+
+// The folder's `terms.stipula` and its `session`; a file that can't be read has no byte.
+fn play(rt: &(impl Files + Print + AllocGlobal), folder: &[u8]) -> Result<(), AllocError> {
+    let terms = path_of(rt.alloc(), folder, b"/terms.stipula")?;
+    let session = path_of(rt.alloc(), folder, b"/session")?;
+    let mut text = [0; Contract::TEXT + 1];
+    let size = streams::load(rt, &terms, &mut text).unwrap_or(0);
+    let session = streams::open(rt, &session);
+    print(rt, b"== ");
+    print(rt, folder);
+    print(rt, b"\n");
+    match session {
+        Ok(mut file) => begin(rt, &text[..size], &mut file),
+        Err(_) => begin(rt, &text[..size], &mut io::empty()),
+    }
 }
 
 fn main(rt: HostRuntime) -> io::Result<()> {
-    let folders = io::read_to_string(rt.alloc(), rt.reader())?;
-    for folder in folders.as_str().lines() {
-        play(&rt, folder)?;
+    let mut folders = Vec::new(rt.alloc());
+    rt.reader().take(NAMES).read_to_end(&mut folders)?;
+    for line in folders.split_inclusive(|b| *b == b'\n') {
+        play(&rt, line.strip_suffix(b"\n").unwrap_or(line))?;
     }
     Ok(())
 }

@@ -1,10 +1,9 @@
 //! A part of a state, read from a case and set.
-ghost use Rattle.std.specs.Prelude.{◌≡◌};
-ghost use Rattle.trial_states.specs.Parts.{head_of, field_of, asset_of, event_of};
+ghost use Rattle.std.specs.Prelude.{◌≡◌, ◌%◌};
+ghost use Rattle.trial_states.specs.Parts.{four_naturals, head_of, field_of, asset_of, event_of};
 
 use state::{Pending, State};
-use std::str::FromStr;
-use trial_text::number_at;
+use trial_text::number;
 
 /// A part of a state that a case sets, in range or not.
 #[derive(Clone, Copy)]
@@ -36,76 +35,88 @@ pub enum Part {
     },
 }
 
-/// A text that names no part.
-#[derive(Clone, Copy)]
-pub struct NoPart;
-
-// A part of each kind, by the numbers of a text's words after the first.
-fn head_of(s: &str) -> Part
-    ensures { result ≡ head_of s.now }
+// The first four numbers of a text.
+fn four_numbers(text: &[u8]) -> [u64; 4]
+    ensures { result ≡ four_naturals text.now }
 {
+    let (first, text) = number(text);
+    let (second, text) = number(text);
+    let (third, text) = number(text);
+    let (fourth, _) = number(text);
+    [first, second, third, fourth]
+}
+
+// The lowest eight bits of a number.
+fn low_byte(n: u64) -> u8
+    ensures { result ≡ n % 256 }
+{
+    (n % 256) as u8
+}
+
+// A part of each kind, by the numbers of a text.
+fn head_of(text: &[u8]) -> Part
+    ensures { result ≡ head_of text.now }
+{
+    let [agreed, state, clock, pending] = four_numbers(text);
     Part::Head {
-        agreed: number_at::<u64>(s, 1) != 0,
-        state: number_at(s, 2),
-        clock: number_at(s, 3),
-        pending: number_at(s, 4),
+        agreed: agreed != 0,
+        state: state as usize,
+        clock,
+        pending: pending as usize,
     }
 }
 
-fn field_of(s: &str) -> Part
-    ensures { result ≡ field_of s.now }
+fn field_of(text: &[u8]) -> Part
+    ensures { result ≡ field_of text.now }
 {
+    let [at, kind, number, text] = four_numbers(text);
     Part::Field {
-        at: number_at(s, 1),
-        kind: number_at(s, 2),
-        number: number_at(s, 3),
-        text: number_at(s, 4),
+        at: at as usize,
+        kind: low_byte(kind),
+        number: 0i64.saturating_add_unsigned(number),
+        text: low_byte(text),
     }
 }
 
-fn asset_of(s: &str) -> Part
-    ensures { result ≡ asset_of s.now }
+fn asset_of(text: &[u8]) -> Part
+    ensures { result ≡ asset_of text.now }
 {
+    let [at, amount, ..] = four_numbers(text);
     Part::Asset {
-        at: number_at(s, 1),
-        amount: number_at(s, 2),
+        at: at as usize,
+        amount,
     }
 }
 
-fn event_of(s: &str) -> Part
-    ensures { result ≡ event_of s.now }
+fn event_of(text: &[u8]) -> Part
+    ensures { result ≡ event_of text.now }
 {
+    let [at, function, event, time] = four_numbers(text);
     Part::Event {
-        at: number_at(s, 1),
+        at: at as usize,
         event: Pending {
-            function: number_at(s, 2),
-            event: number_at(s, 3),
-            time: number_at(s, 4),
+            function: low_byte(function),
+            event: low_byte(event),
+            time,
         },
     }
 }
 
-impl FromStr for Part {
-    ghost use Rattle.std.specs.Result.{result_ok};
-    ghost use Rattle.trial_states.specs.Parts.{part_of};
+impl Part {
+    ghost use Rattle.trial_states.specs.Parts.{part_of, with_part, with_named};
 
-    type Err = NoPart;
-
-    ghost from_str_gives = { λ text r. result_ok r ≡ part_of text };
-
-    fn from_str(s: &str) -> Result<Part, NoPart> {
-        match s.as_bytes().first() {
-            Some(b'h') => Ok(head_of(s)),
-            Some(b'v') => Ok(field_of(s)),
-            Some(b'a') => Ok(asset_of(s)),
-            Some(b'e') => Ok(event_of(s)),
-            _ => Err(NoPart),
+    /// The part that a text names by its first letter; the byte behind that is passed over, and numbers stand behind it.
+    pub fn of(text: &[u8]) -> Option<Part>
+        ensures { result ≡ part_of text.now }
+    {
+        match text {
+            [b'h', _, numbers @ ..] => Some(head_of(numbers)),
+            [b'v', _, numbers @ ..] => Some(field_of(numbers)),
+            [b'a', _, numbers @ ..] => Some(asset_of(numbers)),
+            [b'e', _, numbers @ ..] => Some(event_of(numbers)),
+            _ => None,
         }
     }
-}
-
-impl Part {
-    ghost use Rattle.trial_states.specs.Parts.{with_part, with_named};
 
     /// The state with this part. A place past the slots changes nothing.
     pub fn put(self, s: State) -> State
@@ -141,12 +152,12 @@ impl Part {
     }
 
     /// The state with the part that a text names. A text that names none changes nothing.
-    pub fn put_named(text: &str, s: State) -> State
+    pub fn put_named(text: &[u8], s: State) -> State
         ensures { result ≡ with_named text.now s }
     {
-        match text.parse::<Part>() {
-            Ok(part) => part.put(s),
-            Err(NoPart) => s,
+        match Part::of(text) {
+            Some(part) => part.put(s),
+            None => s,
         }
     }
 }

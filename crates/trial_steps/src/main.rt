@@ -17,10 +17,14 @@
 use contract::Contract;
 use state::State;
 use statements::Label;
+use std::io::Read;
 use std::{array, io};
 use steps::Left;
 use trial_states::{Part, Said};
-use trial_text::{first_word, number_at, store_line};
+use trial_text::{integer, number, store_line};
+
+// The bytes of standard input that are read.
+const INPUT: u64 = 65536;
 
 // The entries that there are to lend.
 const ENTRIES: usize = 100;
@@ -94,11 +98,6 @@ fn print_state(rt: &impl Print, s: &State) -> io::Result<()> {
     println!(rt)
 }
 
-// Whether the word at a place says that the state is handed on.
-fn is_handed(words: &str, i: usize) -> bool {
-    number_at::<u64>(words, i) != 0
-}
-
 impl Trial {
     fn fire(&self, rt: &impl Print, slots: usize) -> io::Result<Option<State>> {
         lend(
@@ -116,10 +115,10 @@ impl Trial {
         )
     }
 
-    // Takes the state that a step left, if it is handed on.
-    fn go_on(&mut self, rt: &impl Print, after: Option<State>, handed: bool) -> io::Result<()> {
+    // Takes the state that a step left, if the number after it says that it is handed on.
+    fn go_on(&mut self, rt: &impl Print, after: Option<State>, text: &[u8]) -> io::Result<()> {
         if let Some(state) = after
-            && handed
+            && number(text).0 != 0
         {
             print_state(rt, &state)?;
             self.state = state;
@@ -127,22 +126,32 @@ impl Trial {
         Ok(())
     }
 
-    fn take(&mut self, rt: &impl Print, line: &str) -> io::Result<()> {
-        let (kind, rest) = first_word(line);
+    // A line: its letter, and a text from its third byte on.
+    fn take(&mut self, rt: &impl Print, line: &[u8]) -> io::Result<()> {
+        let [kind, rest @ ..] = line else {
+            return Ok(());
+        };
+        let text = rest.get(1..).unwrap_or(&[]);
         match kind {
-            "#" => println!(rt; "{line}")?,
-            "w" => store_line(&mut self.table, rest),
-            "f" => self.state = State::fresh(number_at(rest, 0)),
-            "s" => self.state = Part::put_named(rest, self.state),
-            "e" => {
-                print!(rt; "{line}")?;
-                let after = self.fire(rt, number_at(rest, 0))?;
-                self.go_on(rt, after, is_handed(rest, 1))?;
+            b'#' => {
+                rt.write_all(line)?;
+                println!(rt)?;
             }
-            "j" => {
-                print!(rt; "{line}")?;
-                let after = self.jump(rt, number_at(rest, 0), number_at(rest, 1))?;
-                self.go_on(rt, after, is_handed(rest, 2))?;
+            b'w' => store_line(&mut self.table, text),
+            b'f' => self.state = State::fresh(number(text).0),
+            b's' => self.state = Part::put_named(text, self.state),
+            b'e' => {
+                rt.write_all(line)?;
+                let (slots, text) = number(text);
+                let after = self.fire(rt, slots as usize)?;
+                self.go_on(rt, after, text)?;
+            }
+            b'j' => {
+                rt.write_all(line)?;
+                let (slots, text) = number(text);
+                let (to, text) = integer(text);
+                let after = self.jump(rt, slots as usize, to)?;
+                self.go_on(rt, after, text)?;
             }
             _ => {}
         }
@@ -151,13 +160,15 @@ impl Trial {
 }
 
 fn main(rt: HostRuntime) -> io::Result<()> {
-    let text = io::read_to_string(rt.alloc(), rt.reader())?;
+    let mut text = Vec::new(rt.alloc());
+    rt.reader().take(INPUT).read_to_end(&mut text)?;
     let mut trial = Trial {
         table: vec![in rt.alloc(); 0; Contract::TABLE]?,
         state: State::fresh(0),
     };
-    for line in text.as_str().lines() {
-        trial.take(&rt, line)?;
+    for line in text.split_inclusive(|b| *b == b'\n') {
+        // What can't be printed is left out.
+        let _ = trial.take(&rt, line.strip_suffix(b"\n").unwrap_or(line));
     }
     Ok(())
 }

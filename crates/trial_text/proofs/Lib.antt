@@ -1,2 +1,3 @@
-pub mod Words
+-- What the proofs of functions use.
+pub mod Digits
 pub mod Storing

@@ -7,6 +7,9 @@ use std::io;
 use std::io::Read;
 use tokens::{Lexed, Token};
 
+// The bytes of standard input that are read.
+const INPUT: u64 = 65536;
+
 fn print_bytes(rt: &impl Print, bytes: &[u8]) -> io::Result<()> {
     print!(rt; " [")?;
     rt.write_all(bytes)?;
@@ -40,13 +43,18 @@ fn show(rt: &impl Print, text: &[u8]) -> io::Result<()> {
     }
 }
 
+fn show_numbered(rt: &impl Print, number: u64, text: &[u8]) -> io::Result<()> {
+    println!(rt; "{number}")?;
+    show(rt, text)
+}
+
 fn main(rt: HostRuntime) -> io::Result<()> {
     let mut texts = Vec::new(rt.alloc());
-    rt.reader().read_to_end(&mut texts)?;
+    rt.reader().take(INPUT).read_to_end(&mut texts)?;
     let parts = texts.split_inclusive(|b| *b == 0);
     for (number, part) in (1..=u64::MAX).zip(parts) {
-        println!(rt; "{number}")?;
-        show(&rt, part.strip_suffix(&[0]).unwrap_or(part))?;
+        // What can't be printed is left out.
+        let _ = show_numbered(&rt, number, part.strip_suffix(&[0]).unwrap_or(part));
     }
     Ok(())
 }
