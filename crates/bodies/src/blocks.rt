@@ -39,7 +39,9 @@ impl Statement<'_> {
             entries::STATEMENT,
             cursors::start_of(self.first),
         );
-        let target = cursors::name_at(self.text, c).value_target(lent);
+        // Kept: (c) lent by a name of its own, here and below, as in `Lent::mention` of entries.
+        let notes = &mut *lent.notes;
+        let target = cursors::name_at(self.text, c).value_target(notes);
         lent.put_name(target, cursors::start_of(c));
         lent.put(Node::VALUE_MOVE, 0, self.from);
         cursors::past(self.text, c)
@@ -59,9 +61,11 @@ impl Statement<'_> {
             entries::STATEMENT,
             cursors::start_of(self.first),
         );
-        let holder = cursors::name_at(self.text, source).holder(lent, self.handler);
+        let notes = &mut *lent.notes;
+        let holder = cursors::name_at(self.text, source).holder(notes, self.handler);
         lent.put_name(holder, cursors::start_of(source));
-        let target = cursors::name_at(self.text, c).asset_target(lent, self.handler);
+        let notes = &mut *lent.notes;
+        let target = cursors::name_at(self.text, c).asset_target(notes, self.handler);
         lent.put_name(target, cursors::start_of(c));
         lent.put(Node::ASSET_MOVE, 0, self.from);
         cursors::past(self.text, c)
@@ -80,8 +84,9 @@ impl Statement<'_> {
             cursors::start_of(self.first),
         );
         entries::count(lent.notes, entries::NODE, cursors::start_of(c));
-        let holder = cursors::name_at(self.text, self.first).holder(lent, self.handler);
-        let target = cursors::name_at(self.text, c).asset_target(lent, self.handler);
+        let notes = &mut *lent.notes;
+        let holder = cursors::name_at(self.text, self.first).holder(notes, self.handler);
+        let target = cursors::name_at(self.text, c).asset_target(notes, self.handler);
         entries::want(lent.notes, holder, cursors::start_of(self.first));
         entries::want(lent.notes, target, cursors::start_of(c));
         lent.put(target.kind, target.number, before);

@@ -17,6 +17,7 @@ ghost use Rattle.reading_laws.specs.Walk as walk;
 ghost use Rattle.reading_laws.specs.Walk.{Stop};
 
 use entries::{Lent, NameAt};
+pub use entries::{nodes, nodes_since};
 use questions::Question;
 use tokens::{Lexed, Token};
 

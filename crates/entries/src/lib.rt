@@ -122,19 +122,32 @@ impl Lent<'_> {
         contract::word(self.table, i)
     }
 
-    // How many nodes are written.
+    // As `nodes` and `nodes_since`.
     pub fn nodes(&self) -> usize
         ensures { result ≡ draft.note self.now.notes.now 14 }
     {
-        self.note(WRITTEN) as usize
+        nodes(self.notes)
     }
 
-    // How many nodes are written from `before` on.
     pub fn nodes_since(&self, before: usize) -> usize
         ensures { result ≡ draft.note self.now.notes.now 14 - before }
     {
-        self.nodes().saturating_sub(before)
+        nodes_since(self.notes, before)
     }
+}
+
+// How many nodes are written.
+pub fn nodes(notes: &[u64]) -> usize
+    ensures { result ≡ draft.note notes.now 14 }
+{
+    contract::word(notes, WRITTEN) as usize
+}
+
+// How many nodes are written from `before` on.
+pub fn nodes_since(notes: &[u64], before: usize) -> usize
+    ensures { result ≡ draft.note notes.now 14 - before }
+{
+    nodes(notes).saturating_sub(before)
 }
 
 // ---- Findings and counts.
@@ -604,71 +617,69 @@ impl NameAt<'_> {
     // and 12.7 per cent more instructions (unproved builds).
     #[inline(always)]
     #[tactic(auto, unfolding(crate::specs::Draft::holder_in, crate::specs::Draft::seek, laws::specs::Choice::pick))]
-    pub fn holder(&self, lent: &Lent, handler: bool) -> Known
-        ensures { result ≡ draft.holder_in self.now.text.now lent.now.notes.now handler self.now.word.now }
+    pub fn holder(&self, notes: &[u64], handler: bool) -> Known
+        ensures { result ≡ draft.holder_in self.now.text.now notes.now handler self.now.word.now }
     {
-        if let Some(asset) = self.seek(lent.notes, ASSET, Node::ASSET) {
+        if let Some(asset) = self.seek(notes, ASSET, Node::ASSET) {
             return asset;
         }
         if handler {
             return unknown();
         }
-        self.seek(lent.notes, PARAMETER, Node::PARAMETER)
+        self.seek(notes, PARAMETER, Node::PARAMETER)
             .unwrap_or(unknown())
     }
 
     // An asset or a field.
     #[inline(always)]
     #[tactic(auto, unfolding(crate::specs::Draft::stored_in, crate::specs::Draft::seek, laws::specs::Choice::pick))]
-    fn stored(&self, lent: &Lent) -> Known
-        ensures { result ≡ draft.stored_in self.now.text.now lent.now.notes.now self.now.word.now }
+    fn stored(&self, notes: &[u64]) -> Known
+        ensures { result ≡ draft.stored_in self.now.text.now notes.now self.now.word.now }
     {
-        if let Some(asset) = self.seek(lent.notes, ASSET, Node::ASSET) {
+        if let Some(asset) = self.seek(notes, ASSET, Node::ASSET) {
             return asset;
         }
-        self.seek(lent.notes, FIELD, Node::FIELD)
-            .unwrap_or(unknown())
+        self.seek(notes, FIELD, Node::FIELD).unwrap_or(unknown())
     }
 
     // What an expression names.
     #[tactic(auto, unfolding(crate::specs::Draft::name_in, crate::specs::Draft::seek, laws::specs::Choice::pick))]
-    pub fn named(&self, lent: &Lent, handler: bool) -> Known
-        ensures { result ≡ draft.name_in self.now.text.now lent.now.notes.now handler self.now.word.now }
+    pub fn named(&self, notes: &[u64], handler: bool) -> Known
+        ensures { result ≡ draft.name_in self.now.text.now notes.now handler self.now.word.now }
     {
         if handler {
-            return self.stored(lent);
+            return self.stored(notes);
         }
-        if let Some(value) = self.seek(lent.notes, VALUE, Node::VALUE) {
+        if let Some(value) = self.seek(notes, VALUE, Node::VALUE) {
             return value;
         }
-        if let Some(parameter) = self.seek(lent.notes, PARAMETER, Node::PARAMETER) {
+        if let Some(parameter) = self.seek(notes, PARAMETER, Node::PARAMETER) {
             return parameter;
         }
-        self.stored(lent)
+        self.stored(notes)
     }
 
     // What `->` goes to.
     #[tactic(auto, unfolding(crate::specs::Draft::value_target, crate::specs::Draft::seek, laws::specs::Choice::pick))]
-    pub fn value_target(&self, lent: &Lent) -> Known
-        ensures { result ≡ draft.value_target self.now.text.now lent.now.notes.now self.now.word.now }
+    pub fn value_target(&self, notes: &[u64]) -> Known
+        ensures { result ≡ draft.value_target self.now.text.now notes.now self.now.word.now }
     {
-        if let Some(party) = self.seek(lent.notes, PARTY, Node::PARTY) {
-            return party;
+        if let Some(target) = self.seek(notes, PARTY, Node::PARTY) {
+            return target;
         }
-        self.seek(lent.notes, FIELD, Node::FIELD)
-            .unwrap_or(unknown())
+        self.seek(notes, FIELD, Node::FIELD).unwrap_or(unknown())
     }
 
     // What `-o` goes to.
     #[inline(always)]
     #[tactic(auto, unfolding(crate::specs::Draft::asset_target, crate::specs::Draft::seek, laws::specs::Choice::pick))]
-    pub fn asset_target(&self, lent: &Lent, handler: bool) -> Known
-        ensures { result ≡ draft.asset_target self.now.text.now lent.now.notes.now handler self.now.word.now }
+    pub fn asset_target(&self, notes: &[u64], handler: bool) -> Known
+        ensures { result ≡ draft.asset_target self.now.text.now notes.now handler self.now.word.now }
     {
-        if let Some(party) = self.seek(lent.notes, PARTY, Node::PARTY) {
+        if let Some(party) = self.seek(notes, PARTY, Node::PARTY) {
             return party;
         }
-        self.holder(lent, handler)
+        self.holder(notes, handler)
     }
 }
 
@@ -712,6 +723,7 @@ impl Lent<'_> {
     }
 
     // A node without parts that is no name.
+    #[inline(always)]
     #[tactic(auto, unfolding(crate::specs::Draft::put_leaf))]
     pub fn put_leaf(&mut self, kind: u64, argument: u64, place: usize)
         ensures value { draft_in self.new ≡ draft.put_leaf kind argument place (draft_in self.old) }
@@ -767,21 +779,15 @@ impl Lent<'_> {
         }
     }
 
-    // Its verb: 0 for SET, 1 for OK.
-    // Kept: (a) the number that the row holds: a public function takes any, and `Verb` would ask more of its callers.
+    // Its verb, as `clause_verb`.
     #[tactic(auto, unfolding(crate::specs::Draft::clause_verb, laws::specs::Choice::pick))]
     pub fn clause_verb(&mut self, verb: u64)
         ensures value { draft_in self.new ≡ draft.clause_verb verb (draft_in self.old) }
         ensures same_lists { SameLists self.old self.new }
     {
-        let row = self.note(CLAUSES) as usize;
-        if row < Contract::CLAUSES {
-            items::set(
-                self.table,
-                contract::CLAUSES + Clause::WORDS * row + Clause::VERB,
-                verb,
-            );
-        }
+        // Kept: (c) lent by a name of its own, as in `mention`.
+        let notes = &mut *self.notes;
+        clause_verb(self.table, notes, verb);
     }
 
     // Field number `field` in the row at `at`, the j-th there.
@@ -812,6 +818,22 @@ impl Lent<'_> {
             let j = self.cell(at + Clause::FIELD_COUNT);
             self.field_at(at, j, field);
         }
+    }
+}
+
+// The verb of the clause at hand: 0 for SET, 1 for OK.
+// Kept: (a) the number that the row holds: a public function takes any, and `Verb` would ask more of its callers.
+#[tactic(auto, unfolding(crate::specs::Draft::clause_verb, laws::specs::Choice::pick))]
+pub fn clause_verb(table: &mut [u64], notes: &[u64], verb: u64)
+    ensures { table.exit.now ≡ (draft.clause_verb verb (record { table = table.entry.now; notes = notes.now })).table }
+{
+    let row = contract::word(notes, CLAUSES) as usize;
+    if row < Contract::CLAUSES {
+        items::set(
+            table,
+            contract::CLAUSES + Clause::WORDS * row + Clause::VERB,
+            verb,
+        );
     }
 }
 
@@ -924,28 +946,38 @@ pub struct Rest {
 }
 
 impl Lent<'_> {
-    // The rest of function i's row.
+    // The rest of function i's row, as `function_rest`.
     #[tactic(auto, unfolding(crate::specs::Draft::function_rest, laws::specs::Choice::pick))]
     pub fn function_rest(&mut self, i: usize, rest: Rest)
         ensures value { draft_in self.new ≡ draft.function_rest i rest.last rest.first rest.precondition rest.body rest.event rest.events (draft_in self.old) }
         ensures same_lists { SameLists self.old self.new }
     {
-        if i < Contract::FUNCTIONS {
-            let at = contract::FUNCTIONS + Function::WORDS * i + Function::LAST;
-            let values = self.note(VALUE);
-            let parameters = self.note(PARAMETER);
-            let row = [
-                rest.last as u64,
-                values,
-                parameters,
-                rest.first as u64,
-                rest.precondition as u64,
-                rest.body as u64,
-                rest.event as u64,
-                rest.events as u64,
-            ];
-            items::store_all(self.table, at, &row);
-        }
+        // Kept: (c) lent by a name of its own, as in `mention`.
+        let notes = &mut *self.notes;
+        function_rest(self.table, notes, i, rest);
+    }
+}
+
+// The rest of function i's row.
+#[tactic(auto, unfolding(crate::specs::Draft::function_rest, laws::specs::Choice::pick))]
+pub fn function_rest(table: &mut [u64], notes: &[u64], i: usize, rest: Rest)
+    ensures { table.exit.now ≡ (draft.function_rest i rest.last rest.first rest.precondition rest.body rest.event rest.events (record { table = table.entry.now; notes = notes.now })).table }
+{
+    if i < Contract::FUNCTIONS {
+        let at = contract::FUNCTIONS + Function::WORDS * i + Function::LAST;
+        let values = contract::word(notes, VALUE);
+        let parameters = contract::word(notes, PARAMETER);
+        let row = [
+            rest.last as u64,
+            values,
+            parameters,
+            rest.first as u64,
+            rest.precondition as u64,
+            rest.body as u64,
+            rest.event as u64,
+            rest.events as u64,
+        ];
+        items::store_all(table, at, &row);
     }
 }
 
@@ -970,26 +1002,35 @@ pub fn title(table: &mut [u64], name: &NameAt)
 }
 
 impl Lent<'_> {
-    // How many there are of each, and the initial state.
-    #[tactic(auto, unfolding(crate::specs::Draft::counts))]
+    // How many there are of each, and the initial state, as `write_counts`.
     pub fn write_counts(&mut self, initial: usize)
         ensures value { draft_in self.new ≡ draft.with_table (draft_in self.old) (draft.counts initial self.old.notes.now self.old.table.now) }
         ensures same_lists { SameLists self.old self.new }
     {
-        let counts = [
-            self.note(PARTY),
-            self.note(ASSET),
-            self.note(FIELD),
-            self.note(STATE),
-            self.note(STRING),
-            self.note(CLAUSES),
-            self.note(FUNCTIONS),
-            self.note(EVENT),
-            self.note(WRITTEN),
-            initial as u64,
-        ];
-        items::store_all(self.table, 0, &counts);
+        // Kept: (c) lent by a name of its own, as in `mention`.
+        let notes = &mut *self.notes;
+        write_counts(self.table, notes, initial);
     }
+}
+
+// How many there are of each, and the initial state.
+#[tactic(auto, unfolding(crate::specs::Draft::counts))]
+pub fn write_counts(table: &mut [u64], notes: &[u64], initial: usize)
+    ensures { table.new ≡ draft.counts initial notes.now table.old }
+{
+    let counts = [
+        contract::word(notes, PARTY),
+        contract::word(notes, ASSET),
+        contract::word(notes, FIELD),
+        contract::word(notes, STATE),
+        contract::word(notes, STRING),
+        contract::word(notes, CLAUSES),
+        contract::word(notes, FUNCTIONS),
+        contract::word(notes, EVENT),
+        contract::word(notes, WRITTEN),
+        initial as u64,
+    ];
+    items::store_all(table, 0, &counts);
 }
 
 // How many words are cleared at once.

@@ -126,7 +126,9 @@ impl Scope<'_> {
     {
         match cursors::kind_of(c) {
             Token::NAME => {
-                let name = cursors::name_at(self.text, c).named(lent, self.handler);
+                // Kept: (c) lent by a name of its own, as in `Lent::mention` of entries.
+                let notes = &mut *lent.notes;
+                let name = cursors::name_at(self.text, c).named(notes, self.handler);
                 lent.put_name(name, cursors::start_of(c));
             }
             Token::NUMBER => lent.put_leaf(
