@@ -16,6 +16,7 @@ use printing::Writer;
 use tables::Passed;
 
 // A number at the right of 19 bytes.
+#[inline(always)]
 fn put_right(out: &mut Writer, n: u64)
     requires { HasRoom (length (right 19 (decimal n))) out.old }
     ensures written { Wrote out.old (right 19 (decimal n)) out.new }

@@ -71,15 +71,14 @@ impl Entries<'_> {
         self.entry(i).is_payout(self.terms.table)
     }
 
-    // Question 61 of all, also of one that is begun at the end.
+    // Question 61 of all, also of one that is begun at the end: the lengths first, since no entry that does not stand there whole passes.
     pub(crate) fn all_payouts(&self) -> bool
         ensures { result ≡ every (is_payout (contract_of self.now.terms.table.now)) (entries_of self.now.numbers.now self.now.values.now) }
     {
-        let count = self
-            .numbers
-            .len()
-            .div_ceil(Sheet::NUMBERS)
-            .max(self.values.len());
+        let count = self.values.len();
+        if self.numbers.len() != Sheet::NUMBERS * count {
+            return false;
+        }
         (0..count).all(|i| self.entry_passes(i))
     }
 }

@@ -1,10 +1,10 @@
 -- Reports that were handed on as numbers are the same reports again, and their lines are all written where there is room. Assumes nothing.
 use mathlib.Core.Path.{◌≡◌, refl, sym, ap, ◌∙◌}
-use mathlib.Core.Bool.{true, false}
+use mathlib.Core.Bool.{Bool, true, false, ◌&&◌}
 use mathlib.Core.List.{List, [], ◌∷◌, ◌++◌, map, append_assoc}
 use Prim.Native.Nat.{ℕ, zero, suc, ◌+◌, ◌*◌, ◌/◌, ◌<◌, ◌≤◌}
 use native.Mathlib.Omega.{arith}
-use lib.ListN.{length, get_or, drop}
+use lib.ListN.{length, get_or, drop, length-map}
 use lib.Seq.{take_all, take-length}
 use lib.IntN.{ℤ, pos}
 use lib.Dec.{eqb, leb, ltb}
@@ -19,9 +19,10 @@ use Rattle.contract.specs.Check.{ranges, passes}
 use Rattle.contract_laws.proofs.Inversions.{by_test, of_either, ranges_of}
 use Rattle.contract_laws.proofs.Sound.{passed, counts}
 use Rattle.results.specs.Coded.{coded, integer_of, coded_all, integers_of, report_from, whole_of, report_at, reports_from}
-use Rattle.results.specs.Lines.{refusal, report_ok, told_ok}
+use Rattle.results.specs.Lines.{refusal, report_ok, told_ok, line_of}
 use Rattle.results.specs.Results.{first_reports, lines_of, batch_of, batch, batch_after}
 use Rattle.std.specs.Prelude.{Result, Ok, Option, Some, None}
+use Rattle.std.specs.List.{flat_map}
 use Rattle.questions.specs.declared.Question.{Question}
 use Rattle.results.specs.declared.Batch.{Batch}
 use Rattle.results.specs.declared.Report.{Report}
@@ -124,23 +125,60 @@ reports_read c h (r ∷ rs) ns zs k =
 pub few_assets : (w : List ℕ) → passes w ≡ true → length (contract_of w).assets ≤ 256
 few_assets w t = omega (arith, (counts w).assets, (passed w t).head.assets)
 
--- ---- reports in range with 128 bytes for each are all written
+-- ---- reports told as numbers are the reports
+
+-- question 53 asks of them what it asks of the reports
+pub told_same : (c : Contract) (rs : List Report) → every (told_ok c) (map Some rs) ≡ every (report_ok c) rs
+unfolding every told_ok
+told_same c [] = refl
+told_same c (r ∷ rs) = ap (λ (b : Bool). report_ok c r && b) (told_same c rs)
+
+-- so that reports in range pass it
+pub told_all : (c : Contract) (rs : List Report) → every (report_ok c) rs ≡ true → every (told_ok c) (map Some rs) ≡ true
+told_all c rs h = told_same c rs ∙ h
+
+-- their lines are the lines of each report, one after the other
+pub lines_each : (c : Contract) (rs : List Report) → lines_of c (map Some rs) ≡ flat_map (line_of c) rs
+unfolding lines_of
+lines_each c [] = refl
+lines_each c (r ∷ rs) = ap (λ (l : List ℕ). line_of c r ++ l) (lines_each c rs)
+
+-- ---- what numbers tell, in range and with 128 bytes for each, is all written
 
 module _ (w : List ℕ) (rs : List (Option Report)) (old : List ℕ) (room : 128 ≤ length old) (each : 128 * length rs ≤ length old) (t : passes w ≡ true)
     (ok : every (told_ok (contract_of w)) rs ≡ true) where
   all_first : first_reports (length old) rs ≡ rs
   all_first = take_all (length old / 128) rs (omega (arith, each))
 
-  pub batch_whole : batch w rs (length old) ≡ Ok (record { many = length rs; used = length (lines_of (contract_of w) rs) })
+  pub batch_told : batch w rs (length old) ≡ Ok (record { many = length rs; used = length (lines_of (contract_of w) rs) })
   unfolding batch batch_of
-  batch_whole =
+  batch_told =
       pick_false _ _ _ (le-ltb (length old) 128 room)
       ∙ pick_true _ _ _ t
       ∙ pick_true _ _ _ (ap (every (told_ok (contract_of w))) all_first ∙ ok)
       ∙ λ j. Ok (record { many = length (all_first j); used = length (lines_of (contract_of w) (all_first j)) })
 
-  pub lines_whole : batch_after (contract_of w) rs (batch w rs (length old)) old ≡ lines_of (contract_of w) rs ++ drop (length (lines_of (contract_of w) rs)) old
+  pub lines_told : batch_after (contract_of w) rs (batch w rs (length old)) old ≡ lines_of (contract_of w) rs ++ drop (length (lines_of (contract_of w) rs)) old
   unfolding batch_after
-  lines_whole =
-      ap (λ (b : Result Batch Question). batch_after (contract_of w) rs b old) batch_whole
+  lines_told =
+      ap (λ (b : Result Batch Question). batch_after (contract_of w) rs b old) batch_told
       ∙ ap (λ (l : List (Option Report)). lines_of (contract_of w) l ++ drop (length (lines_of (contract_of w) rs)) old) (take-length rs)
+
+-- ---- reports in range with 128 bytes for each are all written
+
+module _ (w : List ℕ) (rs : List Report) (old : List ℕ) (room : 128 ≤ length old) (each : 128 * length rs ≤ length old) (t : passes w ≡ true)
+    (ok : every (report_ok (contract_of w)) rs ≡ true) where
+  as_many : length (map {B = Option Report} Some rs) ≡ length rs
+  as_many = length-map rs Some
+
+  each_told : 128 * length (map {B = Option Report} Some rs) ≤ length old
+  each_told = omega (arith, each, as_many)
+
+  pub batch_whole : batch w (map Some rs) (length old) ≡ Ok (record { many = length rs; used = length (lines_of (contract_of w) (map Some rs)) })
+  batch_whole =
+      batch_told w (map Some rs) old room each_told t (told_all (contract_of w) rs ok)
+      ∙ λ j. Ok (record { many = as_many j; used = length (lines_of (contract_of w) (map Some rs)) })
+
+  pub lines_whole : batch_after (contract_of w) (map Some rs) (batch w (map Some rs) (length old)) old
+      ≡ lines_of (contract_of w) (map Some rs) ++ drop (length (lines_of (contract_of w) (map Some rs))) old
+  lines_whole = lines_told w (map Some rs) old room each_told t (told_all (contract_of w) rs ok)

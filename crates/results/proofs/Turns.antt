@@ -14,7 +14,7 @@ use lib.Dec.{eqb}
 use borrow.Author.Tests.{eq-eqb, ne_eqb, lt-ltb, le-ltb, eqb-true, eqb-false}
 use Rattle.laws.specs.Choice.{pick}
 use Rattle.laws.specs.Lists.{every}
-use Rattle.laws.proofs.Choice.{pick_true, pick_false}
+use Rattle.laws.proofs.Choice.{pick_true, pick_false, true_false}
 use Rattle.laws.proofs.Truths.{both_left, both_right}
 use Rattle.contract.specs.Tree.{Contract}
 use Rattle.contract.specs.Decode.{contract_of}
@@ -169,6 +169,20 @@ all_reports p ns zs zero i = refl
 all_reports p ns zs (suc n) i =
     let e : i + 1 ≡ suc i = omega arith in
     ap (λ (b : Bool). p (report_at ns zs i) && b) (all_reports p ns zs n (i + 1) ∙ ap (λ (j : ℕ). every p (reports_from ns zs j n)) e)
+
+-- one past those that stand there whole does not pass
+pub not_whole : (c : Contract) (ns : List ℕ) (zs : List ℤ) (from to : ℕ) → from < to → whole_of ns zs < to
+    → false ≡ every (told_ok c) (reports_from ns zs from (to - from))
+unfolding report_at told_ok
+not_whole c ns zs from to h k =
+    let last = to - 1 in
+    let past : report_at ns zs last ≡ None =
+    pick_false _ _ _ (le-ltb last (whole_of ns zs) (omega (arith, k))) in
+    by_test (every (told_ok c) (reports_from ns zs from (to - from)))
+    (λ t.
+    let p = each_report ns zs (told_ok c) (to - from) from t last (omega (arith, h)) (omega (arith, h)) in
+    true_false (sym p ∙ ap (told_ok c) past))
+    λ t. sym t
 
 -- ---- the lines of all reports
 

@@ -53,10 +53,14 @@ impl Coded<'_> {
         ))
     }
 
-    // The same of each.
+    // The same of each: the lengths first, since none past those that stand there whole passes.
     fn all_ok(&self) -> bool
         ensures { result ≡ every (told_ok (contract_of self.now.terms.table.now)) (reports_in self.now) }
     {
+        let whole = (self.numbers.len() / Report::WORDS).min(self.integers.len());
+        if self.from.max(whole) < self.to {
+            return false;
+        }
         (self.from..self.to).all(|i| self.is_ok(i))
     }
 
