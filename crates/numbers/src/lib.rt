@@ -17,8 +17,10 @@ pub enum Value {
 }
 
 impl Value {
-    // The greatest integer.
+    // The greatest integer, and the least.
     pub const TOP: i64 = i64::MAX;
+
+    pub const LEAST: i64 = i64::MIN;
     // 2 ^ 63: the magnitude of the least integer, and one past the top.
     pub const LIMIT: u64 = Value::TOP as u64 + 1;
 }

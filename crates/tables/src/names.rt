@@ -14,6 +14,11 @@ const NAME: u64 = Contract::NAME as u64;
 
 const STRING: u64 = Contract::STRING as u64;
 
+// The first and the last lowercase letter: most bytes of names are, so that they are asked first.
+const LOWER_A: u64 = b'a' as u64;
+
+const LOWER_Z: u64 = b'z' as u64;
+
 // Kept: (d) here and below one line over a byte's test: one function for the three would take the test as a closure, and with it clauses on where that
 // may be called, on what it answers, and that a word above 255 fails it.
 #[tactic(auto, unfolding(tokens::specs::Classes::is_letter, tokens::specs::Classes::within, laws::specs::Choice::pick))]
@@ -27,7 +32,7 @@ fn is_letter(w: u64) -> bool
 fn is_name_byte(w: u64) -> bool
     ensures { result ≡ is_name_byte w }
 {
-    u8::try_from(w).is_ok_and(tokens::is_name_byte)
+    matches!(w, LOWER_A..=LOWER_Z) || u8::try_from(w).is_ok_and(tokens::is_name_byte)
 }
 
 #[tactic(auto, unfolding(tokens::specs::Classes::is_string_byte, tokens::specs::Classes::is_printable, tokens::specs::Classes::within, laws::specs::Choice::pick))]

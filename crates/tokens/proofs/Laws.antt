@@ -11,6 +11,7 @@ use Rattle.laws.specs.Choice.{pick}
 use Rattle.laws.specs.Bytes.{starts_with}
 use Rattle.laws.proofs.Choice.{pick_true, pick_false, true_false}
 use Rattle.laws.proofs.Lists.{cons_at, next_at}
+use Rattle.tokens.specs.Tokens.{digits_at}
 use Rattle.tokens.specs.Classes.{within, is_letter, is_digit, is_printable, is_blank, is_text, run, decimal, gap}
 
 -- a letter, a digit and a quote are text
@@ -64,6 +65,18 @@ module _ (s : List ℕ) (i : ℕ) (h : i < length s) where
   pub run_go : (p : ℕ → Bool) → p (get_or s i 0) ≡ true → run p (drop i s) ≡ suc (run p (drop (i + 1) s))
   unfolding run pick
   run_go p e = rw (cons_at s i h, e)
+
+  pub run_stop : (p : ℕ → Bool) → p (get_or s i 0) ≡ false → run p (drop i s) ≡ 0
+  unfolding run pick
+  run_stop p e = rw (cons_at s i h, e)
+
+  pub decimal_go : (v : ℕ) → is_digit (get_or s i 0) ≡ true → decimal v (drop i s) ≡ decimal (v * 10 + (get_or s i 0 - 48)) (drop (i + 1) s)
+  unfolding decimal pick
+  decimal_go v e = rw (cons_at s i h, e)
+
+  pub decimal_stop : (v : ℕ) → is_digit (get_or s i 0) ≡ false → decimal v (drop i s) ≡ v
+  unfolding decimal pick
+  decimal_stop v e = rw (cons_at s i h, e)
 
   -- outside: a blank goes on, `//` opens a comment, any other byte ends the gap
   pub blank_goes : is_blank (get_or s i 0) ≡ true → gap false (drop i s) ≡ suc (gap false (drop (i + 1) s))
@@ -132,3 +145,7 @@ decimal_min m a b (x ∷ xs) e = go (decimal_min m (a * 10 + (x - 48)) (b * 10 +
     go : min (decimal (a * 10 + (x - 48)) xs) m ≡ min (decimal (b * 10 + (x - 48)) xs) m → (t : Bool) → min (pick t (decimal (a * 10 + (x - 48)) xs) a) m ≡ min (pick t (decimal (b * 10 + (x - 48)) xs) b) m
     go r true = r
     go r false = e
+
+pub digits_are : (s : List ℕ) (at e v : ℕ) → e ≡ at + run is_digit (drop at s) → v ≡ min (decimal 0 (drop at s)) 9223372036854775809
+    → record { end = e; value = v } ≡ digits_at s at
+digits_are s at e v p q = λ i. record { end = p i; value = q i }

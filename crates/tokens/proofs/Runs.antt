@@ -1,13 +1,14 @@
 use mathlib.Core.Path.{◌≡◌, refl, sym, ap, ◌∙◌}
 use mathlib.Core.List.{List, [], ◌∷◌}
 use mathlib.Core.Bool.{Bool, true, false, cond}
-use Prim.Native.Nat.{ℕ, suc, ◌+◌}
+use Prim.Native.Nat.{ℕ, suc, ◌+◌, ◌≤◌, max}
 use native.Mathlib.Omega.{arith}
 use lib.ListN.{length, take, get_or, drop}
 use native.Mathlib.Nat.{add-zero}
 use lib.Seq.{get_or-drop}
-use borrow.Author.Tests.{eqb-true, eqb-false}
-use lib.Dec.{eqb}
+use borrow.Author.Tests.{eqb-true, eqb-false, leb-true, leb-false}
+use lib.Dec.{eqb, leb}
+use Rattle.laws.proofs.Lists.{past}
 use Rattle.std.proofs.lemmas.List.{drop-drop}
 use Rattle.tokens.proofs.Laws.{other_stops}
 use Rattle.std.specs.List.{prefix_len}
@@ -77,3 +78,12 @@ module _ (s : List ℕ) (i e : ℕ) (at : e ≡ i + run is_comment_byte (drop i 
 
   pub comment_ended : (get_or s e 0 ≡ 10 → ⊥) → e + gap false (drop e s) ≡ i + gap true (drop i s)
   comment_ended h = omega (arith, rw left at (ended (drop i s) (λ q. h (sym byte_there ∙ q))))
+
+-- where a loop over the places of a text ends, the run from its start ends too
+pub run_past : (p : ℕ → Bool) (s : List ℕ) (at i : ℕ) → length s ≤ i → (at ≤ length s → i ≤ length s) → i + run p (drop i s) ≡ at + run p (drop at s) → max at (length s) ≡ at + run p (drop at s)
+unfolding run
+run_past p s at i h k e = go (leb at (length s)) refl
+  where
+    go : (b : Bool) → leb at (length s) ≡ b → max at (length s) ≡ at + run p (drop at s)
+    go true f = omega (arith, h, k (leb-true at (length s) f), past (run p) s i h, e)
+    go false f = let l : length s ≤ at = omega (arith, leb-false at (length s) f) in omega (arith, l, past (run p) s at l)

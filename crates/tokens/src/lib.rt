@@ -52,6 +52,14 @@ pub enum Lexed {
     End,
 }
 
+// Whether a byte is one of those from `lo` up to `hi`: two tests in this order, so that the likely one is not lost among others.
+#[tactic(auto, unfolding(crate::specs::Classes::within, laws::specs::Choice::pick))]
+fn within(b: u8, lo: u8, hi: u8) -> bool
+    ensures { result ≡ within b lo hi }
+{
+    if lo <= b { b <= hi } else { false }
+}
+
 // Whether a byte is an ASCII letter.
 #[tactic(auto, unfolding(crate::specs::Classes::is_letter, crate::specs::Classes::within, laws::specs::Choice::pick))]
 pub fn is_letter(b: u8) -> bool
@@ -67,18 +75,18 @@ pub fn is_digit(b: u8) -> bool
     b.is_ascii_digit()
 }
 
-#[tactic(auto, unfolding(crate::specs::Classes::is_name_byte, laws::specs::Choice::pick))]
+#[tactic(auto, unfolding(crate::specs::Classes::is_name_byte, crate::specs::Classes::is_letter, laws::specs::Choice::pick))]
 pub fn is_name_byte(b: u8) -> bool
     ensures { result ≡ is_name_byte b }
 {
-    is_letter(b) || is_digit(b) || b == b'_'
+    within(b, b'a', b'z') || is_letter(b) || is_digit(b) || b == b'_'
 }
 
 #[tactic(auto, unfolding(crate::specs::Classes::is_printable, crate::specs::Classes::within, laws::specs::Choice::pick))]
 fn is_printable(b: u8) -> bool
     ensures { result ≡ is_printable b }
 {
-    matches!(b, b' '..=b'~')
+    within(b, b' ', b'~')
 }
 
 // Kept: (b) by `matches!` a reading of nodes_4096_shape_0 and nodes_4096_shape_4 of trial_reading takes 2.2 and 2.5 per cent more instructions than
@@ -134,7 +142,12 @@ fn run_end<F: Fn(u8) -> bool>(text: &[u8], at: usize, class: F) -> usize
     requires computes { (b : ℕ) (r : Bool) → F.post class b r → r ≡ p b }
     ensures { result ≡ at + run p (drop at text.now) }
 {
-    at + rest(text, at).iter().take_while(|b| class(**b)).count()
+    for i in at..text.len() {
+        if !class(text[i]) {
+            return i;
+        }
+    }
+    at.max(text.len())
 }
 
 // The place after the comment's bytes that start at `at`.
@@ -170,28 +183,35 @@ impl Digits {
     // Kept: (d) no Option<u64>: a reader would ask first whether there is a number, then whether it is within its own limit; this one is beyond each
     // limit, so that the second question answers both.
     const ABOVE: u64 = Value::LIMIT + 1;
+    // A number above this one is beyond the limit with any digit more.
+    const TENTH: u64 = Value::LIMIT / 10;
 }
 
 // v followed by one more digit, or ABOVE where that is greater than 2 ^ 63.
 fn push(v: u64, digit: u8) -> u64
     ensures { result ≡ min (v * 10 + (digit - 48)) 9223372036854775809 }
 {
+    if Digits::TENTH < v {
+        return Digits::ABOVE;
+    }
     let last = u64::from(digit.saturating_sub(b'0'));
-    v.saturating_mul(10).saturating_add(last).min(Digits::ABOVE)
+    (v * 10 + last).min(Digits::ABOVE)
 }
 
 // The digits that start at `at`, gone over once.
 pub fn read_digits(text: &[u8], at: usize) -> Digits
     ensures { result ≡ digits_at text.now at }
 {
-    let none = Digits { end: at, value: 0 };
-    rest(text, at).iter().take_while(|b| is_digit(**b)).fold(
-        none,
-        |d, b| Digits {
-            end: d.end.saturating_add(1),
-            value: push(d.value, *b),
-        },
-    )
+    let mut value = 0;
+    for end in at..text.len() {
+        let digit = text[end];
+        if !is_digit(digit) {
+            return Digits { end, value };
+        }
+        value = push(value, digit);
+    }
+    let end = at.max(text.len());
+    Digits { end, value }
 }
 
 // The value of the digits at a place; where that is greater than 2 ^ 63, the number after it.
