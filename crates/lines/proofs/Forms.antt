@@ -19,7 +19,7 @@ use Rattle.lines.specs.Lines.{Span, Part, Names, Lists, Asked, refused, tick, ju
 use Rattle.lines.specs.Answers.{padded, request_of, numbers_of, numbers_after, fields_of, heads_of, spans_of, values_of, agreement_of, agreement_in}
 use Rattle.std.specs.Prelude.{Option, Some, None, Ok, Err, ok_or}
 use Rattle.std.specs.Option.{MatchOption, IsSomeAnd}
-use Rattle.lines.specs.Private.{Spot, given, span_from, CallIs, Integers, with_integers}
+use Rattle.lines.specs.Private.{Spot, given, span_from, CallIs, AgreementIs, Integers, with_integers}
 use Rattle.lines.specs.declared.Span as declared
 use Rattle.lines.specs.declared.Request.{Request}
 use Rattle.lines.specs.declared.Request.TheVariants as request
@@ -198,6 +198,20 @@ module _ (s : List ℕ) (short : length s ≤ 512) where
       as_asked (done ps n) = refl
       as_asked no = refl
 
+  pub agreement_read : {u : Unit} {out : Agreement} → AgreementIs (parts s 0) (Some u) out → Some out ≡ agreement_in (asked s)
+  agreement_read {u} {out} w = go (parts s 0) w ∙ agreement_told
+    where
+      go : (p : Parsed (List Part)) → AgreementIs p (Some u) out → Some out ≡ given agreement_of p
+      go (done ps n) h = ap Some h.1
+      go no h = cc
+
+  pub agreement_missed : (out : Agreement) → AgreementIs (parts s 0) None out → None ≡ agreement_in (asked s)
+  agreement_missed out w = go (parts s 0) w ∙ agreement_told
+    where
+      go : (p : Parsed (List Part)) → AgreementIs p None out → None ≡ given agreement_of p
+      go (done ps n) h = let k = h.0 in cc
+      go no h = refl
+
   -- what was stored
   pub parts_made : {n : ℕ} {ps : List Part} → parts s 0 ≡ done ps n → placed ps ≡ agreement_of ps
   unfolding agreement_of
@@ -246,14 +260,14 @@ module _ (s : List ℕ) (short : length s ≤ 512) where
         go no e h = cc
 
     module _ (c : call_line s 0 ≡ no) where
-      pub parts_told : {P : Agreement → Request → Type 0} (r : Option Agreement) (m : Option Request) → r ≡ given agreement_of (parts s 0) → ((y : Agreement) (z : Request) → P y z → z ≡ request.Agreement) → MatchOption r (m ≡ None) (λ y. IsSomeAnd m (P y)) → ok_or m ask.LineForm ≡ request_of (asked s)
+      pub parts_told : {P : Unit → Request → Type 0} (r : Option Unit) (m : Option Request) (out : Agreement) → AgreementIs (parts s 0) r out → ((y : Unit) (z : Request) → P y z → z ≡ request.Agreement) → MatchOption r (m ≡ None) (λ y. IsSomeAnd m (P y)) → ok_or m ask.LineForm ≡ request_of (asked s)
       unfolding request_of
-      parts_told {P} r m q f w = go (parts s 0) refl r m q w
+      parts_told {P} r m out q f w = go (parts s 0) refl r m q w
         where
-          go : (p : Parsed (List Part)) → parts s 0 ≡ p → (t : Option Agreement) (n : Option Request) → t ≡ given agreement_of p → MatchOption t (n ≡ None) (λ y. IsSomeAnd n (P y)) → ok_or n ask.LineForm ≡ request_of (asked s)
+          go : (p : Parsed (List Part)) → parts s 0 ≡ p → (t : Option Unit) (n : Option Request) → AgreementIs p t out → MatchOption t (n ≡ None) (λ y. IsSomeAnd n (P y)) → ok_or n ask.LineForm ≡ request_of (asked s)
           go (done ps k) e (Some y) (Some z) h w = ap (λ (x : Request). Ok x) (f y z w) ∙ sym (ap request_of (asked_agreed s short t c e))
           go (done ps k) e (Some y) None h w = absurd w
-          go (done ps k) e None n h w = cc
+          go (done ps k) e None n h w = let i = h.0 in cc
           go no e (Some y) n h w = cc
           go no e None n h w = ap (λ (o : Option Request). ok_or o ask.LineForm) w ∙ sym (ap request_of (asked_none s short t c e))
 

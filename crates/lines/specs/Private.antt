@@ -6,7 +6,7 @@ use Rattle.numbers.specs.Numbers.{within}
 use Rattle.lines.specs.Lines as lines
 use Rattle.lines.specs.Lines.{Part, Asked, Parsed, done, no, Parser, mark}
 use Rattle.questions.specs.declared.Question.{Question}
-use Rattle.lines.specs.Answers.{span_in, request_of, numbers_after, verb_number, spans_of, values_of}
+use Rattle.lines.specs.Answers.{span_in, request_of, numbers_after, agreement_of, verb_number, spans_of, values_of}
 use Rattle.lines.specs.declared.Request.{Request}
 use Rattle.lines.specs.declared.Request.TheVariants as request
 use Rattle.lines.specs.declared.Call.{Call}
@@ -110,6 +110,11 @@ called_in (Some x) = Some (Ok (request.Call x))
 abbrev pub CallIs : Parsed Asked → List ℤ → Option Call → List ℤ → Type 0
 CallIs (done a n) old r new = (called_in r ≡ Some (request_of a)) × (new ≡ numbers_after a old)
 CallIs no old r new = r ≡ None
+
+-- an agreement that was lent has the parts that were read; after a no it is free
+abbrev pub AgreementIs : Parsed (List Part) → Option Unit → Agreement → Type 0
+AgreementIs (done ps n) r out = (r ≡ Some tt) × (out ≡ agreement_of ps)
+AgreementIs no r out = r ≡ None
 
 -- ---- what was read so far
 

@@ -7,7 +7,7 @@ ghost use Rattle.words.specs.Words.{spelled};
 ghost use Rattle.tokens.specs.Tokens.{between};
 ghost use Rattle.lines.specs.Lines.{asked, skipped, mark, end, name, digits, integer, verb, field, list, items, part, parts, jump_end, tick_line, call_line};
 ghost use Rattle.lines.specs.Answers.{span_in, request_of, numbers_after, agreement_of, agreement_in};
-ghost use Rattle.lines.specs.Private.{spot, Gives, Marked, Added, is_done, given, sign_of, ranged, verb_in, verb_word, field_in, field_from, asked_in, CallIs, integers_in, SameList, with_integers, with_fields, with_head, with_part};
+ghost use Rattle.lines.specs.Private.{spot, Gives, Marked, Added, is_done, given, sign_of, ranged, verb_in, verb_word, field_in, field_from, asked_in, CallIs, integers_in, SameList, AgreementIs, with_integers, with_fields, with_head, with_part};
 
 use contract::Verb;
 use questions::Question;
@@ -469,20 +469,21 @@ fn no_agreement() -> Agreement
 }
 
 impl Short<'_> {
-    // All parts, up to the line's end.
-    // Kept: (d) a plain loop, as in `integers`.
-    fn parts(&self) -> Option<Agreement>
-        ensures { result ≡ given agreement_of (parts self.now.line.now 0) }
+    // All parts, up to the line's end, into a lent agreement that has none yet.
+    // Kept: (b) lent, since the room for an agreement in an answer, 4 KB, is cleared where it is made, where it is handed on and where it is
+    // taken: with one, `read` takes 17,206 instructions for a line that is refused, where it takes 4,742; (d) a plain loop, as in `integers`.
+    fn parts(&self, read: &mut Agreement) -> Option<()>
+        requires { read.old ≡ agreement_of [] }
+        ensures { AgreementIs (parts self.now.line.now 0) result read.new }
     {
         let mut reader = Reader {
             line: self.line,
             at: 0,
         };
-        let mut read = no_agreement();
         loop {
-            reader.part(&mut read)?;
+            reader.part(read)?;
             if reader.mark(words::OR).is_none() {
-                return reader.ends().then_some(read);
+                return reader.ends().then_some(());
             }
         }
     }
@@ -493,7 +494,10 @@ impl Short<'_> {
 pub fn agreement_of(line: &[u8]) -> Option<Agreement>
     ensures { result ≡ agreement_in (asked line.now) }
 {
-    Short::of(line)?.parts()
+    let short = Short::of(line)?;
+    let mut read = no_agreement();
+    short.parts(&mut read)?;
+    Some(read)
 }
 
 // ---- a line
@@ -507,7 +511,8 @@ impl Short<'_> {
         requires no_call { None ≡ given request_of (call_line self.now.line.now 0) }
         ensures { result ≡ request_of (asked self.now.line.now) }
     {
-        self.parts()
+        let mut read = no_agreement();
+        self.parts(&mut read)
             .map(|_| Request::Agreement)
             .ok_or(Question::LineForm)
     }

@@ -51,17 +51,26 @@ fn print_agreement(rt: &impl Print, a: &Agreement) -> io::Result<()> {
     println!(rt)
 }
 
+// A line that agrees.
+// Kept: (b) apart from `show`, since the room for an agreement's parts, 8 KB here, is cleared at each call of the function that has it: in there
+// a tick takes 8,934 instructions, where it takes 638.
+fn show_agreement(rt: &impl Print, text: &[u8]) -> io::Result<()> {
+    match lines::agreement_of(text) {
+        Some(a) => print_agreement(rt, &a),
+        None => Ok(()),
+    }
+}
+
 // What one line asks for. A call's integers are read into the list that is lent.
+// Kept: (b) a tick's word by `write_all`: `println!` clears and copies the room for a text's pieces at each call, and a tick takes 638
+// instructions, where it takes 234.
 fn show(rt: &impl Print, text: &[u8], numbers: &mut [i64; Line::NUMBERS]) -> io::Result<()> {
     match lines::read(text, numbers) {
         Err(question) => println!(rt; "refused {}", question.number()),
-        Ok(Request::Tick) => println!(rt; "tick"),
+        Ok(Request::Tick) => rt.write_all(b"tick\n"),
         Ok(Request::Jump(clock)) => println!(rt; "jump {clock}"),
         Ok(Request::Call(call)) => print_call(rt, call, numbers),
-        Ok(Request::Agreement) => match lines::agreement_of(text) {
-            Some(a) => print_agreement(rt, &a),
-            None => Ok(()),
-        },
+        Ok(Request::Agreement) => show_agreement(rt, text),
     }
 }
 
