@@ -46,6 +46,9 @@ one_long n h = ap length (one_digit n h)
 pub more_long : (n : ℕ) → 10 ≤ n → length (decimal n) ≡ length (decimal (n / 10)) + 1
 more_long n h = ap length (more_digits n h) ∙ length-append (decimal (n / 10)) (digit (n % 10) ∷ [])
 
+pub two_long : (n : ℕ) → 10 ≤ n → n < 100 → length (decimal n) ≡ 2
+two_long n h k = omega (arith, more_long n h, one_long (n / 10) (omega arith))
+
 ten_power : (k : ℕ) → 1 ≤ 10 ^ k
 ten_power zero = omega arith
 ten_power (suc k) = omega (arith, ten_power k)
@@ -110,6 +113,27 @@ unfolding last_digits
 store_last buffer at k n =
     ap (λ (j : ℕ). sets (set buffer (at + j) (48 + n % 10)) at (last_digits k (n / 10))) (sym (last_long k (n / 10)))
     ∙ sets_last (last_digits k (n / 10)) buffer at (48 + n % 10)
+
+-- the first digit, stored last
+pub first_stored : (buffer : List ℕ) (at k n : ℕ) → k ≡ 1 → n < 10 → set buffer at (48 + n) ≡ sets buffer at (last_digits k n)
+first_stored buffer at k n e h =
+    let z : at ≡ at + 0 = omega arith in
+    let m : n ≡ n % 10 = omega arith in
+    (λ i. set buffer (z i) (48 + m i))
+    ∙ no_digits (set buffer (at + 0) (48 + n % 10)) at 0 (n / 10) refl
+    ∙ store_last buffer at 0 n
+    ∙ ap (λ (j : ℕ). sets buffer at (last_digits j n)) (sym e)
+
+-- a number of one digit, and one of more
+pub is_one_digit : (n : ℕ) → length (decimal n) ≤ 1 → n < 10
+is_one_digit n h =
+    by_cases (λ (_ : ℕ). n < 10) (ltb n 10) 0 0 (λ t. ltb-true n 10 t)
+    λ t. omega (arith, h, more_long n (ltb-false n 10 t), some_digits (n / 10))
+
+pub one_less : (n : ℕ) → 1 < length (decimal n) → length (decimal n) ≡ length (decimal (n / 10)) + 1
+one_less n h =
+    by_cases (λ (_ : ℕ). length (decimal n) ≡ length (decimal (n / 10)) + 1) (ltb n 10) 0 0 (λ t. absurd (omega (arith, h, one_long n (ltb-true n 10 t))))
+    λ t. more_long n (ltb-false n 10 t)
 
 -- ---- whole numbers
 

@@ -11,6 +11,7 @@ use native.Mathlib.Omega.{arith}
 use lib.ListN.{length, get_or, take, drop}
 use lib.IntN.{ℤ, pos}
 use lib.Dec.{eqb}
+use borrow.Rule.Slice.PartMut.{mid_of, put_mid, mid_len}
 use borrow.Author.Tests.{eq-eqb, ne_eqb, lt-ltb, le-ltb, eqb-true, eqb-false}
 use Rattle.laws.specs.Choice.{pick}
 use Rattle.laws.specs.Lists.{every}
@@ -21,7 +22,7 @@ use Rattle.contract.specs.Decode.{contract_of}
 use Rattle.contract.specs.Check.{passes}
 use Rattle.contract_laws.proofs.Inversions.{by_test}
 use Rattle.printing.specs.Pieces.{Put}
-use Rattle.printing.proofs.Puts.{kept, then, same, over, line_end_lem}
+use Rattle.printing.proofs.Puts.{kept, then, same, over, line_end_lem, part_put}
 use Rattle.results.specs.Coded.{report_from, report_of, whole_of, report_at, reports_from}
 use Rattle.results.specs.Lines.{report_ok, told_ok, line_of}
 use Rattle.results.specs.Results.{first_reports, batch_of, batch, lines_of, batch_after}
@@ -192,6 +193,10 @@ lines_append c [] ys = refl
 lines_append c (None ∷ xs) ys = lines_append c xs ys
 lines_append c (Some x ∷ xs) ys = ap (λ (l : List ℕ). line_of c x ++ l) (lines_append c xs ys) ∙ sym (append_assoc (line_of c x) (lines_of c xs) (lines_of c ys))
 
+-- a line in the part of a buffer that is lent for it
+part_line : {new line ys : List ℕ} {a e n : ℕ} → a ≤ e → e ≤ length new → PutLine (mid_of a (e - a) new) 0 line n ys → PutLine new a line (a + n) (put_mid a (e - a) new ys)
+part_line h l p = record { put = part_put h l p.put; short = p.short }
+
 -- the lines before report i stand first in the buffer, none of them longer than 128 bytes
 pub record Going (c : Contract) (ns : List ℕ) (zs : List ℤ) (from to : ℕ) (old : List ℕ) (i used : ℕ) (new : List ℕ) : Type 0 where
   pub first : from ≤ i
@@ -217,6 +222,9 @@ module _ {c : Contract} {ns : List ℕ} {zs : List ℤ} {from to : ℕ} {old : L
     pub next_room : 128 * (to - from) ≤ length old → i < to → used + 128 ≤ length new
     next_room h l = omega (arith, kept g.lines, g.short, g.first)
 
+    pub part_room : 128 * (to - from) ≤ length old → i < to → 128 ≤ length (mid_of used (used + 128 - used) new)
+    part_room h l = omega (arith, mid_len used (used + 128) new (next_room h l))
+
     -- the lines with those of report i
     lines_next : {x : Option Report} → x ≡ report_at ns zs i
         → lines_of c (reports_from ns zs from (i - from)) ++ lines_of c (x ∷ []) ≡ lines_of c (reports_from ns zs from (i + 1 - from))
@@ -229,10 +237,12 @@ module _ {c : Contract} {ns : List ℕ} {zs : List ℤ} {from to : ℕ} {old : L
         ∙ ap (λ (m : ℕ). lines_of c (reports_from ns zs from m)) e
 
     -- one line more
-    pub turn : {r : Report} {n : ℕ} {next : List ℕ} → i < to → Some r ≡ report_at ns zs i → PutLine new used (line_of c r) n next
-        → Going c ns zs from to old (i + 1) n next
+    pub turn : {r : Report} {n : ℕ} {line : List ℕ} → 128 * (to - from) ≤ length old → i < to → Some r ≡ report_at ns zs i
+        → PutLine (mid_of used (used + 128 - used) new) 0 (line_of c r) n line
+        → Going c ns zs from to old (i + 1) (used + n) (put_mid used (used + 128 - used) new line)
     unfolding lines_of
-    turn {r} l q p =
+    turn {r} h l q line =
+        let p = part_line (omega arith) (next_room h l) line in
         record {
           first = omega (arith, g.first);
           few = omega (arith, g.first, l);

@@ -4,15 +4,24 @@ ghost use Rattle.laws.specs.Bytes.{bytes};
 ghost use Rattle.words.specs.Words.{spelled, event_match, line_end};
 ghost use Rattle.contract.specs.Decode.{contract_of};
 ghost use Rattle.contract.specs.Check.{ranges};
+ghost use Rattle.printing.specs.Pieces.{put, place_after};
 ghost use Rattle.printing.proofs.Writers.{Wrote, HasRoom};
 ghost use Rattle.results.specs.Lines.{value_ok, refusal, text_refusal, report_ok, rule_name, value_text, arrow, refused_text, line_of};
-ghost use Rattle.results.specs.Private.{Ready, ReadyValue, WroteLine};
+ghost use Rattle.results.specs.Private.{Ready, ReadyValue, PutLine, WroteLine};
 ghost use Rattle.results.specs.declared.Report.TheVariants.{Ruled, Sent, Held};
 
 use crate::Report;
 use contract::{Contract, TableHead};
 use printing::Writer;
 use tables::Passed;
+
+// Whether a number is one of those from `lo` to `hi`.
+#[tactic(auto, unfolding(contract::specs::Check::ranges))]
+fn is_within(lo: u8, n: u8, hi: u8) -> bool
+    ensures { result ≡ ranges lo n hi }
+{
+    (lo <= n) & (n <= hi)
+}
 
 // The kinds of a label.
 #[tactic(auto, unfolding(contract::specs::Check::ranges))]
@@ -24,12 +33,14 @@ fn is_kind(n: u8) -> bool
 
 // The numbers of the questions that refuse a step or a session line.
 // Kept: (d) ranges of the documents' numbers, here, below and of a failed firing, as the definitions have them: by name they are lists of 26,
-// 13 and 7 questions, and a report's number would be looked up among all 43 first.
-#[tactic(auto, unfolding(crate::specs::Lines::refusal, contract::specs::Check::ranges))]
+// 13 and 7 questions, and a report's number would be looked up among all 43 first. (b) Of a refusal each test is asked, whatever the one before it
+// says: by one `matches!` question 51 takes 22 instructions for 9.
 fn is_refusal(n: u8) -> bool
     ensures { result ≡ refusal n }
 {
-    matches!(n, 3 | 4 | 20..=37 | 39..=41 | 50..=51 | 62)
+    (n == 3)
+        | ((n == 4)
+            | (is_within(20, n, 37) | (is_within(39, n, 41) | (is_within(50, n, 51) | (n == 62)))))
 }
 
 // The numbers of those that refuse a text.
@@ -113,6 +124,23 @@ pub fn rule_word(rule: u8) -> u8
     }
 }
 
+// The name of a rule.
+// Kept: (b) each rule's word by its own number, here and of an arrow, and not by what `rule_word` gives: the bytes are then known where they are
+// put. By the number alone a copy of any length is called: 29 instructions more a label, of 175.
+#[tactic(auto, unfolding(crate::specs::Lines::rule_name, laws::specs::Choice::pick))]
+fn put_rule_name(out: &mut Writer, rule: u8)
+    ensures place { out.new.at ≡ place_after out.old.buffer.now out.old.at (rule_name rule) }
+    ensures bytes { out.new.buffer.now ≡ put out.old.buffer.now out.old.at (rule_name rule) }
+    ensures same_buffer { out.new.buffer.ghost_name ≡ out.old.buffer.ghost_name }
+{
+    match rule {
+        Report::AGREEMENT => out.put_word(words::AGREE),
+        Report::CALL => out.put_word(words::FUNCTION),
+        Report::FIRING => out.put_word(words::EVENT_MATCH),
+        _ => out.put_word(words::TICK),
+    }
+}
+
 // The name of a rule in its brackets, and a space.
 fn put_rule(out: &mut Writer, rule: u8)
     requires { HasRoom 14 out.old }
@@ -120,7 +148,7 @@ fn put_rule(out: &mut Writer, rule: u8)
     ensures same_buffer { out.new.buffer.ghost_name ≡ out.old.buffer.ghost_name }
 {
     out.put_word(words::OPEN_BRACKET);
-    out.put_word(rule_word(rule));
+    put_rule_name(out, rule);
     out.put_word(words::CLOSE_BRACKET);
     out.put_word(words::SPACE);
 }
@@ -156,16 +184,18 @@ fn put_value(out: &mut Writer, terms: &Passed, kind: u8, value: i64)
     }
 }
 
-// The word that is a label's arrow.
+// A label's arrow.
 // Kept: (d) the arrow's two words are two numbers of the table of words: no type has these two values, and the if says both.
 #[tactic(auto, unfolding(crate::specs::Lines::arrow, laws::specs::Choice::pick))]
-fn arrow_word(kind: u8) -> u8
-    ensures { spelled result ≡ arrow kind }
+fn put_mark(out: &mut Writer, kind: u8)
+    ensures place { out.new.at ≡ place_after out.old.buffer.now out.old.at (arrow kind) }
+    ensures bytes { out.new.buffer.now ≡ put out.old.buffer.now out.old.at (arrow kind) }
+    ensures same_buffer { out.new.buffer.ghost_name ≡ out.old.buffer.ghost_name }
 {
     if kind == Report::ASSET {
-        words::ASSET_ARROW
+        out.put_word(words::ASSET_ARROW);
     } else {
-        words::VALUE_ARROW
+        out.put_word(words::VALUE_ARROW);
     }
 }
 
@@ -176,7 +206,7 @@ fn put_arrow(out: &mut Writer, kind: u8)
     ensures same_buffer { out.new.buffer.ghost_name ≡ out.old.buffer.ghost_name }
 {
     out.put_word(words::SPACE);
-    out.put_word(arrow_word(kind));
+    put_mark(out, kind);
     out.put_word(words::SPACE);
 }
 
@@ -228,7 +258,7 @@ fn put_failed(out: &mut Writer, n: u8)
 }
 
 // The line of a report.
-pub(crate) fn put_line(out: &mut Writer, terms: &Passed, report: Report)
+fn put_line(out: &mut Writer, terms: &Passed, report: Report)
     requires { Ready terms.now.table.now report out.old.buffer.now out.old.at }
     ensures written { WroteLine out.old (line_of (contract_of terms.now.table.now) report) out.new }
     ensures same_buffer { out.new.buffer.ghost_name ≡ out.old.buffer.ghost_name }
@@ -240,4 +270,14 @@ pub(crate) fn put_line(out: &mut Writer, terms: &Passed, report: Report)
         Report::Refused(n) => put_refusal(out, n),
         Report::Failed(n) => put_failed(out, n),
     }
+}
+
+// The same from a buffer's start on; how many bytes it has.
+pub(crate) fn write_line(terms: &Passed, report: Report, buffer: &mut [u8]) -> usize
+    requires { Ready terms.now.table.now report buffer.old 0 }
+    ensures { PutLine buffer.old 0 (line_of (contract_of terms.now.table.now) report) result buffer.new }
+{
+    let mut out = Writer::new(buffer);
+    put_line(&mut out, terms, report);
+    out.at
 }

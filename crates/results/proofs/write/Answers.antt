@@ -1,5 +1,4 @@
 -- `results::write` meets its contract. Assumes nothing.
-use borrow.Author.Rules.{rules}
 use mathlib.Core.Path.{sym, ap, ◌∙◌}
 use mathlib.Core.List.{List}
 use Prim.Native.Nat.{ℕ, ◌<◌}
@@ -7,7 +6,7 @@ use native.Mathlib.Omega.{arith}
 use lib.ListN.{length}
 use Rattle.contract.specs.Decode.{contract_of}
 use Rattle.results.specs.Lines.{report_ok, line_of}
-use Rattle.printing.proofs.Puts.{from_start, same}
+use Rattle.printing.proofs.Puts.{same}
 use Rattle.results.proofs.Assembled.{no_space, no_table, no_kind, wrote, same_table, passes_then, not_passed}
 use Rattle.results.proofs.write.Goals as goal
 
@@ -23,10 +22,10 @@ pub returns-then-not-report_ok : goal.returns-then-not-report_ok
 returns-then-not-report_ok c =
     no_kind _ _ _ c.if-buffer-lt-ROOM.false (passes_then c.args.table.now c.of.ensures c.in-Some.is) (sym c.report_ok.ensures ∙ c.if-not-report_ok.true)
 
-pub put_line-requires : goal.put_line-requires
-put_line-requires c =
+pub write_line-requires : goal.write_line-requires
+write_line-requires c =
     record {
-      room = omega (arith, c.new-out.ensures.place, ap length c.new-out.ensures.bytes, c.if-buffer-lt-ROOM.false);
+      room = omega (arith, c.if-buffer-lt-ROOM.false);
       range = ap (λ (w : List ℕ). report_ok (contract_of w) c.args.report) (same_table c.args.table.now c.of.ensures c.in-Some.is) ∙ sym c.report_ok.ensures ∙ c.if-not-report_ok.false;
     }
 
@@ -34,4 +33,4 @@ pub returns : goal.returns
 returns c =
     wrote _ _ _ c.if-buffer-lt-ROOM.false (passes_then c.args.table.now c.of.ensures c.in-Some.is) (sym c.report_ok.ensures ∙ c.if-not-report_ok.false)
     (same (ap (λ (w : List ℕ). line_of (contract_of w) c.args.report) (same_table c.args.table.now c.of.ensures c.in-Some.is))
-    (from_start c.new-out.ensures.place c.new-out.ensures.bytes c.put_line.ensures.written.put (search rules)))
+    c.write_line.ensures.put)

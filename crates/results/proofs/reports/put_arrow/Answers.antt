@@ -1,10 +1,9 @@
 -- `results::reports::put_arrow` meets its contract. Assumes nothing.
 use Rattle.words.specs.Words.{spelled}
-use Rattle.printing.proofs.Puts.{puts_same}
 use Rattle.results.proofs.Assembled.{arrow_piece}
 use Rattle.results.proofs.reports.put_arrow.Goals as goal
 
 pub returns-clause-written : goal.returns-clause-written
 unfolding spelled
 returns-clause-written c =
-    arrow_piece c.args.kind c.requires c.put_word.ensures (puts_same _ _ c.arrow_word.ensures c.put_word-2.ensures) c.put_word-3.ensures
+    arrow_piece c.args.kind c.requires c.put_word.ensures c.put_mark.ensures c.put_word-2.ensures
