@@ -1,12 +1,17 @@
 -- Lines of a page put together from their pieces. Assumes nothing.
 use mathlib.Core.Path.{◌≡◌, refl, sym, ap, subst, ◌∙◌}
+use mathlib.Core.Bool.{true, ◌||◌}
 use mathlib.Core.List.{List, [], ◌∷◌, ◌++◌, append_assoc}
 use Prim.Native.Nat.{ℕ, ◌+◌, ◌-◌, ◌/◌, ◌%◌, ◌≤◌}
 use native.Mathlib.Omega.{arith}
 use lib.ListN.{length, get_or, length-append}
 use lib.IntN.{nat_abs}
+use lib.Dec.{eqb}
+use borrow.Author.Tests.{eqb-true, ne_eqb}
 use Rattle.laws.specs.Bytes.{bytes}
-use Rattle.words.specs.Words.{spelled, line_end}
+use Rattle.laws.specs.Choice.{pick}
+use Rattle.laws.proofs.Truths.{or_right}
+use Rattle.words.specs.Words.{spelled, function, event_match, line_end}
 use Rattle.contract.specs.Tree.{Contract}
 use Rattle.printing.specs.Decimal.{decimal}
 use Rattle.printing.specs.Pieces.{spaces}
@@ -49,6 +54,26 @@ module _ {old mid new : List ℕ} {at m end : ℕ} {s1 s2 : Type 0} where
       let one = left_room n word h p in
       let s : g ≡ n - length word = omega (arith, f, one.place) in
       part h one λ h. put_of (spaces (n - length word)) (puts_same _ _ (ap spaces s) q) h
+
+  -- the same by the word's length
+  pub word_piece : (n : ℕ) (word : List ℕ) {d g : ℕ} → at + length (left n word) ≤ length old → Puts old at word m mid s1 → d ≡ length word → g ≡ n - d
+      → Puts mid m (spaces g) end new s2 → Put old at (left n word) end new
+  unfolding left
+  word_piece n word {d} {g} h p e f q =
+      let s : g ≡ n - length word = f ∙ ap (λ (x : ℕ). n - x) e in
+      part h (left_room n word h p) λ h. put_of (spaces (n - length word)) (puts_same _ _ (ap spaces s) q) h
+
+-- ---- the name of a call's rule, and of a firing's
+
+pub call_name : {rule : ℕ} → rule ≡ 1 → spelled function ≡ rule_name rule
+unfolding rule_name pick
+call_name e = ap rule_name (sym e)
+
+pub firing_name : {rule : ℕ} → (eqb rule 1 || eqb rule 2) ≡ true → (rule ≡ 1 → ⊥) → spelled event_match ≡ rule_name rule
+unfolding rule_name pick
+firing_name {rule} r d =
+    let e : rule ≡ 2 = eqb-true rule 2 (or_right (eqb rule 1) (eqb rule 2) (ne_eqb rule 1 d) r) in
+    ap rule_name (sym e)
 
 -- ---- the two halves of a line
 

@@ -13,6 +13,7 @@ ghost use Rattle.pages.specs.Private.{entry_of, step_text, payee_text};
 use crate::Sheet;
 use crate::payouts::Entry;
 use printing::Writer;
+use results::Report;
 use tables::Passed;
 
 // A number at the right of 19 bytes.
@@ -26,21 +27,33 @@ fn put_right(out: &mut Writer, n: u64)
     out.put_number(n);
 }
 
+// A fixed word at the left of 11 bytes.
+fn put_column(out: &mut Writer, which: u8)
+    requires { HasRoom (length (left 11 (spelled which))) out.old }
+    ensures written { Wrote out.old (left 11 (spelled which)) out.new }
+    ensures same_buffer { out.new.buffer.ghost_name ≡ out.old.buffer.ghost_name }
+{
+    out.put_word(which);
+    out.put_spaces(Sheet::RULE.saturating_sub(words::word_length(which)));
+}
+
 // The name of a call's or a firing's rule at the left of 11 bytes.
+// Kept: (b) by two numbers that are fixed here, so that the bytes and the length of a word stand in the instructions that store it (docs/DECISIONS.md,
+// 90): by the number that `results::rule_word` gives a page of 60 payouts takes 8 to 10 per cent more instructions.
 fn put_rule(out: &mut Writer, rule: u64)
     requires rule { (eqb rule 1 || eqb rule 2) ≡ true }
     requires room { HasRoom (length (left 11 (rule_name rule))) out.old }
     ensures written { Wrote out.old (left 11 (rule_name rule)) out.new }
     ensures same_buffer { out.new.buffer.ghost_name ≡ out.old.buffer.ghost_name }
 {
-    let start = out.at;
-    out.put_word(results::rule_word(rule as u8));
-    let width = out.at - start;
-    out.put_spaces(Sheet::RULE.saturating_sub(width));
+    if rule == Report::CALL as u64 {
+        put_column(out, words::FUNCTION);
+    } else {
+        put_column(out, words::EVENT_MATCH);
+    }
 }
 
 // A party's name at the left of 32 bytes.
-// Kept: (d) it ends as `put_rule` does: a function of the two lines would take the start and the piece put since, in its clauses too.
 fn put_party(out: &mut Writer, terms: &Passed, party: usize)
     requires party { party < length (contract_of terms.now.table.now).parties }
     requires room { HasRoom (length (left 32 (get_or (contract_of terms.now.table.now).parties party []))) out.old }
