@@ -14,6 +14,7 @@ use Rattle.state.specs.declared.State.{State}
 use Rattle.state.specs.States.{with_integer, opened}
 use Rattle.outcomes.specs.declared.Rule.TheVariants.{Agree}
 use Rattle.outcomes.specs.declared.Outcome.TheVariants.{Accepted}
+use Rattle.questions.specs.declared.Question.{Question}
 use Rattle.outcomes.specs.declared.Stepped.{Stepped}
 use Rattle.outcomes.specs.Outcomes.{answered, refused}
 
@@ -123,7 +124,7 @@ same_map s ks ps = eqb (fields_of tree.set ks) (fields_of ok ks) && agreed_claus
 -- ---- the step
 
 -- 21, 23, 24
-unfoldable pub agreed_on : Contract → State → List Part → Stepped
+unfoldable pub agreed_on : Contract → State → List Part → Stepped Question
 agreed_on c s ps =
     pick s.agreed (refused s ask.NotAgreed)
     (pick (same_clauses c c.clauses ps)
@@ -133,5 +134,5 @@ agreed_on c s ps =
     (refused s ask.SameClauses))
 
 -- 3, then the agreement on the table's contract
-unfoldable pub agreed_in : List ℕ → State → List Part → Stepped
+unfoldable pub agreed_in : List ℕ → State → List Part → Stepped Question
 agreed_in w s ps = pick (passes w) (agreed_on (contract_of w) s ps) (refused s ask.TableCheck)

@@ -24,6 +24,7 @@ use Rattle.state.specs.States.{max_pending, blank, fresh_at, used, field_slot_ok
 use Rattle.state.proofs.Within as state
 use Rattle.state.proofs.Within.{Within}
 use Rattle.results.specs.Lines.{report_ok}
+use Rattle.questions.specs.declared.Question.{Question}
 use Rattle.outcomes.specs.declared.Stepped.{Stepped}
 use Rattle.outcomes.specs.Outcomes.{no_labels}
 use Rattle.step_reports.specs.Reports.{told, max_told}
@@ -120,7 +121,7 @@ module _ (w : List ℕ) (p : passes w ≡ true) where
             ≡ on_turn (here s at) (λ x next. before (told (heard c s x)) (plain turns (room - length (told (heard c s x))) (heard c s x).state next)) u
         go f wait h = refl
         go f (takes x next) h =
-            ap (λ (t : Stepped). before (told t) (asking turns (room - length (told t)) t.state next)) (heard_same g x)
+            ap (λ (t : Stepped Question). before (told t) (asking turns (room - length (told t)) t.state next)) (heard_same g x)
             ∙ ap (before (told (heard c s x))) (f (room - length (told (heard c s x))) (heard c s x).state next (heard_good g x h))
 
     pub sessions_good : (turns room : ℕ) (s : State) (at : ℕ) → Good c s → Good c (plain turns room s at).state

@@ -64,7 +64,7 @@ pub record CallOk (c : Contract) (s : State) (i : Invocation) (n : ℕ) (f : Fun
   pub given : schedule (memory_in i.values s.clock (body_ran c s i n f)) s.clock n 0 f.events ≡ times ps
   pub room : length (live s) + length ps ≤ max_pending
 
-pub data ComesOut (c : Contract) (s : State) : Request → Stepped → Type 0 where
+pub data ComesOut (c : Contract) (s : State) : Request → Stepped Question → Type 0 where
   refusal : {q : Request} (n : Question) → ComesOut c s q (refused s n)
   agrees : (ps : List Part) → s.agreed ≡ false → ComesOut c s (agreement ps) (answered (Accepted Agree) (opened (set_clauses s c.clauses ps) c.initial))
   calls : (i : Invocation) (n : ℕ) (f : Function) (ps : List Pending) → CallOk c s i n f ps
@@ -205,9 +205,9 @@ request_came c s tick = tick_came c s
 request_came c s (jump T) = jump_came c s T
 
 -- on a table: refused, or the table, the state and the label slice were found right
-pub data Answers (w : List ℕ) (s : State) (a : Step) : Stepped → Type 0 where
+pub data Answers (w : List ℕ) (s : State) (a : Step) : Stepped Question → Type 0 where
   first_refusal : (n : Question) → Answers w s a (refused s n)
-  by_rule_lem : {r : Stepped} → passes w ≡ true → state_ok (contract_of w) s ≡ true → room_needed (contract_of w) ≤ length a.slice
+  by_rule_lem : {r : Stepped Question} → passes w ≡ true → state_ok (contract_of w) s ≡ true → room_needed (contract_of w) ≤ length a.slice
       → ComesOut (contract_of w) s a.request r → Answers w s a r
 
 pub answered_so : (w : List ℕ) (s : State) (a : Step) → Answers w s a (answer_to w s a)

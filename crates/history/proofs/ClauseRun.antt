@@ -16,6 +16,7 @@ use Rattle.state.specs.States.{blank, no_function, live, pending_ok, state_ok, d
 use Rattle.state.proofs.Dues.{first_to_fire}
 use Rattle.state.proofs.Each.{each_get_or}
 use Rattle.state.proofs.Within.{within, live_ok}
+use Rattle.questions.specs.declared.Question.{Question}
 use Rattle.outcomes.specs.declared.Stepped.{Stepped}
 use Rattle.machine.specs.Steps.{Chosen, Request, agreement, call, firing, tick, jump, Runs, function, event, neither, clause_chosen, clause_due, clause_run}
 use Rattle.history.specs.Histories.{Step, answer_to, is_refused}
@@ -48,7 +49,7 @@ pending_clause c s k o h =
 due_clause : (c : Contract) (s : State) (k : ℕ) → state_ok c s ≡ true → due_in c s ≡ Some k → ClauseOf c (clause_due s (due_in c s))
 due_clause c s k o d = subst (λ (z : Option ℕ). ClauseOf c (clause_due s z)) (sym d) (pending_clause c s k o (first_to_fire c s k d).is_pending)
 
-came_clause : {q : Request} (c : Contract) (s : State) {r : Stepped} → state_ok c s ≡ true → ComesOut c s q r → is_refused r.outcome ≡ false → RunsAsAsked c q (clause_run c s q)
+came_clause : {q : Request} (c : Contract) (s : State) {r : Stepped Question} → state_ok c s ≡ true → ComesOut c s q r → is_refused r.outcome ≡ false → RunsAsAsked c q (clause_run c s q)
 came_clause c s o (refusal n) e = true_false e
 came_clause c s o (agrees ps a) e = refl
 came_clause c s o (calls i n f ps k) e = subst (λ (z : Chosen). ClauseOf c (clause_chosen z)) (sym k.runs) k.known
@@ -57,7 +58,7 @@ came_clause c s o (fails k n a d h) e = due_clause c s k o d
 came_clause c s o (ticks a d l) e = refl
 came_clause c s o (jumps T a d l) e = refl
 
-answer_clause : {w : List ℕ} {s : State} {a : Step} {r : Stepped} → Answers w s a r → is_refused r.outcome ≡ false → RunsAsAsked (contract_of w) a.request (clause_run (contract_of w) s a.request)
+answer_clause : {w : List ℕ} {s : State} {a : Step} {r : Stepped Question} → Answers w s a r → is_refused r.outcome ≡ false → RunsAsAsked (contract_of w) a.request (clause_run (contract_of w) s a.request)
 answer_clause (first_refusal n) e = true_false e
 answer_clause {w} {s} (by_rule_lem p o h c) e = came_clause (contract_of w) s o c e
 

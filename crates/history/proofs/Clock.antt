@@ -28,6 +28,7 @@ use Rattle.state.proofs.Within.{removed_count}
 use Rattle.statements.specs.declared.Label.{Label}
 use Rattle.outcomes.specs.declared.Rule.TheVariants.{Tick}
 use Rattle.outcomes.specs.declared.Outcome.TheVariants.{Accepted}
+use Rattle.questions.specs.declared.Question.{Question}
 use Rattle.outcomes.specs.declared.Stepped.{Stepped}
 use Rattle.outcomes.specs.Outcomes.{answered}
 use Rattle.machine.specs.Steps.{handled, fire_by_due, fired, tick_by_due, ticked, step, firing, tick, requested, room_needed}
@@ -40,7 +41,7 @@ use Rattle.machine.proofs.Refusals.{by_refusal}
 
 -- ---- one firing
 
-pub record Fired (s : State) (r : Stepped) : Type 0 where
+pub record Fired (s : State) (r : Stepped Question) : Type 0 where
   pub not_refused : is_refused r.outcome ≡ false
   pub agreed : r.state.agreed ≡ true
   pub clock : r.state.clock ≡ s.clock
@@ -83,8 +84,8 @@ module _ (w : List ℕ) (p : passes w ≡ true) where
         record {
           none-refused = refl;
           nothing_due = d;
-          tick_accepted = λ k h. ap (λ (r : Stepped). r.outcome) (tick_is k h);
-          clock_rises = λ k h. ap (λ (r : Stepped). r.state.clock) (tick_is k h);
+          tick_accepted = λ k h. ap (λ (r : Stepped Question). r.outcome) (tick_is k h);
+          clock_rises = λ k h. ap (λ (r : Stepped Question). r.state.clock) (tick_is k h);
         }
       where
         tick_is : (k : List Label) → room_needed (contract_of w) ≤ length k → answer_to w s (record { request = tick; slice = k }) ≡ answered (Accepted Tick) (time_passed s)
@@ -101,10 +102,10 @@ module _ (w : List ℕ) (p : passes w ≡ true) where
         let x : Cleared w (fired c s).state ls = f ls (omega arith) (every_tail (roomy w) l ls h) in
         let r : answer_to w s (record { request = firing; slice = l }) ≡ fired c s =
         answered_by s (good_ok g) (record { request = firing; slice = l }) (leb-true (room_needed c) (length l) (every_head (roomy w) l ls h)) in
-        let q : (answer_to w s (record { request = firing; slice = l })).state ≡ (fired c s).state = ap (λ (r : Stepped). r.state) r in
+        let q : (answer_to w s (record { request = firing; slice = l })).state ≡ (fired c s).state = ap (λ (r : Stepped Question). r.state) r in
         record {
           none-refused =
-              subst (λ (r : Stepped). pick (is_refused r.outcome) false (none_refused (history w r.state (firings ls)).answers) ≡ true) (sym r)
+              subst (λ (r : Stepped Question). pick (is_refused r.outcome) false (none_refused (history w r.state (firings ls)).answers) ≡ true) (sym r)
               (pick_false _ _ _ (fired_so g a k d).not_refused ∙ x.none-refused);
           nothing_due = subst (λ (u : State). due_in c (history w u (firings ls)).state ≡ None) (sym q) x.nothing_due;
           tick_accepted = λ i n.
@@ -140,7 +141,7 @@ module _ (w : List ℕ) (clock : ℕ) (h : top < clock) where
   late_same : (a : Step) → (answer_to w (fresh_at clock) a).state ≡ fresh_at clock
   unfolding answer_to step fresh_at
   late_same a =
-      let P : Stepped → Type 0 = λ r. r.state ≡ fresh_at clock in
+      let P : Stepped Question → Type 0 = λ r. r.state ≡ fresh_at clock in
       by_cases P _ _ _
       (λ _. by_cases P _ _ _ (λ o. absurd (omega (arith, (state.within (contract_of w) (fresh_at clock) o).clock))) (λ _. refl))
       (λ _. refl)

@@ -100,11 +100,11 @@ set_clauses_assets s (k ∷ ks) (p ∷ ps) = set_clauses_assets (set_clause s k 
 -- ---- a step, by any weights and any test of payouts that the block run respects
 
 -- the payouts among an answer's labels
-abbrev pub paid_by : Stepped → List Label
+abbrev pub paid_by : Stepped Question → List Label
 paid_by r = payouts_in (take r.count r.labels)
 
 -- what the parameters bring in is what the state then holds more and what is paid out, and the payouts pass the test
-pub record Weighs (f : ℕ → ℕ) (g : Label → ℕ) (p : Label → Bool) (s : State) (ps : List ℕ) (r : Stepped) : Type 0 where
+pub record Weighs (f : ℕ → ℕ) (g : Label → ℕ) (p : Label → Bool) (s : State) (ps : List ℕ) (r : Stepped Question) : Type 0 where
   pub assets_length : length r.state.assets ≡ max_assets
   pub weight : weighed f max_assets ps + weighed f 0 s.assets ≡ weighed f 0 r.state.assets + paid_out g (paid_by r)
   pub payouts : every p (paid_by r) ≡ true
@@ -113,7 +113,7 @@ pub record Weighs (f : ℕ → ℕ) (g : Label → ℕ) (p : Label → Bool) (s 
 
 module _ (f : ℕ → ℕ) (g : Label → ℕ) (p : Label → Bool) {s : State} (l : length s.assets ≡ max_assets) where
   -- nothing comes in or goes out
-  quiet_weighs : (o : Outcome) (t : State) → t.assets ≡ s.assets → Weighs f g p s [] (record { outcome = o; state = t; labels = no_labels; count = 0 })
+  quiet_weighs : (o : Outcome Question) (t : State) → t.assets ≡ s.assets → Weighs f g p s [] (record { outcome = o; state = t; labels = no_labels; count = 0 })
   unfolding payouts_in every paid_out weighed
   quiet_weighs o t e =
       record { assets_length = ap length e ∙ l; weight = omega (arith, ap (weighed f 0) e); payouts = refl; labels_few = omega arith; labels_length = repeated_length max_labels no_label }
@@ -159,7 +159,7 @@ module _ (f : ℕ → ℕ) (g : Label → ℕ) (p : Label → Bool) {s : State} 
 
 -- ---- a step, where all weigh alike
 
-pub record Counted (c : Contract) (q : Request) (s : State) (r : Stepped) : Type 0 where
+pub record Counted (c : Contract) (q : Request) (s : State) (r : Stepped Question) : Type 0 where
   pub weighs : Weighs alike evenly is_amount s (amounts (amounts_of (deposit c s q r.outcome))) r
   pub deposits : every brings (deposit c s q r.outcome) ≡ true
 
@@ -182,7 +182,7 @@ deposits_bring c n j [] e = refl
 deposits_bring c n j (z ∷ zs) e = both_true (le_z (pos 0) z) _ (every_head (le_z (pos 0)) z zs e) (deposits_bring c n (suc j) zs (every_tail (le_z (pos 0)) z zs e))
 
 module _ {s : State} (l : length s.assets ≡ max_assets) where
-  quiet_counted : (c : Contract) (q : Request) (o : Outcome) (t : State) → t.assets ≡ s.assets → deposit c s q o ≡ []
+  quiet_counted : (c : Contract) (q : Request) (o : Outcome Question) (t : State) → t.assets ≡ s.assets → deposit c s q o ≡ []
       → Counted c q s (record { outcome = o; state = t; labels = no_labels; count = 0 })
   unfolding every amounts amounts_of
   quiet_counted c q o t e d =
@@ -192,7 +192,7 @@ module _ {s : State} (l : length s.assets ≡ max_assets) where
         deposits = ap (every brings) d;
       }
 
-  came_counted : (c : Contract) → Bounded c → {q : Request} {r : Stepped} → ComesOut c s q r → Counted c q s r
+  came_counted : (c : Contract) → Bounded c → {q : Request} {r : Stepped Question} → ComesOut c s q r → Counted c q s r
   unfolding with_pending removed lapsed every amounts amounts_of
   came_counted c b (refusal {q = q} n) = quiet_counted c q (Refused n) s refl (refused_brings c s q n)
   came_counted c b (agrees ps a) = quiet_counted c (agreement ps) _ _ (set_clauses_assets s c.clauses ps) refl
@@ -211,7 +211,7 @@ module _ {s : State} (l : length s.assets ≡ max_assets) where
   came_counted c b (ticks a d h) = quiet_counted c tick _ _ refl refl
   came_counted c b (jumps T a d h) = quiet_counted c (jump T) _ _ (passed_assets (times_until_due c (nat_abs T - s.clock) s) s) refl
 
-  answer_counted : {w : List ℕ} {a : Step} {r : Stepped} → Answers w s a r → Counted (contract_of w) a.request s r
+  answer_counted : {w : List ℕ} {a : Step} {r : Stepped Question} → Answers w s a r → Counted (contract_of w) a.request s r
   answer_counted {w = w} {a = a} (first_refusal n) = quiet_counted (contract_of w) a.request (Refused n) s refl (refused_brings (contract_of w) s a.request n)
   answer_counted {w = w} (by_rule_lem p o h k) = came_counted (contract_of w) (bounded (contract_of w) (sound w p)) k
 
@@ -227,7 +227,7 @@ count_is n m h l = ap (λ (t : Bool). cond t 0 (min 64 m)) (le-ltb n 64 h) ∙ o
 front : (n : ℕ) (l k : List Label) → n ≤ length l → take n (take n l ++ k) ≡ take n l
 front n l k h = take_at (take n l) k n (length-take n l ∙ omega arith)
 
-copied_front : (old : List Label) (r : Stepped) → max_labels ≤ length old → r.count ≤ max_labels → length r.labels ≡ max_labels
+copied_front : (old : List Label) (r : Stepped Question) → max_labels ≤ length old → r.count ≤ max_labels → length r.labels ≡ max_labels
     → take r.count (copied_of old r.labels r.count) ≡ take r.count r.labels
 unfolding copied_of
 copied_front old r h few l =
@@ -235,7 +235,7 @@ copied_front old r h few l =
     ∙ front r.count r.labels (drop r.count old) (omega arith)
 
 module _ (s : State) (l : length s.assets ≡ max_assets) where
-  answer_left : {w : List ℕ} {a : Step} {r : Stepped} → Answers w s a r
+  answer_left : {w : List ℕ} {a : Step} {r : Stepped Question} → Answers w s a r
       → take r.count (copied_of a.slice r.labels r.count) ≡ take r.count r.labels
   answer_left (first_refusal n) = refl
   answer_left {w} {a} {r} (by_rule_lem p o h k) =
@@ -250,7 +250,7 @@ module _ (s : State) (l : length s.assets ≡ max_assets) where
   unfolding payouts_in
   payouts_left w a = go (answer_to w s a).outcome (step_idle w s a).no_labels
     where
-      go : (o : Outcome) → (by_rule o ≡ false → (answer_to w s a).count ≡ 0) → payouts_of (returned w s a) o ≡ paid_by (answer_to w s a)
+      go : (o : Outcome Question) → (by_rule o ≡ false → (answer_to w s a).count ≡ 0) → payouts_of (returned w s a) o ≡ paid_by (answer_to w s a)
       go (Accepted r) h = ap payouts_in (labels_left w a)
       go (Failed n) h = ap payouts_in (labels_left w a)
       go (Refused n) h = ap (λ (k : ℕ). payouts_in (take k (answer_to w s a).labels)) (sym (h refl))

@@ -117,13 +117,13 @@ group_brought k a b = ap brought (keep_append (λ d. eqb d.group k) a b) ∙ bro
 -- ---- a step
 
 -- what comes into the group is what the state then holds more and what is paid out; each deposit and each payout is of a group
-pub record Grows (c : Contract) (k : ℕ) (q : Request) (s : State) (r : Stepped) : Type 0 where
+pub record Grows (c : Contract) (k : ℕ) (q : Request) (s : State) (r : Stepped Question) : Type 0 where
   pub weight : brought (group_deposits k (deposit c s q r.outcome)) + group_holdings c k s ≡ group_holdings c k r.state + paid_out (by_label k) (paid_by r)
   pub deposits : every (λ d. is_group c d.group) (deposit c s q r.outcome) ≡ true
   pub payouts : every (of_a_group c) (paid_by r) ≡ true
 
 module _ (c : Contract) (t : fits c ≡ true) (k : ℕ) {s : State} (l : length s.assets ≡ max_assets) where
-  quiet_grows : (q : Request) (o : Outcome) (x : State) (ls : List Label) → x.assets ≡ s.assets → deposit c s q o ≡ []
+  quiet_grows : (q : Request) (o : Outcome Question) (x : State) (ls : List Label) → x.assets ≡ s.assets → deposit c s q o ≡ []
       → Grows c k q s (record { outcome = o; state = x; labels = ls; count = 0 })
   unfolding payouts_in every paid_out weighed amounts amounts_of keep
   quiet_grows q o x ls e d =
@@ -133,7 +133,7 @@ module _ (c : Contract) (t : fits c ≡ true) (k : ℕ) {s : State} (l : length 
         payouts = refl;
       }
 
-  came_grows : {q : Request} {r : Stepped} → ComesOut c s q r → Grows c k q s r
+  came_grows : {q : Request} {r : Stepped Question} → ComesOut c s q r → Grows c k q s r
   unfolding with_pending removed lapsed every amounts amounts_of keep weighed event_of scope_of
   came_grows (refusal {q = q} n) = quiet_grows q (Refused n) s _ refl (refused_brings c s q n)
   came_grows (agrees ps a) = quiet_grows (agreement ps) _ _ _ (set_clauses_assets s c.clauses ps) refl
@@ -167,7 +167,7 @@ module _ (c : Contract) (t : fits c ≡ true) (k : ℕ) {s : State} (l : length 
   came_grows (ticks a d h) = quiet_grows tick _ _ _ refl refl
   came_grows (jumps T a d h) = quiet_grows (jump T) _ _ _ (passed_assets (times_until_due c (nat_abs T - s.clock) s) s) refl
 
-  answer_grows : {w : List ℕ} {a : Step} {r : Stepped} → contract_of w ≡ c → Answers w s a r → Grows c k a.request s r
+  answer_grows : {w : List ℕ} {a : Step} {r : Stepped Question} → contract_of w ≡ c → Answers w s a r → Grows c k a.request s r
   answer_grows {a = a} e (first_refusal n) = quiet_grows a.request (Refused n) s _ refl (refused_brings c s a.request n)
   answer_grows {w = w} {a = a} {r = r} e (by_rule_lem p o h x) = came_grows (subst (λ (d : Contract). ComesOut d s a.request r) e x)
 

@@ -25,6 +25,7 @@ use Rattle.state.proofs.Passing.{passed_clock, passed_agreed, passed_fewer, pass
 use Rattle.statements.specs.declared.Label.{Label}
 use Rattle.outcomes.specs.declared.Rule.TheVariants.{Tick}
 use Rattle.outcomes.specs.declared.Outcome.TheVariants.{Accepted}
+use Rattle.questions.specs.declared.Question.{Question}
 use Rattle.outcomes.specs.declared.Stepped.{Stepped}
 use Rattle.outcomes.specs.Outcomes.{answered}
 use Rattle.machine.specs.Steps.{fired, jump_by_due, jumped, Request, firing, tick, jump, requested, room_needed}
@@ -83,11 +84,11 @@ module _ (w : List ℕ) (p : passes w ≡ true) where
   ticks_pass [] s o a h f r = record { accepted = none; state_is = refl }
   ticks_pass (l ∷ ls) s o a h f r =
       let e = tick_answer s o a (f 0 (omega arith)) (omega arith) l (every_head (roomy w) l ls r) in
-      let q = ap (λ (t : Stepped). t.state) e in
+      let q = ap (λ (t : Stepped Question). t.state) e in
       let x : Passed (time_passed s) ls =
       ticks_pass ls (time_passed s) (passed_ok (contract_of w) 1 s o a (omega arith)) a (omega arith) (λ k m. f (suc k) (omega arith)) (every_tail (roomy w) l ls r) in
       record {
-        accepted = and (ap (λ (t : Stepped). t.outcome) e) (subst (λ (u : State). AllTicks (history w u (ticks ls)).answers) (sym q) x.accepted);
+        accepted = and (ap (λ (t : Stepped Question). t.outcome) e) (subst (λ (u : State). AllTicks (history w u (ticks ls)).answers) (sym q) x.accepted);
         state_is = ap (λ (u : State). (history w u (ticks ls)).state) q ∙ x.state_is;
       }
 
@@ -149,10 +150,10 @@ module _ (w : List ℕ) (p : passes w ≡ true) (T : ℤ) (e : within T ≡ true
           let y : There w T (requested s q c).state ls = x.there ls (omega arith) (every_tail (roomy w) l ls r) in
           let k : answer_to w s a ≡ requested s q c =
           answered_by w p s (good_ok g) a (leb-true (room_needed c) (length l) (every_head (roomy w) l ls r)) ∙ ap (λ (z : Request). requested s z c) t in
-          let u = ap (λ (z : Stepped). z.state) k in
+          let u = ap (λ (z : Stepped Question). z.state) k in
           record {
             none-refused =
-                subst (λ (z : Stepped). pick (is_refused z.outcome) false (none_refused (history w z.state (steps_towards w T z.state ls)).answers) ≡ true) (sym k)
+                subst (λ (z : Stepped Question). pick (is_refused z.outcome) false (none_refused (history w z.state (steps_towards w T z.state ls)).answers) ≡ true) (sym k)
                 (pick_false _ _ _ f ∙ y.none-refused);
             clock_is = subst (λ (z : State). pos (history w z (steps_towards w T z ls)).state.clock ≡ T) (sym u) y.clock_is;
             nothing_due = subst (λ (z : State). due_in c (history w z (steps_towards w T z ls)).state ≡ None) (sym u) y.nothing_due;
@@ -177,13 +178,13 @@ module _ (w : List ℕ) (p : passes w ≡ true) (T : ℤ) (e : within T ≡ true
       let n = passes_by c s T in
       let u : State = passed_times n s in
       let j : jumped c s T ≡ answered (Accepted Tick) u = jumped_so c s T a d l in
-      let g' : Good c u = subst (λ (z : Stepped). Good c z.state) j (request_good c fit g (jump T) e) in
+      let g' : Good c u = subst (λ (z : Stepped Question). Good c z.state) j (request_good c fit g (jump T) e) in
       let h : Ended c s T = jump_ended c s T e l in
       let fewer : u.pending ≤ s.pending = omega (arith, live_length g, live_length g', passed_fewer n s) in
       let rest : ReachesBy u (2 * u.pending) =
       by_due c u (by_firing g' (passed_agreed n s ∙ a) h.not_passed (λ z m. f z (omega (arith, fewer))))
       (λ d'. longer (arrived d' (h.there d')) (omega arith)) in
-      longer (step_then g (jump T) (ap (towards T) d) (ap (λ (z : Stepped). is_refused z.outcome) j) (subst (λ (z : Stepped). ReachesBy z.state (2 * u.pending)) (sym j) rest))
+      longer (step_then g (jump T) (ap (towards T) d) (ap (λ (z : Stepped Question). is_refused z.outcome) j) (subst (λ (z : Stepped Question). ReachesBy z.state (2 * u.pending)) (sym j) rest))
       (omega (arith, fewer))
 
   by_step : {s : State} → Good c s → s.agreed ≡ true → le_z (pos s.clock) T ≡ true → Fewer s → ReachesBy s (2 * s.pending + 1)

@@ -39,7 +39,7 @@ use Rattle.outcomes.specs.Outcomes.{no_label, answered, refused}
 use Rattle.holdings.specs.Holdings.{amounts}
 use Rattle.machine.specs.Steps.{place_groups, accepted, begun, Invocation, Chosen, chosen, answers_to, choose, precondition_holds, Scheduled, times, no, scheduled, schedule, with_scheduled, finished, by_precondition, invoked, by_chosen, call_by_due, called, handled, fire_by_due, fired, tick_by_due, ticked, jump_by_due, jumped, step, Request, agreement, call, firing, tick, jump, requested}
 use Rattle.agreements.specs.Agreement.{Part, agreed_on}
-use Rattle.step_reports.specs.Reports.{rule_number, report_of, label_report, label_reports, told}
+use Rattle.step_reports.specs.Reports.{rule_number, report_of, report_by, label_report, label_reports, told}
 use Rattle.history.specs.Histories.{Step, answer_to, within64}
 use Rattle.history.proofs.Cases.{body_ran, event_at, handler_ran}
 use Rattle.history.proofs.ContractBounds.{BoundedEvent, bounded}
@@ -55,7 +55,7 @@ use Rattle.machine.proofs.Gates.{none_some}
 use Rattle.machine.proofs.Refusals.{by_refusal}
 
 -- what a step tells passes question 53, and its payouts are up to top
-pub record Fine (c : Contract) (r : Stepped) : Type 0 where
+pub record Fine (c : Contract) (r : Stepped Question) : Type 0 where
   pub outcome : report_ok c (report_of r.outcome r.state.state r.state.clock) ≡ true
   pub labels : every (label_ok c) (take r.count r.labels) ≡ true
 
@@ -67,7 +67,7 @@ labels_told c (l ∷ ls) e =
     (both_left (report_ok c (label_report l)) (payout_ok l.kind l.value) (every_head (label_ok c) l ls e))
     (labels_told c ls (every_tail (label_ok c) l ls e))
 
-pub fine_told : {c : Contract} {r : Stepped} → Fine c r → every (report_ok c) (told r) ≡ true
+pub fine_told : {c : Contract} {r : Stepped Question} → Fine c r → every (report_ok c) (told r) ≡ true
 unfolding told every
 fine_told {c} {r} o =
     both_true (report_ok c (report_of r.outcome r.state.state r.state.clock)) (every (report_ok c) (label_reports (take r.count r.labels))) o.outcome
@@ -95,15 +95,15 @@ rule_few Tick = refl
 
 module _ (c : Contract) where
   pub refused_fine : (s : State) (q : Question) → refusal (number_of q) ≡ true → Fine c (refused s q)
-  unfolding report_of report_ok every
+  unfolding report_by report_ok every
   refused_fine s n e = record { outcome = e; labels = refl }
 
   failed_fine : (s : State) (q : Question) → Stops q → Fine c (answered (Failed q) s)
-  unfolding report_of report_ok every
+  unfolding report_by report_ok every
   failed_fine s n e = record { outcome = e; labels = refl }
 
   ruled_fine : (r : Rule) (s : State) → Good c s → s.agreed ≡ true → report_ok c (report_of (Accepted r) s.state s.clock) ≡ true
-  unfolding report_of report_ok
+  unfolding report_by report_ok
   ruled_fine r s g a =
       both_true (leb (rule_number r) 3) (ltb s.state (length c.states) && leb s.clock top) (rule_few r)
       (both_true (ltb s.state (length c.states)) (leb s.clock top) (lt-ltb s.state (length c.states) (agreed_name g a)) (le-leb s.clock top g.clock))
@@ -120,7 +120,7 @@ module _ (c : Contract) where
   begun_fair s ps = record { labels_length = repeated_length max_labels no_label; labels = refl; stop = λ q e. none_some q (sym e) }
 
   -- where the state that it leads to is good
-  abbrev Once : Stepped → Type 0
+  abbrev Once : Stepped Question → Type 0
   Once r = Good c r.state → Fine c r
 
 -- ---- steps

@@ -18,9 +18,10 @@ use Rattle.results.specs.declared.Report.{Report}
 use Rattle.results.specs.declared.Report.TheVariants as report
 use Rattle.results.specs.Lines.{report_ok}
 use Rattle.pages.specs.Gathering.{payouts}
+use Rattle.questions.specs.declared.Question.{Question}
 use Rattle.outcomes.specs.declared.Stepped.{Stepped}
 use Rattle.machine.specs.Steps.{Request, requested, room_needed}
-use Rattle.step_reports.specs.Reports.{report_of, label_reports, told}
+use Rattle.step_reports.specs.Reports.{report_of, report_by, label_reports, told}
 use Rattle.machine.specs.Sessions.{Said, asks, unread, heard, Turn, takes, wait, turn_at, Session, here, before, on_turn}
 use Rattle.history.specs.Histories.{Step, answer_to, Returned, returned, History, history, within64}
 use Rattle.history.specs.Settled.{settled}
@@ -73,11 +74,11 @@ module _ (w : List ℕ) (p : passes w ≡ true) (slice : List Label) (room : roo
 
     -- what is said, then the rest
     said_history : (x : Said) (xs : List Said) (e : Session) → IsHistory w (heard c s x).state slice xs e → IsHistory w s slice (x ∷ xs) (before (told (heard c s x)) e)
-    unfolding steps_of told_by history told report_of label_reports
+    unfolding steps_of told_by history told report_by label_reports
     said_history (unread n) xs e h = record { state = h.state; reports = ap (λ (rs : List Report). told (heard c s (unread n)) ++ rs) h.reports }
     said_history (asks q) xs e h =
         let same : history w (answer_to w s (asked q)).state (steps_of slice xs) ≡ history w (requested s q c).state (steps_of slice xs) =
-        ap (λ (r : Stepped). history w r.state (steps_of slice xs)) (answer_is q) in
+        ap (λ (r : Stepped Question). history w r.state (steps_of slice xs)) (answer_is q) in
         record {
           state = h.state ∙ sym (ap (λ (k : History). k.state) same);
           reports =

@@ -34,10 +34,11 @@ use Rattle.pages.proofs.Filling.{page_accepts}
 use Rattle.pages.proofs.Gathers.{session_pages, waiting_all}
 use Rattle.outcomes.specs.declared.Rule.{Rule}
 use Rattle.outcomes.specs.declared.Rule.TheVariants.{Call, EventMatch}
+use Rattle.questions.specs.declared.Question.{Question}
 use Rattle.outcomes.specs.declared.Outcome.{Outcome}
 use Rattle.outcomes.specs.declared.Outcome.TheVariants.{Accepted, Failed, Refused}
 use Rattle.outcomes.specs.declared.Stepped.{Stepped}
-use Rattle.step_reports.specs.Reports.{rule_number, report_of, label_report, label_reports}
+use Rattle.step_reports.specs.Reports.{rule_number, report_of, report_by, label_report, label_reports}
 use Rattle.machine.specs.Steps.{Request}
 use Rattle.machine.specs.Sessions.{Said, asks, unread}
 use Rattle.history.specs.Histories.{Step, answer_to, Returned, returned, payouts_in, payouts_of, history, within64}
@@ -74,10 +75,10 @@ labels_settled r clock (l ∷ ls) rs = go (eqb l.kind 3) refl (labels_settled r 
 lines_settled : (r : Returned) → (by_rule r.left.outcome ≡ false → r.left.count ≡ 0) → (rs : List Report) (es : List Entry)
     → ((rule clock : ℕ) → payouts rule clock rs ≡ es) → (rule clock : ℕ)
     → payouts rule clock (lines_of r ++ rs) ≡ settled_by r ++ es
-unfolding payouts report_of label_reports
+unfolding payouts report_by label_reports
 lines_settled r none rs es h rule clock = go r.left.outcome none
   where
-    go : (o : Outcome) → (by_rule o ≡ false → r.left.count ≡ 0)
+    go : (o : Outcome Question) → (by_rule o ≡ false → r.left.count ≡ 0)
         → payouts rule clock (report_of o r.left.state.state r.left.state.clock ∷ (label_reports (take r.left.count r.slice) ++ rs))
         ≡ entries_by o r.left.state.clock (payouts_of r o) ++ es
     go (Accepted a) n =
@@ -111,7 +112,7 @@ step_paid : (w : List ℕ) (s : State) (a : Step) → labels_in (settled_by (ret
 unfolding payouts_in
 step_paid w s a = go (answer_to w s a).outcome (step_idle w s a).no_labels
   where
-    go : (o : Outcome) → (by_rule o ≡ false → (answer_to w s a).count ≡ 0)
+    go : (o : Outcome Question) → (by_rule o ≡ false → (answer_to w s a).count ≡ 0)
         → labels_in (entries_by o (answer_to w s a).state.clock (payouts_of (returned w s a) o)) ≡ payouts_of (returned w s a) o
     go (Accepted r) n = labels_back r (answer_to w s a).state.clock _
     go (Failed q) n = ap (λ (k : ℕ). payouts_in (take k (returned w s a).slice)) (sym (n refl))
@@ -155,7 +156,7 @@ module _ (c : Contract) where
       go false k q = q
 
   -- only calls and firings send
-  came_payable : {s : State} {q : Request} {r : Stepped} → ComesOut c s q r → Fine c r → r.state.clock ≤ top
+  came_payable : {s : State} {q : Request} {r : Stepped Question} → ComesOut c s q r → Fine c r → r.state.clock ≤ top
       → every (is_payout c) (entries_by r.outcome r.state.clock (paid_by r)) ≡ true
   unfolding payouts_in every
   came_payable (refusal n) f h = refl
@@ -166,7 +167,7 @@ module _ (c : Contract) where
   came_payable (ticks a d l) f h = refl
   came_payable (jumps T a d l) f h = refl
 
-answer_payable : {w : List ℕ} {s : State} {a : Step} {r : Stepped} → Answers w s a r → Fine (contract_of w) r → r.state.clock ≤ top
+answer_payable : {w : List ℕ} {s : State} {a : Step} {r : Stepped Question} → Answers w s a r → Fine (contract_of w) r → r.state.clock ≤ top
     → every (is_payout (contract_of w)) (entries_by r.outcome r.state.clock (paid_by r)) ≡ true
 unfolding every
 answer_payable (first_refusal n) f h = refl
@@ -189,12 +190,12 @@ settled_payable w p s g (a ∷ xs) e =
 -- ---- the clock of an entry
 
 -- accepted by one of the two rules
-abbrev sends_in : Outcome → Bool
+abbrev sends_in : Outcome Question → Bool
 sends_in (Accepted r) = sends r
 sends_in (Failed n) = false
 sends_in (Refused n) = false
 
-came_left : {s : State} {q : Request} (c : Contract) {r : Stepped} → ComesOut c s q r → sends_in r.outcome ≡ true → r.state.clock ≡ s.clock
+came_left : {s : State} {q : Request} (c : Contract) {r : Stepped Question} → ComesOut c s q r → sends_in r.outcome ≡ true → r.state.clock ≡ s.clock
 unfolding with_pending
 came_left c (refusal n) h = refl
 came_left c (agrees ps a) h = true_false (sym h)
@@ -204,7 +205,7 @@ came_left c (fails k n a d e) h = true_false (sym h)
 came_left c (ticks a d l) h = true_false (sym h)
 came_left c (jumps T a d l) h = true_false (sym h)
 
-answer_left : {w : List ℕ} {s : State} {a : Step} {r : Stepped} → Answers w s a r → sends_in r.outcome ≡ true → r.state.clock ≡ s.clock
+answer_left : {w : List ℕ} {s : State} {a : Step} {r : Stepped Question} → Answers w s a r → sends_in r.outcome ≡ true → r.state.clock ≡ s.clock
 answer_left (first_refusal n) h = refl
 answer_left {w} (by_rule_lem p o l k) h = came_left (contract_of w) k h
 

@@ -29,6 +29,7 @@ use Rattle.state.proofs.Kept.{without}
 use Rattle.state.proofs.Passing.{first_stop}
 use Rattle.state.proofs.Within.{live_ok, lapsed_later, live_lapsed, live_removed}
 use Rattle.statements.specs.Running.{memory_in}
+use Rattle.questions.specs.declared.Question.{Question}
 use Rattle.outcomes.specs.declared.Stepped.{Stepped}
 use Rattle.holdings.specs.Holdings.{amounts}
 use Rattle.machine.specs.Steps.{Invocation, ended, step, Request, requested}
@@ -154,7 +155,7 @@ module _ (c : Contract) (t : FitsContract c) where
   passed_good (suc n) g a h = passed_good n (tick_good g a (omega arith)) a (omega arith)
 
   module _ {s : State} (g : Good c s) where
-    came_good : {q : Request} {r : Stepped} → within64 q ≡ true → ComesOut c s q r → Good c r.state
+    came_good : {q : Request} {r : Stepped Question} → within64 q ≡ true → ComesOut c s q r → Good c r.state
     unfolding within64
     came_good e (refusal n) = g
     came_good e (agrees ps a) = agreement_good g ps a e
@@ -177,7 +178,7 @@ module _ (w : List ℕ) (p : passes w ≡ true) where
   pub step_good : {s : State} → Good (contract_of w) s → (a : Step) → within64 a.request ≡ true → Good (contract_of w) (answer_to w s a).state
   unfolding answer_to step
   step_good {s} g a e =
-      let P : Stepped → Type 0 = λ r. Good (contract_of w) r.state in
+      let P : Stepped Question → Type 0 = λ r. Good (contract_of w) r.state in
       let t = fits_contract (contract_of w) (sound w p) in
       by_cases P _ _ _ (λ _. by_cases P _ _ _ (λ _. by_cases P _ _ _ (λ _. request_good (contract_of w) t g a.request e) (λ _. g)) (λ _. g)) (λ _. g)
 

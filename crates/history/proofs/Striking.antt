@@ -10,6 +10,7 @@ use Rattle.laws.specs.Lists.{keep}
 use Rattle.contract.specs.Tree.{Contract}
 use Rattle.contract.specs.Decode.{contract_of}
 use Rattle.state.specs.declared.State.{State}
+use Rattle.questions.specs.declared.Question.{Question}
 use Rattle.outcomes.specs.declared.Outcome.{Outcome}
 use Rattle.outcomes.specs.declared.Outcome.TheVariants.{Accepted, Failed, Refused}
 use Rattle.machine.specs.Steps.{Request, agreement, call, firing, tick, jump}
@@ -22,7 +23,7 @@ use Rattle.history.proofs.Untouched.{step_idle}
 refused_same : (w : List ℕ) (s : State) (a : Step) → is_refused (answer_to w s a).outcome ≡ true → (answer_to w s a).state ≡ s
 refused_same w s a = (step_idle w s a).state_same
 
-no_deposit : (c : Contract) (s : State) (q : Request) (o : Outcome) → is_refused o ≡ true → deposit c s q o ≡ []
+no_deposit : (c : Contract) (s : State) (q : Request) (o : Outcome Question) → is_refused o ≡ true → deposit c s q o ≡ []
 no_deposit c s (call i) (Accepted r) e = true_false (sym e)
 no_deposit c s (call i) (Failed n) e = refl
 no_deposit c s (call i) (Refused n) e = refl
@@ -31,7 +32,7 @@ no_deposit c s firing o e = refl
 no_deposit c s tick o e = refl
 no_deposit c s (jump T) o e = refl
 
-no_payout : (r : Returned) (o : Outcome) → is_refused o ≡ true → payouts_of r o ≡ []
+no_payout : (r : Returned) (o : Outcome Question) → is_refused o ≡ true → payouts_of r o ≡ []
 no_payout r (Accepted q) e = true_false (sym e)
 no_payout r (Failed n) e = true_false (sym e)
 no_payout r (Refused n) e = refl

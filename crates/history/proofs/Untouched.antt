@@ -39,14 +39,14 @@ use Rattle.lines.specs.Lines.{Asked}
 use Rattle.lines.specs.Answers.{numbers_after}
 
 -- an answer that no rule accepts has no label, and a refusal has the state it was given
-pub record Idle (s : State) (r : Stepped) : Type 0 where
+pub record Idle (s : State) (r : Stepped Question) : Type 0 where
   pub no_labels : by_rule r.outcome ≡ false → r.count ≡ 0
   pub state_same : is_refused r.outcome ≡ true → r.state ≡ s
 
-accepted_idle : {s : State} (r : Stepped) → by_rule r.outcome ≡ true → is_refused r.outcome ≡ false → Idle s r
+accepted_idle : {s : State} (r : Stepped Question) → by_rule r.outcome ≡ true → is_refused r.outcome ≡ false → Idle s r
 accepted_idle r a e = record { no_labels = λ f. true_false (sym a ∙ f); state_same = λ f. true_false (sym f ∙ e) }
 
-came_idle : {s : State} {q : Request} (c : Contract) {r : Stepped} → ComesOut c s q r → Idle s r
+came_idle : {s : State} {q : Request} (c : Contract) {r : Stepped Question} → ComesOut c s q r → Idle s r
 came_idle c (refusal n) = record { no_labels = λ _. refl; state_same = λ _. refl }
 came_idle c (agrees ps a) = accepted_idle _ refl refl
 came_idle c (calls i n f ps o) = accepted_idle _ refl refl
@@ -55,7 +55,7 @@ came_idle c (fails k n a d h) = record { no_labels = λ _. refl; state_same = λ
 came_idle c (ticks a d l) = accepted_idle _ refl refl
 came_idle c (jumps T a d l) = accepted_idle _ refl refl
 
-answer_idle : {w : List ℕ} {s : State} {a : Step} {r : Stepped} → Answers w s a r → Idle s r
+answer_idle : {w : List ℕ} {s : State} {a : Step} {r : Stepped Question} → Answers w s a r → Idle s r
 answer_idle (first_refusal n) = record { no_labels = λ _. refl; state_same = λ _. refl }
 answer_idle {w} (by_rule_lem p o h c) = came_idle (contract_of w) c
 
@@ -86,7 +86,7 @@ table_zeros text words q p e = ap (table_of words) e
 -- question 3 comes first
 step_unread : (w : List ℕ) (s : State) (a : Step) → passes w ≡ false → (answer_to w s a).outcome ≡ Refused ask.TableCheck
 unfolding answer_to step
-step_unread w s a e = ap (λ (r : Stepped). r.outcome) (pick_false _ _ _ e)
+step_unread w s a e = ap (λ (r : Stepped Question). r.outcome) (pick_false _ _ _ e)
 
 zeros_unread : (text : List ℕ) (words q p : ℕ) (s : State) (a : Step) → read_text text words ≡ refused q p
     → (answer_to (table_of words (read_text text words)) s a).outcome ≡ Refused ask.TableCheck

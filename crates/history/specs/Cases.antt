@@ -37,7 +37,7 @@ pub data Result : Type 0 where
   -- the two amounts after it, and the question that refused, if any
   leaves : List ℕ → Option Question → Result
   -- what came of the step, and how many events are pending
-  comes : Outcome → ℕ → Result
+  comes : Outcome Question → ℕ → Result
 
 -- a state that was agreed on, in state q at clock t, the first field holding 3 and the assets these amounts
 abbrev pub agreed_at : ℕ → ℕ → ℕ → ℕ → State
@@ -189,7 +189,7 @@ expected =
 abbrev pub after_move : Work → Result
 after_move w = leaves (take 2 w.holdings) w.refusal
 
-abbrev pub after_step : Stepped → Result
+abbrev pub after_step : Stepped Question → Result
 after_step r = comes r.outcome r.state.pending
 
 abbrev pub result : Case → Result

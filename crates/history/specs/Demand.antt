@@ -11,6 +11,7 @@ use Rattle.state.specs.States.{fresh_at, state_ok, due_in}
 use Rattle.statements.specs.declared.Label.{Label}
 use Rattle.outcomes.specs.declared.Rule.TheVariants.{Tick}
 use Rattle.outcomes.specs.declared.Outcome.TheVariants.{Accepted}
+use Rattle.questions.specs.declared.Question.{Question}
 use Rattle.outcomes.specs.declared.Stepped.{Stepped}
 use Rattle.outcomes.specs.Outcomes.{answered}
 use Rattle.machine.specs.Steps.{tick, jump, room_needed}
@@ -49,7 +50,7 @@ pub record GoesOn (w : List ℕ) (s : State) : Type 0 where
 -- ---- jumps (document 02, F-3)
 
 -- r, the answer to a jump from s to clock T, is that of so many accepted ticks, zero included
-pub record IsTicks (w : List ℕ) (s : State) (T : ℤ) (r : Stepped) : Type 0 where
+pub record IsTicks (w : List ℕ) (s : State) (T : ℤ) (r : Stepped Question) : Type 0 where
   pub count : ℕ
   -- each given what question 20 wants, all are accepted; the jump is accepted with the state that they end in, and sends nothing
   pub all_ticks : (ls : List (List Label)) → length ls ≡ count → all_roomy w ls ≡ true → AllTicks (history w s (ticks ls)).answers

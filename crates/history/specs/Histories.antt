@@ -10,6 +10,7 @@ use Rattle.state.specs.States.{due_in}
 use Rattle.statements.specs.declared.Label.{Label}
 use Rattle.statements.specs.Running.{asset_label}
 use Rattle.outcomes.specs.declared.Rule.TheVariants.{Tick}
+use Rattle.questions.specs.declared.Question.{Question}
 use Rattle.outcomes.specs.declared.Outcome.{Outcome}
 use Rattle.outcomes.specs.declared.Outcome.TheVariants.{Accepted, Failed, Refused}
 use Rattle.outcomes.specs.declared.Stepped.{Stepped}
@@ -24,7 +25,7 @@ pub record Step : Type 0 where
   pub slice : List Label
 
 -- the machine's answer to a step on a table
-unfoldable pub answer_to : List ℕ → State → Step → Stepped
+unfoldable pub answer_to : List ℕ → State → Step → Stepped Question
 answer_to w s a = step w (length a.slice) s (requested s a.request)
 
 -- what the caller holds then: what came of it, the state and how many labels there are; and the slice
@@ -53,7 +54,7 @@ deposits_by c zs (chosen n f) = deposits_to c n 0 zs
 deposits_by c zs unknown = map (λ z. record { group = 0; amount = z }) zs
 
 -- the asset arguments of a call that is accepted
-abbrev pub deposit : Contract → State → Request → Outcome → List Deposit
+abbrev pub deposit : Contract → State → Request → Outcome Question → List Deposit
 deposit c s (call i) (Accepted r) = deposits_by c i.assets (choose c s i 0 c.functions)
 deposit c s (call i) (Failed n) = []
 deposit c s (call i) (Refused n) = []
@@ -68,7 +69,7 @@ payouts_in [] = []
 payouts_in (l ∷ ls) = pick (eqb l.kind asset_label) (l ∷ payouts_in ls) (payouts_in ls)
 
 -- the asset payouts that an accepted step left, read off the slice
-abbrev pub payouts_of : Returned → Outcome → List Label
+abbrev pub payouts_of : Returned → Outcome Question → List Label
 payouts_of r (Accepted rule) = payouts_in (take r.left.count r.slice)
 payouts_of r (Failed n) = payouts_in (take r.left.count r.slice)
 payouts_of r (Refused n) = []
@@ -146,7 +147,7 @@ group_holdings c g s = weighed (in_group c g) 0 s.assets
 
 -- ---- striking out
 
-abbrev pub is_refused : Outcome → Bool
+abbrev pub is_refused : Outcome Question → Bool
 is_refused (Accepted r) = false
 is_refused (Failed n) = false
 is_refused (Refused n) = true

@@ -19,6 +19,7 @@ use Rattle.pages.specs.Answers.{page_bytes, paged}
 use Rattle.pages.specs.Gathering.{payouts}
 use Rattle.pages.specs.Promises.{entries_in, taken, sheets_after, no_sheets, file_of, closed}
 use Rattle.std.specs.Prelude.{Ok}
+use Rattle.questions.specs.declared.Question.{Question}
 use Rattle.outcomes.specs.declared.Stepped.{Stepped}
 use Rattle.outcomes.specs.Outcomes.{refused}
 use Rattle.machine.specs.Steps.{requested, step}
@@ -39,7 +40,7 @@ pub record Stored (s : State) : Type 0 where
   pub integers : (i : ℕ) → i < max_fields → within (get_or s.numbers i (pos 0)) ≡ true
 
 -- what is said, asked its questions 3, 4 and 20 on a table; a line that questions 50 and 51 refuse is no step
-abbrev pub heard_on : List ℕ → State → Said → Stepped
+abbrev pub heard_on : List ℕ → State → Said → Stepped Question
 heard_on w s (asks q) = step w max_labels s (requested s q)
 heard_on w s (unread n) = refused s n
 

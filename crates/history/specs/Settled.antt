@@ -2,6 +2,7 @@
 use Rattle.std.specs.Prelude.{ℕ, List, [], ◌∷◌, ◌++◌, map}
 use Rattle.statements.specs.declared.Label.{Label}
 use Rattle.outcomes.specs.declared.Rule.{Rule}
+use Rattle.questions.specs.declared.Question.{Question}
 use Rattle.outcomes.specs.declared.Outcome.{Outcome}
 use Rattle.outcomes.specs.declared.Outcome.TheVariants.{Accepted, Failed, Refused}
 use Rattle.pages.specs.Entries.{Entry}
@@ -13,7 +14,7 @@ abbrev pub entry_by : Rule → ℕ → Label → Entry
 entry_by r clock l = record { kind = l.kind; party = l.party; rule = rule_number r; clock = clock; value = l.value; group = l.group }
 
 -- labels of a step as entries; a failed firing and a refused step have none
-abbrev pub entries_by : Outcome → ℕ → List Label → List Entry
+abbrev pub entries_by : Outcome Question → ℕ → List Label → List Entry
 entries_by (Accepted r) clock ls = map (entry_by r clock) ls
 entries_by (Failed n) clock ls = []
 entries_by (Refused n) clock ls = []

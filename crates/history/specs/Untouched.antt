@@ -22,7 +22,7 @@ use Rattle.questions.specs.declared.Question.{Question}
 use Rattle.questions.specs.Numbers.{number_of}
 
 -- accepted by a rule: neither refused nor a firing that fails
-abbrev pub by_rule : Outcome → Bool
+abbrev pub by_rule : Outcome Question → Bool
 by_rule (Accepted r) = true
 by_rule (Failed n) = false
 by_rule (Refused n) = false
@@ -54,7 +54,7 @@ pub record Untouched : Type 0 where
       → (sets numbers 0 (coded_all (reports_of w s bytes room)) ≡ numbers) × (sets integers 0 (integers_of (reports_of w s bytes room)) ≡ integers)
 
 -- a refused step has one of the documents' numbers for steps and session lines, a failed firing one of questions 30 to 36
-abbrev pub number_ok : Outcome → Bool
+abbrev pub number_ok : Outcome Question → Bool
 number_ok (Accepted r) = true
 number_ok (Failed q) = ranges 30 (number_of q) 36
 number_ok (Refused q) = refusal (number_of q)

@@ -42,7 +42,7 @@ module _ (w : List ℕ) (m : Memory) (first n : ℕ) where
 -- ---- the body has run
 module _ (s : State) (n : ℕ) (f : Function) (v : List ℤ) (w : Work) where
   -- the body's end, where no question refused
-  abbrev at_end : Stepped
+  abbrev at_end : Stepped Question
   at_end = pick (every (λ a. eqb a 0) (drop 16 w.holdings)) (with_scheduled s w f.last (schedule (memory_in v s.clock w) s.clock n 0 f.events)) (refused s ask.ParametersEmpty)
 
   pub body_refused : (q : Question) → w.refusal ≡ Some q → refused s q ≡ finished s n f v w

@@ -47,7 +47,7 @@ module _ {A : Type 0} (no : Question → A) (x : A) where
   goes w v true true true e = (cc, refl, refl)
 
 module _ (w : List ℕ) (room : ℕ) (s : State) (r : Result Passed Question) (e : admitted r ≡ admission w room s) where
-  pub refused_first : (f : Contract → Stepped) (q : Question) → r ≡ Err q → refused s q ≡ step w room s f
+  pub refused_first : (f : Contract → Stepped Question) (q : Question) → r ≡ Err q → refused s q ≡ step w room s f
   unfolding admission step
   refused_first f q h = stops (refused s) (f (contract_of w)) w (passes w) (state_ok (contract_of w) s) (leb 64 room) q (sym (ap admitted h) ∙ e)
 
@@ -60,7 +60,7 @@ module _ (w : List ℕ) (room : ℕ) (s : State) (r : Result Passed Question) (e
     unfolding admission
     asked = (goes (refused s) (refused s ask.TableCheck) w _ (passes w) (state_ok (contract_of w) s) (leb 64 room) (sym (ap admitted h) ∙ e)).1
 
-    pub stepped : (f : Contract → Stepped) → f (contract_of w) ≡ step w room s f
+    pub stepped : (f : Contract → Stepped Question) → f (contract_of w) ≡ step w room s f
     unfolding admission step
     stepped f = (goes (refused s) (f (contract_of w)) w _ (passes w) (state_ok (contract_of w) s) (leb 64 room) (sym (ap admitted h) ∙ e)).2
 
@@ -76,7 +76,7 @@ module _ (s : State) (due : Option ℕ) where
       go true (Some k) p q r = cc
       go false d p q r = cc
 
-  pub away : (g : Option ℕ → Stepped) → ((k : ℕ) → g (Some k) ≡ refused s ask.NothingDue) → {q : Question} → Err q ≡ at_rest s due → refused s q ≡ pick s.agreed (g due) (refused s ask.Agreed)
+  pub away : (g : Option ℕ → Stepped Question) → ((k : ℕ) → g (Some k) ≡ refused s ask.NothingDue) → {q : Question} → Err q ≡ at_rest s due → refused s q ≡ pick s.agreed (g due) (refused s ask.Agreed)
   unfolding at_rest pick
   away g h {q} e = go s.agreed due e
     where

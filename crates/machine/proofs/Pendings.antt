@@ -40,7 +40,7 @@ use Rattle.machine.proofs.Refusals.{by_refusal}
 
 -- ---- how a step can come out
 
-pub data Outcomes (s : State) : Stepped → Type 0 where
+pub data Outcomes (s : State) : Stepped Question → Type 0 where
   refusal : (q : Question) → Outcomes s (refused s q)
   agrees : (c : Contract) (ps : List Part) → Outcomes s (answered (Accepted Agree) (opened (set_clauses s c.clauses ps) c.initial))
   calls : (g : ℕ → ℕ) (v : List ℤ) (hs : List ℕ) (b : Block) (q : ℕ) (ps : List Pending) → length (live s) + length ps ≤ 64
@@ -220,7 +220,7 @@ module _ (g : ℕ → ℕ) (v : List ℤ) (t : ℕ) where
 none_left : Left no_labels 0
 none_left = (repeated_length 64 no_label, refl)
 
-outcome_labels : {s : State} {r : Stepped} → Outcomes s r → Left r.labels r.count
+outcome_labels : {s : State} {r : Stepped Question} → Outcomes s r → Left r.labels r.count
 outcome_labels (refusal n) = none_left
 outcome_labels (agrees c ps) = none_left
 outcome_labels {s} (calls g v hs b q ps l) = ran_labels g v s.clock (begun s hs) b none_left

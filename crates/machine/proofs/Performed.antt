@@ -24,7 +24,7 @@ unfolding holdings_of
 begins s a h e = ap (λ (x : List ℕ). work_from s.kinds s.numbers s.texts x no_labels 0 None) e
 
 -- ---- a refused call, with no labels
-pub turned : (s : State) (q : Question) (words : List ℤ) → labels_from words ≡ no_labels → (t : Stepped) → refused s q ≡ t → stepped_in (reply_of (Err q)) s words ≡ t
+pub turned : (s : State) (q : Question) (words : List ℤ) → labels_from words ≡ no_labels → (t : Stepped Question) → refused s q ≡ t → stepped_in (reply_of (Err q)) s words ≡ t
 turned s q words h t e = (λ i. record { outcome = (refused s q).outcome; state = s; labels = h i; count = 0 }) ∙ e
 
 -- ---- a call's end

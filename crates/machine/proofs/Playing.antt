@@ -87,14 +87,14 @@ module _ (c : Contract) (s : State) where
     kept = kept_by (due_in c s)
 
   -- a turn that took something up: where the next line starts, and the step
-  pub record Made (at : ℕ) (came : Stepped) (turn : Turn) : Type 0 where
+  pub record Made (at : ℕ) (came : Stepped Question) (turn : Turn) : Type 0 where
     pub taken_up : Said
     pub turned : turn ≡ takes taken_up at
     pub came_so : came ≡ heard c s taken_up
 
 -- ---- a session from its turns
 
-module _ (hear : State → Said → Stepped) (c : Contract) (bytes : List ℕ) (room : ℕ) (s : State) (at : ℕ) where
+module _ (hear : State → Said → Stepped Question) (c : Contract) (bytes : List ℕ) (room : ℕ) (s : State) (at : ℕ) where
   -- what is done after a turn, with so many more at most
   abbrev further : ℕ → Said → ℕ → Session
   further k x next = before (lines_told (hear s x)) (session_for k hear c bytes (room - length (lines_told (hear s x))) (hear s x).state next)
@@ -168,7 +168,7 @@ module _ {c : Contract} {bytes : List ℕ} {room : ℕ} {numbers : List ℕ} {in
     -- after the labels that a turn sent there are none
     pub left_blank : {next : ℕ} (r : Reply) (now : State) (ws : List ℤ) → Made c s next (stepped_in r now ws) (turn_at c bytes s at) → drop r.count (labels_from ws) ≡ drop r.count no_labels
     left_blank {next} r now ws w =
-        (subst (λ (x : Stepped). Left x.labels x.count) (sym w.came_so) (subst (Kept c s) w.turned (kept c s bytes at))).1
+        (subst (λ (x : Stepped Question). Left x.labels x.count) (sym w.came_so) (subst (Kept c s) w.turned (kept c s bytes at))).1
 
     -- there is room for the result lines of a step
     module _ (enough : 65 ≤ room - n) (whole : room ≡ room_in (length numbers) (length integers)) where
@@ -189,9 +189,9 @@ module _ {c : Contract} {bytes : List ℕ} {room : ℕ} {numbers : List ℕ} {in
           → Going c bytes room e numbers integers more others now next m
       unfolding lines_told
       going_on {next} r now ws w {m} {more} {others} up a b =
-          let t : Stepped = heard c s w.taken_up in
+          let t : Stepped Question = heard c s w.taken_up in
           let k = subst (Kept c s) w.turned (kept c s bytes at) in
-          let l : length (labels_from ws) ≡ 64 = ap (λ (x : Stepped). length x.labels) w.came_so ∙ k.0 in
+          let l : length (labels_from ws) ≡ 64 = ap (λ (x : Stepped Question). length x.labels) w.came_so ∙ k.0 in
           let f : replies_of r now ws ≡ lines_told t =
           ap (λ (z : List Report). report_of r.outcome now.state now.clock ∷ z) (words_told r.count ws l)
           ∙ (λ i. report_of (w.came_so i).outcome (w.came_so i).state.state (w.came_so i).state.clock ∷ label_reports (take (w.came_so i).count (w.came_so i).labels)) in
@@ -213,7 +213,7 @@ module _ {c : Contract} {bytes : List ℕ} {room : ℕ} {numbers : List ℕ} {in
                 ∙ ap (before g.so) (session_step (heard c) c bytes (room - n) s at g.turns (g.turns - 1) w.taken_up next o enough w.turned)
                 ∙ before_before g.so (lines_told t) _
                 ∙ ap (λ x. before (g.so ++ lines_told t) (session_for (g.turns - 1) (heard c) c bytes x t.state next)) j
-                ∙ ap (λ (x : Stepped). before (g.so ++ lines_told t) (session_for (g.turns - 1) (heard c) c bytes (room - m) x.state next)) (sym w.came_so);
+                ∙ ap (λ (x : Stepped Question). before (g.so ++ lines_told t) (session_for (g.turns - 1) (heard c) c bytes (room - m) x.state next)) (sym w.came_so);
             written = told_more g.written (sym i) y;
           }
 

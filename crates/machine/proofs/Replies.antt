@@ -8,6 +8,7 @@ use Rattle.std.specs.Prelude.{None}
 use Rattle.statements.specs.declared.Label.{Label}
 use Rattle.statements.specs.Running.{work_from, labels_from}
 use Rattle.statements.specs.Lending.{work_of}
+use Rattle.questions.specs.declared.Question.{Question}
 use Rattle.outcomes.specs.declared.Outcome.{Outcome}
 use Rattle.outcomes.specs.declared.Stepped.{Stepped}
 use Rattle.machine.specs.declared.Reply.{Reply}
@@ -19,14 +20,14 @@ use Rattle.holdings.specs.Holdings.{holdings_of}
 use Rattle.machine.specs.Private.{silent, stepped_in}
 
 -- ---- a step that sends nothing
-pub quiet : (o : Outcome) (s : State) (words : List ℤ) → labels_from words ≡ no_labels → stepped_in (silent o) s words ≡ answered o s
+pub quiet : (o : Outcome Question) (s : State) (words : List ℤ) → labels_from words ≡ no_labels → stepped_in (silent o) s words ≡ answered o s
 quiet o s words h = λ i. record { outcome = o; state = s; labels = h i; count = 0 }
 
 -- an answer by another name
-pub in_reply : {r q : Reply} {s : State} (words : List ℤ) {t : Stepped} → r ≡ q → stepped_in q s words ≡ t → stepped_in r s words ≡ t
+pub in_reply : {r q : Reply} {s : State} (words : List ℤ) {t : Stepped Question} → r ≡ q → stepped_in q s words ≡ t → stepped_in r s words ≡ t
 in_reply {r} {q} {s} words {t} e f = ap (λ (x : Reply). stepped_in x s words) e ∙ f
 
-pub quiet_as : {o : Outcome} {r : Reply} {s : State} (words : List ℤ) {t : Stepped} → r ≡ silent o → labels_from words ≡ no_labels → answered o s ≡ t → stepped_in r s words ≡ t
+pub quiet_as : {o : Outcome Question} {r : Reply} {s : State} (words : List ℤ) {t : Stepped Question} → r ≡ silent o → labels_from words ≡ no_labels → answered o s ≡ t → stepped_in r s words ≡ t
 quiet_as {o} {r} {s} words {t} e h f = in_reply words e (quiet o s words h ∙ f)
 
 -- ---- what a runner leaves in the lists that it was lent

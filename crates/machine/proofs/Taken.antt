@@ -141,7 +141,7 @@ module _ (c : Contract) (s : State) (line : List ℕ) where
 
   -- ---- an agreement
 
-  abbrev pub agreed_with : List ℕ → List ℕ → List ℤ → Stepped
+  abbrev pub agreed_with : List ℕ → List ℕ → List ℤ → Stepped Question
   agreed_with parts spans values = agreed_on c s (parts_in line (length parts / 4) parts spans values)
 
   AgreementRead : (a : Asked) (g : Agreement) → Type 0

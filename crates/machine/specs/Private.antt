@@ -59,16 +59,16 @@ unfoldable pub at_rest : State → Option ℕ → Result Unit Question
 at_rest s due = pick s.agreed (rest_by due) (Err ask.Agreed)
 
 -- a tick, by the event that is due
-abbrev pub ticked_with : State → Option ℕ → Stepped
+abbrev pub ticked_with : State → Option ℕ → Stepped Question
 ticked_with s due = pick s.agreed (tick_by_due s due) (refused s ask.Agreed)
 
 -- what came of a tick or a jump
-abbrev pub passage : Result Unit Question → Outcome
+abbrev pub passage : Result Unit Question → Outcome Question
 passage (Ok u) = Accepted Tick
 passage (Err q) = outcome.Refused q
 
 -- what came of a step that sends nothing
-abbrev pub silent : Outcome → Reply
+abbrev pub silent : Outcome Question → Reply
 silent o = record { outcome = o; count = 0 }
 
 -- what came of a call
@@ -77,23 +77,23 @@ reply_of (Ok n) = record { outcome = Accepted Call; count = n }
 reply_of (Err q) = silent (outcome.Refused q)
 
 -- a step's answer, whose state and labels stand apart
-abbrev pub stepped_in : Reply → State → List ℤ → Stepped
+abbrev pub stepped_in : Reply → State → List ℤ → Stepped Question
 stepped_in r s words = record { outcome = r.outcome; state = s; labels = labels_from words; count = r.count }
 
 -- how a call ends in a state, after its body has sent so many labels; they need not stand in words yet, as those of `stepped_in` do
-abbrev pub ended_call : Result Unit Question → State → List Label → ℕ → Stepped
+abbrev pub ended_call : Result Unit Question → State → List Label → ℕ → Stepped Question
 ended_call (Ok x) s labels n = record { outcome = Accepted Call; state = s; labels = labels; count = n }
 ended_call (Err q) s labels n = refused s q
 
 -- a call by its names and arguments
-abbrev pub called_by : Contract → State → List ℕ → List ℕ → List ℤ → List ℤ → Stepped
+abbrev pub called_by : Contract → State → List ℕ → List ℕ → List ℤ → List ℤ → Stepped Question
 called_by c s caller function values assets = called c s (record { caller = caller; function = function; values = values; assets = assets })
 
 -- what a line does, by what it asks
-unfoldable pub taken_by : Contract → State → List ℕ → Asked → Stepped
+unfoldable pub taken_by : Contract → State → List ℕ → Asked → Stepped Question
 taken_by c s line a = heard c s (said_by line a)
 
-abbrev pub taken : Contract → State → List ℕ → Stepped
+abbrev pub taken : Contract → State → List ℕ → Stepped Question
 taken c s line = taken_by c s line (asked line)
 
 -- what is said by what is taken up from a place on, and where the next line starts after it
@@ -166,7 +166,7 @@ abbrev pub groups_in : List ℕ → List ℕ
 groups_in w = groups (contract_of w)
 
 -- a handler has run; `left` is the state without its event
-abbrev pub handled_by : State → ℕ → Work → Stepped
+abbrev pub handled_by : State → ℕ → Work → Stepped Question
 handled_by left q w = unless_refused w.refusal (λ x. answered (outcome.Failed x) left) (accepted EventMatch (reached left w q) w)
 
 -- the state with the events of a call, or the question that refuses them
@@ -180,5 +180,5 @@ left_by (Ok x) s = Ok s
 left_by (Err q) s = Err q
 
 -- the body has run and left nothing: the guards with the memory reached, then the call's end
-abbrev pub concluded : State → ℕ → Function → List ℤ → Work → Stepped
+abbrev pub concluded : State → ℕ → Function → List ℤ → Work → Stepped Question
 concluded s n f v w = with_scheduled s w f.last (schedule (memory_in v s.clock w) s.clock n 0 f.events)

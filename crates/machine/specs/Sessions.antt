@@ -74,7 +74,7 @@ abbrev pub said : List ℕ → Said
 said line = said_by line (asked line)
 
 -- what comes of it; a refused line changes nothing
-abbrev pub heard : Contract → State → Said → Stepped
+abbrev pub heard : Contract → State → Said → Stepped Question
 heard c s (asks q) = requested s q c
 heard c s (unread q) = refused s q
 
@@ -122,7 +122,7 @@ on_turn waiting next wait = waiting
 on_turn waiting next (takes x at) = next x at
 
 -- so many turns at most, while there is room for the result lines of any step; `hear` answers what is said in a state
-unfoldable pub session_for : ℕ → (State → Said → Stepped) → Contract → List ℕ → ℕ → State → ℕ → Session
+unfoldable pub session_for : ℕ → (State → Said → Stepped Question) → Contract → List ℕ → ℕ → State → ℕ → Session
 session_for zero hear c bytes room s at = here s at
 session_for (suc turns) hear c bytes room s at =
     pick (leb max_told room)

@@ -31,13 +31,13 @@ use Rattle.questions.specs.declared.Question.TheVariants as ask
 -- ---- answers
 
 -- an accepted step with the labels that its statements sent
-abbrev pub accepted : Rule → State → Work → Stepped
+abbrev pub accepted : Rule → State → Work → Stepped Question
 accepted r s w = record { outcome = Accepted r; state = s; labels = w.labels; count = w.count }
 
 -- ---- statements on a state
 
 -- what comes of statements that met no refusal, and of the question that refused else
-abbrev pub unless_refused : Option Question → (Question → Stepped) → Stepped → Stepped
+abbrev pub unless_refused : Option Question → (Question → Stepped Question) → Stepped Question → Stepped Question
 unless_refused None f t = t
 unless_refused (Some q) f t = f q
 
@@ -109,13 +109,13 @@ schedule m t n j [] = times []
 schedule m t n j (e ∷ es) = scheduled t n j (value_of m e.guard) (schedule m t n (suc j) es)
 
 -- 39, then the call's end
-abbrev pub with_scheduled : State → Work → ℕ → Scheduled → Stepped
+abbrev pub with_scheduled : State → Work → ℕ → Scheduled → Stepped Question
 with_scheduled s w q (no x) = refused s x
 with_scheduled s w q (times ps) =
     pick (leb (length (live s) + length ps) max_pending) (accepted Call (ended s w q (live s ++ ps)) w) (refused s ask.PendingRoom)
 
 -- the body has run: its refusal, 37, then the guards with the memory reached
-unfoldable pub finished : State → ℕ → Function → List ℤ → Work → Stepped
+unfoldable pub finished : State → ℕ → Function → List ℤ → Work → Stepped Question
 finished s n f v w =
     unless_refused w.refusal (refused s)
     (pick (every (λ a. eqb a 0) (drop max_assets w.holdings))
@@ -123,13 +123,13 @@ finished s n f v w =
     (refused s ask.ParametersEmpty))
 
 -- 29, then the body; g gives the groups of places
-abbrev pub by_precondition : (ℕ → ℕ) → State → ℕ → Function → List ℤ → Work → Truth → Stepped
+abbrev pub by_precondition : (ℕ → ℕ) → State → ℕ → Function → List ℤ → Work → Truth → Stepped Question
 by_precondition g s n f v w (Err q) = refused s q
 by_precondition g s n f v w (Ok false) = refused s ask.Precondition
 by_precondition g s n f v w (Ok true) = finished s n f v (ran g v s.clock w f.body)
 
 -- 27 and 28, then the precondition; g gives the groups of places
-unfoldable pub invoked : (ℕ → ℕ) → State → Invocation → ℕ → Function → Stepped
+unfoldable pub invoked : (ℕ → ℕ) → State → Invocation → ℕ → Function → Stepped Question
 invoked g s i n f =
     pick (eqb (length i.values) (length f.values) && eqb (length i.assets) (length f.parameters))
     (pick (every (le_z (pos 0)) i.assets)
@@ -139,52 +139,52 @@ invoked g s i n f =
     (refused s ask.ArgumentCount)
 
 -- 26
-abbrev pub by_chosen : Contract → State → Invocation → Chosen → Stepped
+abbrev pub by_chosen : Contract → State → Invocation → Chosen → Stepped Question
 by_chosen c s i unknown = refused s ask.FunctionKnown
 by_chosen c s i (chosen n f) = invoked (place_groups c n) s i n f
 
 -- 25
-abbrev pub call_by_due : Contract → State → Invocation → Option ℕ → Stepped
+abbrev pub call_by_due : Contract → State → Invocation → Option ℕ → Stepped Question
 call_by_due c s i (Some k) = refused s ask.NothingDue
 call_by_due c s i None = by_chosen c s i (choose c s i 0 c.functions)
 
 -- 22
-unfoldable pub called : Contract → State → Invocation → Stepped
+unfoldable pub called : Contract → State → Invocation → Stepped Question
 called c s i = pick s.agreed (call_by_due c s i (due_in c s)) (refused s ask.Agreed)
 
 -- ---- firing
 
 -- the event at place k of the pending ones leaves the list, and its handler has run: a refusal fails the firing, all else stands
-unfoldable pub handled : State → ℕ → Event → Work → Stepped
+unfoldable pub handled : State → ℕ → Event → Work → Stepped Question
 handled s k e w =
     unless_refused w.refusal (λ q. answered (Failed q) (removed s k)) (accepted EventMatch (ended s w e.last (live (removed s k))) w)
 
 -- 41
-abbrev pub fire_by_due : Contract → State → Option ℕ → Stepped
+abbrev pub fire_by_due : Contract → State → Option ℕ → Stepped Question
 fire_by_due c s None = refused s ask.SomethingDue
 fire_by_due c s (Some k) =
     let e = event_of c (pending_at s k) in
     handled s k e (ran (place_groups c (pending_at s k).function) [] s.clock (begun s []) e.handler)
 
 -- 22
-unfoldable pub fired : Contract → State → Stepped
+unfoldable pub fired : Contract → State → Stepped Question
 fired c s = pick s.agreed (fire_by_due c s (due_in c s)) (refused s ask.Agreed)
 
 -- ---- tick
 
 -- 25, then 40
-abbrev pub tick_by_due : State → Option ℕ → Stepped
+abbrev pub tick_by_due : State → Option ℕ → Stepped Question
 tick_by_due s (Some k) = refused s ask.NothingDue
 tick_by_due s None = pick (ltb s.clock top) (answered (Accepted Tick) (time_passed s)) (refused s ask.ClockBelowTop)
 
 -- 22
-unfoldable pub ticked : Contract → State → Stepped
+unfoldable pub ticked : Contract → State → Stepped Question
 ticked c s = pick s.agreed (tick_by_due s (due_in c s)) (refused s ask.Agreed)
 
 -- ---- jump to clock T (document 02, F-3)
 
 -- 25, then 62; then time passes until an event is due or T is reached, and nothing is asked again. 40 is not asked: T is at most top.
-abbrev pub jump_by_due : Contract → State → ℤ → Option ℕ → Stepped
+abbrev pub jump_by_due : Contract → State → ℤ → Option ℕ → Stepped Question
 jump_by_due c s T (Some k) = refused s ask.NothingDue
 jump_by_due c s T None =
     pick (le_z (pos s.clock) T)
@@ -192,7 +192,7 @@ jump_by_due c s T None =
     (refused s ask.TimeNotPast)
 
 -- 22
-unfoldable pub jumped : Contract → State → ℤ → Stepped
+unfoldable pub jumped : Contract → State → ℤ → Stepped Question
 jumped c s T = pick s.agreed (jump_by_due c s T (due_in c s)) (refused s ask.Agreed)
 
 -- ---- requests
@@ -205,7 +205,7 @@ pub data Request : Type 0 where
   tick : Request
   jump : ℤ → Request
 
-abbrev pub requested : State → Request → Contract → Stepped
+abbrev pub requested : State → Request → Contract → Stepped Question
 requested s (agreement ps) c = agreed_on c s ps
 requested s (call i) c = called c s i
 requested s firing c = fired c s
@@ -238,7 +238,7 @@ abbrev pub room_needed : Contract → ℕ
 room_needed c = max_labels
 
 -- ---- every step first: 3, 4, 20, on a table and with a label slice of `room` entries
-unfoldable pub step : List ℕ → ℕ → State → (Contract → Stepped) → Stepped
+unfoldable pub step : List ℕ → ℕ → State → (Contract → Stepped Question) → Stepped Question
 step w room s f =
     pick (passes w)
     (pick (state_ok (contract_of w) s)

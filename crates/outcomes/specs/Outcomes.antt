@@ -1,7 +1,6 @@
 -- What comes of a step. A refused step hands back the state that it was given.
 use Rattle.std.specs.Prelude.{ℕ, ◌+◌, ◌*◌, List, get_or, ℤ, pos, nat_abs}
 use Rattle.laws.specs.Lists.{repeated}
-use Rattle.questions.specs.declared.Question.{Question}
 use Rattle.state.specs.declared.State.{State}
 use Rattle.statements.specs.declared.Label.{Label}
 use Rattle.statements.specs.Running.{max_labels, label_words}
@@ -26,9 +25,9 @@ abbrev pub no_labels : List Label
 no_labels = repeated max_labels no_label
 
 -- an answer without labels
-abbrev pub answered : Outcome → State → Stepped
+abbrev pub answered : {Q : Type 0} → Outcome Q → State → Stepped Q
 answered o s = record { outcome = o; state = s; labels = no_labels; count = 0 }
 
 -- a refused step hands back the state it was given
-abbrev pub refused : State → Question → Stepped
+abbrev pub refused : {Q : Type 0} → State → Q → Stepped Q
 refused s q = answered (Refused q) s

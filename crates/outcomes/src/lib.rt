@@ -19,18 +19,19 @@ pub enum Rule {
 }
 
 // What came of a step: accepted by a rule, a failed firing with its question, or refused with the question.
+// By a question where nothing else is named, as the machine's; a caller's own may be by any number.
 // Kept: (d) no Result: three cases, and a failed firing is a step that was taken.
 #[derive(Clone, Copy, PartialEq, Eq)]
-pub enum Outcome {
+pub enum Outcome<Q = Question> {
     Accepted(Rule),
-    Failed(Question),
-    Refused(Question),
+    Failed(Q),
+    Refused(Q),
 }
 
 // Kept: (a) document 01 has the core fill an array of labels by value, and a refused step hand its state back: array and count, and one struct.
 #[derive(Clone, Copy)]
-pub struct Stepped {
-    pub outcome: Outcome,
+pub struct Stepped<Q = Question> {
+    pub outcome: Outcome<Q>,
     pub state: State,
     pub labels: [Label; Label::MOST],
     pub count: usize,
@@ -57,7 +58,7 @@ pub fn blank_labels() -> [Label; Label::MOST]
 // An answer without labels.
 // Kept: (d) `outcomes::answer(..)` and `outcomes::refuse(..)` say where they are called what a step does; as `Stepped::answered(..)` and
 // `Stepped::refused(..)` these would be as long, and so would the contracts.
-pub fn answer(outcome: Outcome, s: State) -> Stepped
+pub fn answer<Q>(outcome: Outcome<Q>, s: State) -> Stepped<Q>
     ensures { result ≡ answered outcome s }
 {
     Stepped {
@@ -69,7 +70,7 @@ pub fn answer(outcome: Outcome, s: State) -> Stepped
 }
 
 // A refused step hands back the state it was given.
-pub fn refuse(s: State, q: Question) -> Stepped
+pub fn refuse<Q>(s: State, q: Q) -> Stepped<Q>
     ensures { result ≡ refused s q }
 {
     answer(Outcome::Refused(q), s)

@@ -306,7 +306,7 @@ module _ (c : Contract) (s : State) (ps : List Part) (ok : state_ok c s ≡ true
       → runtime (in_state c.initial) (with_clauses (memory_at s) c.clauses ps) nothing l ≡ runtime (in_state c.initial) (with_clauses (memory_at s) c.clauses ps) nothing l'
   without_events e = ap (runtime (in_state c.initial) (with_clauses (memory_at s) c.clauses ps) nothing) e
 
-  abbrev Derives : Stepped → Type 0
+  abbrev Derives : Stepped Question → Type 0
   Derives r = (C : Configuration) → Comes r (Accepted Agree) [] C → Table2 c (idle s) (agreement ps) C
 
   refused_derives : (n : Question) → Derives (refused s n)

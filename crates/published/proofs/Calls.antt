@@ -92,7 +92,7 @@ module _ (c : Contract) (fit : FitsContract c) (s : State) (i : Invocation) wher
 
   -- ---- from the machine to the rules
 
-  abbrev Derives : Stepped → Type 0
+  abbrev Derives : Stepped Question → Type 0
   Derives r = (ls : List Label) (C : Configuration) → Comes r (Accepted Call) ls C → Whole c (idle s) (call i) ls C
 
   refused_derives : (n : Question) → Derives (refused s n)

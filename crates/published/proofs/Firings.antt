@@ -80,7 +80,7 @@ module _ (c : Contract) (b : Bounded c) (s : State) where
   -- ---- from the machine to the rules
 
   module _ (few : length (live s) ≤ max_pending) where
-    fired_derives : {r : Stepped} {ls : List Label} {C : Configuration} → ComesOut c s steps.firing r → Comes r (Accepted EventMatch) ls C → Whole c (idle s) match ls C
+    fired_derives : {r : Stepped Question} {ls : List Label} {C : Configuration} → ComesOut c s steps.firing r → Comes r (Accepted EventMatch) ls C → Whole c (idle s) match ls C
     fired_derives (refusal n) o = let z : ◌≡◌ {A = ℕ} 0 1 = cc o.outcome_is in absurd (omega arith)
     fired_derives (fails k x a d h) o = let z : ◌≡◌ {A = ℕ} 0 1 = cc o.outcome_is in absurd (omega arith)
     fired_derives {ls = ls} {C = C} (fires k a d h) o =
@@ -91,7 +91,7 @@ module _ (c : Contract) (b : Bounded c) (s : State) where
     pub firing_derives : {ls : List Label} {C : Configuration} → Comes (fired c s) (Accepted EventMatch) ls C → Whole c (idle s) match ls C
     firing_derives o = fired_derives (firing_came c s) o
 
-  failed_derives : {r : Stepped} {n : Question} {ls : List Label} {C : Configuration} → ComesOut c s steps.firing r → Comes r (Failed n) ls C → Table2 c (idle s) (failure n) C
+  failed_derives : {r : Stepped Question} {n : Question} {ls : List Label} {C : Configuration} → ComesOut c s steps.firing r → Comes r (Failed n) ls C → Table2 c (idle s) (failure n) C
   failed_derives (refusal n) o = let z : ◌≡◌ {A = ℕ} 0 1 = cc o.outcome_is in absurd (omega arith)
   failed_derives (fires k a d h) o = let z : ◌≡◌ {A = ℕ} 0 1 = cc o.outcome_is in absurd (omega arith)
   failed_derives {n = n} {C = C} (fails k x a d h) o =
@@ -153,7 +153,7 @@ module _ (c : Contract) (b : Bounded c) (s : State) where
 
   -- ---- the question of a failed firing is one of questions 30 to 36
 
-  failed_stops : {r : Stepped} {n : Question} {ls : List Label} {C : Configuration} → ComesOut c s steps.firing r → Comes r (Failed n) ls C → Stops n
+  failed_stops : {r : Stepped Question} {n : Question} {ls : List Label} {C : Configuration} → ComesOut c s steps.firing r → Comes r (Failed n) ls C → Stops n
   failed_stops (refusal n) o = let z : ◌≡◌ {A = ℕ} 0 1 = cc o.outcome_is in absurd (omega arith)
   failed_stops (fires k a d h) o = let z : ◌≡◌ {A = ℕ} 0 1 = cc o.outcome_is in absurd (omega arith)
   failed_stops {n = n} (fails k x a d h) o =

@@ -44,14 +44,14 @@ idle_ended s w q ps v a =
     nothing (live_with (ended s w q ps) ps i)
 
 -- how a step comes out
-pub comes_by : {r r' : Stepped} {o : Outcome} {ls : List Label} {C : Configuration} → r ≡ r' → Comes r' o ls C → Comes r o ls C
-comes_by {o = o} {ls = ls} {C = C} e h = subst (λ (r : Stepped). Comes r o ls C) (sym e) h
+pub comes_by : {r r' : Stepped Question} {o : Outcome Question} {ls : List Label} {C : Configuration} → r ≡ r' → Comes r' o ls C → Comes r o ls C
+comes_by {o = o} {ls = ls} {C = C} e h = subst (λ (r : Stepped Question). Comes r o ls C) (sym e) h
 
 -- what comes of statements that met no refusal, and of those that question q refused
-pub goes_on : {r : Option Question} (f : Question → Stepped) (t : Stepped) → r ≡ None → unless_refused r f t ≡ t
+pub goes_on : {r : Option Question} (f : Question → Stepped Question) (t : Stepped Question) → r ≡ None → unless_refused r f t ≡ t
 goes_on f t e = ap (λ (r : Option Question). unless_refused r f t) e
 
-pub stops_at : {r : Option Question} {q : Question} (f : Question → Stepped) (t : Stepped) → r ≡ Some q → unless_refused r f t ≡ f q
+pub stops_at : {r : Option Question} {q : Question} (f : Question → Stepped Question) (t : Stepped Question) → r ≡ Some q → unless_refused r f t ≡ f q
 stops_at f t e = ap (λ (r : Option Question). unless_refused r f t) e
 
 -- a derivation between equal configurations, with equal labels

@@ -23,6 +23,7 @@ use Rattle.state.proofs.Within.{live_lapsed}
 use Rattle.state.proofs.Passing.{passed_clock, passed_state, passed_agreed, first_stop, one_stop}
 use Rattle.outcomes.specs.declared.Rule.TheVariants.{Tick}
 use Rattle.outcomes.specs.declared.Outcome.TheVariants.{Accepted}
+use Rattle.questions.specs.declared.Question.{Question}
 use Rattle.outcomes.specs.declared.Stepped.{Stepped}
 use Rattle.outcomes.specs.Outcomes.{answered}
 use Rattle.machine.specs.Steps.{jump_by_due, jumped}
@@ -85,7 +86,7 @@ idle_end : (s : State) (n : ℕ) → s.agreed ≡ true → idle (passed_times n 
 idle_end s n a = idle_standing (passed_times n s) (passed_agreed n s ∙ a) ∙ ap (λ (q : ℕ). at q (passed_times n s)) (passed_state n s)
 
 module _ (c : Contract) (s : State) where
-  came_derives : {T : ℤ} {r : Stepped} {C : Configuration} → within T ≡ true → ComesOut c s (steps.jump T) r → Comes r (Accepted Tick) [] C → Jump c T (idle s) C
+  came_derives : {T : ℤ} {r : Stepped Question} {C : Configuration} → within T ≡ true → ComesOut c s (steps.jump T) r → Comes r (Accepted Tick) [] C → Jump c T (idle s) C
   came_derives e (refusal n) o = let z : ◌≡◌ {A = ℕ} 0 1 = cc o.outcome_is in absurd (omega arith)
   came_derives {C = C} e (jumps T a d l) o =
       let r : TimeIn s.clock T = time_in s.clock T e l in

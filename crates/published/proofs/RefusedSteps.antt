@@ -22,18 +22,18 @@ use Rattle.published.proofs.Calls.{call_counts}
 use Rattle.published.proofs.Firings.{handler_counts}
 
 -- an answer by this rule, whatever it sends and leads to
-abbrev pub By : Outcome → Stepped → Type 0
+abbrev pub By : Outcome Question → Stepped Question → Type 0
 By o r = Comes r o (map as_published (take r.count r.labels)) (idle r.state)
 
 -- an answer by the rule of a request
-abbrev pub ByRule : Request → Stepped → Type 0
+abbrev pub ByRule : Request → Stepped Question → Type 0
 ByRule (agreement ps) r = Comes r (Accepted Agree) [] (idle r.state)
 ByRule (call i) r = By (Accepted Call) r
 ByRule firing r = By (Accepted EventMatch) r ⊎ ((n : Question) × Comes r (Failed n) [] (idle r.state))
 ByRule tick r = Comes r (Accepted Tick) [] (idle r.state)
 ByRule (jump T) r = Comes r (Accepted Tick) [] (idle r.state)
 
-pub refused_or_by : (c : Contract) → FitsContract c → Bounded c → {s : State} {q : Request} {r : Stepped} → ComesOut c s q r → IsRefused s r ⊎ ByRule q r
+pub refused_or_by : (c : Contract) → FitsContract c → Bounded c → {s : State} {q : Request} {r : Stepped Question} → ComesOut c s q r → IsRefused s r ⊎ ByRule q r
 refused_or_by c t b (refusal n) = inl (n, refl)
 refused_or_by c t b (agrees ps a) = inr (record { outcome_is = refl; count_is = refl; labels_are = refl; leads_to = refl })
 refused_or_by c t b {s} (calls i n f ps o) = inr (record { outcome_is = refl; count_is = call_counts c t s i n f o.runs o.went; labels_are = refl; leads_to = refl })
@@ -42,9 +42,9 @@ refused_or_by c t b (fails k n a d h) = inr (inr (_, record { outcome_is = refl;
 refused_or_by c t b (ticks a d l) = inr (record { outcome_is = refl; count_is = refl; labels_are = refl; leads_to = refl })
 refused_or_by c t b (jumps T a d l) = inr (record { outcome_is = refl; count_is = refl; labels_are = refl; leads_to = refl })
 
-pub not_fired : {r : Stepped} → (By (Accepted EventMatch) r → ⊥) → ((n : Question) → Comes r (Failed n) [] (idle r.state) → ⊥) → ByRule firing r → ⊥
+pub not_fired : {r : Stepped Question} → (By (Accepted EventMatch) r → ⊥) → ((n : Question) → Comes r (Failed n) [] (idle r.state) → ⊥) → ByRule firing r → ⊥
 not_fired f g (inl x) = f x
 not_fired f g (inr x) = g x.0 x.1
 
-pub comes_refused : {s : State} {r : Stepped} {o : Outcome} {ls : List Label} {C : Configuration} → IsRefused s r → Comes r o ls C → is_refused o ≡ true
-comes_refused x y = ap is_refused (sym y.outcome_is) ∙ ap (λ (r : Stepped). is_refused r.outcome) x.1
+pub comes_refused : {s : State} {r : Stepped Question} {o : Outcome Question} {ls : List Label} {C : Configuration} → IsRefused s r → Comes r o ls C → is_refused o ≡ true
+comes_refused x y = ap is_refused (sym y.outcome_is) ∙ ap (λ (r : Stepped Question). is_refused r.outcome) x.1

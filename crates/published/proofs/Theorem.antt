@@ -67,10 +67,10 @@ module _ (w : List ℕ) (s : State) (room : ℕ) (p : passes w ≡ true) (o : st
   unfolding step
   past_first q = pick_true _ _ _ p ∙ pick_true _ _ _ o ∙ pick_true _ _ _ (le-leb max_labels room h)
 
-  here : (q : Request) {x : Outcome} {ls : List Label} {C : Configuration} → Comes (answer w s room q) x ls C → Comes (requested s q (contract_of w)) x ls C
+  here : (q : Request) {x : Outcome Question} {ls : List Label} {C : Configuration} → Comes (answer w s room q) x ls C → Comes (requested s q (contract_of w)) x ls C
   here q c = comes_by (sym (past_first q)) c
 
-  there : (q : Request) {x : Outcome} {ls : List Label} {C : Configuration} → Comes (requested s q (contract_of w)) x ls C → Comes (answer w s room q) x ls C
+  there : (q : Request) {x : Outcome Question} {ls : List Label} {C : Configuration} → Comes (requested s q (contract_of w)) x ls C → Comes (answer w s room q) x ls C
   there q c = comes_by (past_first q) c
 
   few : length (live s) ≤ max_pending
@@ -83,7 +83,7 @@ module _ (w : List ℕ) (s : State) (room : ℕ) (p : passes w ≡ true) (o : st
       subst (IsRefused s) (sym (past_first q))
       (⊎_elim (λ x. x) (λ x. absurd (f x)) (refused_or_by c (fits_contract c (sound w p)) (bounded c (sound w p)) (request_came c s q)))
 
-  never : (q : Request) {x : Outcome} {ls : List Label} {C : Configuration} → IsRefused s (answer w s room q) → is_refused x ≡ false → Comes (requested s q (contract_of w)) x ls C → ⊥
+  never : (q : Request) {x : Outcome Question} {ls : List Label} {C : Configuration} → IsRefused s (answer w s room q) → is_refused x ≡ false → Comes (requested s q (contract_of w)) x ls C → ⊥
   never q r e c = true_false (sym (comes_refused r (there q c)) ∙ e)
 
   pub exactly : Exactly w s room
@@ -119,5 +119,5 @@ module _ (w : List ℕ) (s : State) (room : ℕ) (p : passes w ≡ true) (o : st
 
 -- between good states, which all are that are reached from the fresh one, the configuration tells the state that a step leads to
 module _ (w : List ℕ) (p : passes w ≡ true) {s s' : State} (g : Good (contract_of w) s) (g' : Good (contract_of w) s') (room : ℕ) (q : Request) (e : within64 q ≡ true) where
-  pub result_is : {x : Outcome} {ls : List Label} → Comes (answer w s room q) x ls (idle s') → (answer w s room q).state ≡ s'
+  pub result_is : {x : Outcome Question} {ls : List Label} → Comes (answer w s room q) x ls (idle s') → (answer w s room q).state ≡ s'
   result_is c = idle_tells (answer_good w p g room q e) g' c.leads_to

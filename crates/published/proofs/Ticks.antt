@@ -16,6 +16,7 @@ use Rattle.laws.specs.Lists.{keep}
 use Rattle.state.proofs.Within.{live_lapsed}
 use Rattle.outcomes.specs.declared.Rule.TheVariants.{Tick}
 use Rattle.outcomes.specs.declared.Outcome.TheVariants.{Accepted}
+use Rattle.questions.specs.declared.Question.{Question}
 use Rattle.outcomes.specs.declared.Stepped.{Stepped}
 use Rattle.outcomes.specs.Outcomes.{answered}
 use Rattle.machine.specs.Steps.{tick_by_due, ticked}
@@ -32,7 +33,7 @@ module _ (c : Contract) (s : State) where
   unfolding with_pending lapsed
   idle_later a = λ i. runtime (phase_of (a i) s.state) (after_tick (memory_at s)) nothing (live_lapsed s i)
 
-  came_derives : {r : Stepped} {C : Configuration} → ComesOut c s steps.tick r → Comes r (Accepted Tick) [] C → Table2 c (idle s) time C
+  came_derives : {r : Stepped Question} {C : Configuration} → ComesOut c s steps.tick r → Comes r (Accepted Tick) [] C → Table2 c (idle s) time C
   came_derives (refusal n) o = let z : ◌≡◌ {A = ℕ} 0 1 = cc o.outcome_is in absurd (omega arith)
   came_derives {C = C} (ticks a d l) o =
       subst (λ (x : Configuration). Table2 c x time C) (sym (idle_standing s a))

@@ -24,7 +24,7 @@ use Rattle.history.specs.Sessions.{Stored}
 use Rattle.published.specs.Published.{Configuration, agreement, call, match, failure, time, Table2, Whole, Jump, idle, Comes, IsRefused}
 
 -- the machine's answer
-abbrev pub answer : List ℕ → State → ℕ → Request → Stepped
+abbrev pub answer : List ℕ → State → ℕ → Request → Stepped Question
 answer w s room q = step w room s (requested s q)
 
 -- the questions that every step asks first, in this order; proved (`first_questions`) of all tables, states, slices and steps

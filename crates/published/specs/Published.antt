@@ -392,11 +392,11 @@ abbrev pub idle : State → Configuration
 idle s = runtime (phase_of s.agreed s.state) (memory_at s) nothing (live s)
 
 -- a step of the machine is refused: it hands back the state that it was given, and sends nothing
-abbrev pub IsRefused : State → Stepped → Type 0
+abbrev pub IsRefused : State → Stepped Question → Type 0
 IsRefused s r = (q : Question) × (r ≡ refused s q)
 
 -- a step of the machine comes out so, with these labels, their groups aside, and no more, and leads to the idle configuration C
-pub record Comes (r : Stepped) (o : Outcome) (ls : List Label) (C : Configuration) : Type 0 where
+pub record Comes (r : Stepped Question) (o : Outcome Question) (ls : List Label) (C : Configuration) : Type 0 where
   pub outcome_is : r.outcome ≡ o
   pub count_is : r.count ≡ length ls
   pub labels_are : map as_published (take r.count r.labels) ≡ ls

@@ -11,8 +11,6 @@ use lib.IntN.{ℤ}
 use lib.ListN.{length, set, take, length-append}
 use lib.Seq.{sets, length-sets, take-suc, take_all}
 use borrow.Author.Tests.{ltb-true, ltb-false, le-leb, lt-leb, leb-true, leb-false}
-use Rattle.questions.specs.declared.Question.{Question}
-use Rattle.questions.specs.Numbers.{number_of}
 use Rattle.statements.specs.declared.Label.{Label}
 use Rattle.statements.specs.Running.{labels_from}
 use Rattle.results.specs.declared.Report.{Report}
@@ -24,7 +22,7 @@ use Rattle.outcomes.specs.declared.Outcome.TheVariants as outcome
 use Rattle.outcomes.specs.Outcomes.{no_label, label_at}
 use Rattle.outcomes.proofs.Labels.{label_at_lem}
 pub use Rattle.step_reports.specs.Private.{Told}
-use Rattle.step_reports.specs.Reports.{rule_number, report_of, label_report, label_reports, sent, step_reports, room_in, has_room}
+use Rattle.step_reports.specs.Reports.{rule_number, report_by, label_report, label_reports, sent, step_reports_by, room_in, has_room}
 
 -- ---- stores after stores
 
@@ -164,13 +162,13 @@ words_told count ws h =
     sent_first (min count 64) ws (omega arith) ∙ ap label_reports (take_least (labels_from ws) count 64 (ltb count 64) refl h)
 
 -- what came of a step, and its labels after it
-pub step_told : {numbers told more : List ℕ} {integers values others : List ℤ} {n m k : ℕ} (o : Outcome) (state clock count : ℕ) (ws : List ℤ)
+pub step_told : {numbers told more : List ℕ} {integers values others : List ℤ} {n m k : ℕ} {Q : Type 0} (number : Q → ℕ) (o : Outcome Q) (state clock count : ℕ) (ws : List ℤ)
     → m ≡ min count 64 → k ≡ n + 1
-    → Told numbers integers n (report_of o state clock ∷ []) told values
+    → Told numbers integers n (report_by number o state clock ∷ []) told values
     → Told told values k (sent m ws) more others
-    → Told numbers integers n (step_reports o state clock count ws) more others
-step_told {numbers} {told} {more} {integers} {values} {others} {n} {m} {k} o state clock count ws e f x y =
-    subst (λ (j : ℕ). Told numbers integers n (report_of o state clock ∷ sent j ws) more others) e (told_more x f y)
+    → Told numbers integers n (step_reports_by number o state clock count ws) more others
+step_told {numbers} {told} {more} {integers} {values} {others} {n} {m} {k} number o state clock count ws e f x y =
+    subst (λ (j : ℕ). Told numbers integers n (report_by number o state clock ∷ sent j ws) more others) e (told_more x f y)
 
 -- ---- whether result lines fit
 pub fits_not : (n room : ℕ) → room < 65 → false ≡ leb (n + 65) room
@@ -190,18 +188,18 @@ fits_room numbers integers n e =
 
 -- ---- what came of a step, as a report
 
-module _ (o : Outcome) (state clock : ℕ) where
-  pub ruled : (r : Rule) (k : ℕ) → o ≡ outcome.Accepted r → k ≡ rule_number r → report.Ruled k state clock ≡ report_of o state clock
-  unfolding report_of
-  ruled r k e f = ap (λ (x : ℕ). report.Ruled x state clock) f ∙ ap (λ (x : Outcome). report_of x state clock) (sym e)
+module _ {Q : Type 0} (number : Q → ℕ) (o : Outcome Q) (state clock : ℕ) where
+  pub ruled : (r : Rule) (k : ℕ) → o ≡ outcome.Accepted r → k ≡ rule_number r → report.Ruled k state clock ≡ report_by number o state clock
+  unfolding report_by
+  ruled r k e f = ap (λ (x : ℕ). report.Ruled x state clock) f ∙ ap (λ (x : Outcome Q). report_by number x state clock) (sym e)
 
-  pub failed : (q : Question) (k : ℕ) → o ≡ outcome.Failed q → k ≡ number_of q → report.Failed k ≡ report_of o state clock
-  unfolding report_of
-  failed q k e f = ap report.Failed f ∙ ap (λ (x : Outcome). report_of x state clock) (sym e)
+  pub failed : (q : Q) (k : ℕ) → o ≡ outcome.Failed q → k ≡ number q → report.Failed k ≡ report_by number o state clock
+  unfolding report_by
+  failed q k e f = ap report.Failed f ∙ ap (λ (x : Outcome Q). report_by number x state clock) (sym e)
 
-  pub turned_down : (q : Question) (k : ℕ) → o ≡ outcome.Refused q → k ≡ number_of q → report.Refused k ≡ report_of o state clock
-  unfolding report_of
-  turned_down q k e f = ap report.Refused f ∙ ap (λ (x : Outcome). report_of x state clock) (sym e)
+  pub turned_down : (q : Q) (k : ℕ) → o ≡ outcome.Refused q → k ≡ number q → report.Refused k ≡ report_by number o state clock
+  unfolding report_by
+  turned_down q k e f = ap report.Refused f ∙ ap (λ (x : Outcome Q). report_by number x state clock) (sym e)
 
 -- a line by a report's numbers is told of an equal one
 pub same_report : {numbers told : List ℕ} {integers values : List ℤ} {n : ℕ} (r u : Report) → r ≡ u

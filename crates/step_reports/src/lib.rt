@@ -1,14 +1,16 @@
 // What comes of a step as result lines, handed on as four numbers and an integer each.
 #![tactic(auto)]
 
-ghost use Rattle.std.specs.Prelude.{◌≡◌, ◌+◌, ◌*◌, ◌≤◌, ◌<◌, min, [], ◌∷◌, length, get_or, pos, nat_abs};
+ghost use Rattle.std.specs.Prelude.{ℕ, ◌≡◌, ◌+◌, ◌*◌, ◌≤◌, ◌<◌, min, [], ◌∷◌, length, get_or, pos, nat_abs};
 ghost use Rattle.std.proofs.lemmas.List.Edits.{sets};
 ghost use Rattle.laws.specs.Choice.{pick};
 ghost use Rattle.results.specs.Coded.{coded_all, integers_of};
-ghost use Rattle.step_reports.specs.Reports.{rule_number, report_of, sent, reports_of, room_in, has_room};
+ghost use Rattle.questions.specs.Numbers.{number_of};
+ghost use Rattle.step_reports.specs.Reports.{rule_number, report_by, sent, reports_by, room_in, has_room};
 ghost use Rattle.step_reports.specs.Private.{HasRoom, SameLists, Told};
 
 use outcomes::{Outcome, Rule, Stepped};
+use questions::Question;
 use results::Report;
 use statements::Label;
 
@@ -28,22 +30,47 @@ fn rule_number(rule: Rule) -> u8
     rule as u8
 }
 
+// What a refusal and a failed firing may be told by: any number of a byte, or a question of the documents.
+pub trait Numbered {
+    // The number in a result line.
+    ghost number: { Self → ℕ };
+
+    fn number(self) -> u8
+        ensures { result ≡ number self };
+}
+
+impl Numbered for u8 {
+    ghost number = { λ n. n };
+
+    fn number(self) -> u8 {
+        self
+    }
+}
+
+impl Numbered for Question {
+    ghost number = { number_of };
+
+    fn number(self) -> u8 {
+        Question::number(self)
+    }
+}
+
 // What came of a step: its outcome, the state's number and the clock after it, and the words of the labels, of which the first so many were sent.
 // Kept: (a) the words and a count, as `machine` has them of a step: any count may stand here, and no more are told than there are.
 #[derive(Clone, Copy)]
-pub struct Done<'a> {
-    pub outcome: Outcome,
+pub struct Done<'a, Q = Question> {
+    pub outcome: Outcome<Q>,
     pub state: usize,
     pub clock: u64,
     pub labels: &'a [i64; Label::ROOM],
     pub count: usize,
 }
 
-impl Done<'_> {
+impl<Q: Numbered + Copy + Drop> Done<'_, Q> {
     // Its first result line.
     // Kept: (d) no conversion between two types: this is the first line alone, without the labels.
     fn first(self) -> Report
-        ensures { result ≡ report_of self.entry.outcome self.entry.state self.entry.clock }
+        ensures { result ≡ report_by Q.number self.entry.outcome self.entry.state self.entry.clock }
     {
         match self.outcome {
             Outcome::Accepted(rule) => Report::Ruled(rule_number(rule), self.state, self.clock),
@@ -53,8 +80,8 @@ impl Done<'_> {
     }
 
     // How many labels are told: no more than there are.
-    fn labels_told(self) -> usize
-        ensures { result ≡ min self.entry.count 64 }
+    fn labels_told(&self) -> usize
+        ensures { result ≡ min self.now.count 64 }
     {
         self.count.min(Label::MOST)
     }
@@ -121,10 +148,15 @@ fn fits_from(numbers: &[u64], integers: &[i64], n: usize) -> bool
 
 // The result lines of a step, from line n on, and the line after them; nothing where those of any step don't fit.
 // Kept: (a) as `room_in`, and n any number: the caller's lists may hold lines already.
-pub fn report(numbers: &mut [u64], integers: &mut [i64], n: usize, done: Done) -> usize
+pub fn report<Q: Numbered + Copy + Drop>(
+    numbers: &mut [u64],
+    integers: &mut [i64],
+    n: usize,
+    done: Done<Q>,
+) -> usize
     ensures value { result ≡ pick (has_room numbers.old integers.old n) (n + 1 + min done.entry.count 64) n }
-    ensures numbers_after { numbers.new ≡ pick (has_room numbers.old integers.old n) (sets numbers.old (4 * n) (coded_all (reports_of done.entry))) numbers.old }
-    ensures integers_after { integers.new ≡ pick (has_room numbers.old integers.old n) (sets integers.old n (integers_of (reports_of done.entry))) integers.old }
+    ensures numbers_after { numbers.new ≡ pick (has_room numbers.old integers.old n) (sets numbers.old (4 * n) (coded_all (reports_by Q.number done.entry))) numbers.old }
+    ensures integers_after { integers.new ≡ pick (has_room numbers.old integers.old n) (sets integers.old n (integers_of (reports_by Q.number done.entry))) integers.old }
 {
     if !fits_from(numbers, integers, n) {
         return n;
@@ -134,8 +166,10 @@ pub fn report(numbers: &mut [u64], integers: &mut [i64], n: usize, done: Done) -
         integers,
         many: n,
     };
+    let labels = done.labels;
+    let many = done.labels_told();
     let first = done.first();
     teller.tell(first.numbers(), first.integer());
-    teller.tell_labels(done.labels, done.labels_told());
+    teller.tell_labels(labels, many);
     teller.many
 }

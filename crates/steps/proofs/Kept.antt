@@ -8,6 +8,7 @@ use borrow.Author.Tests.{lt-ltb}
 use lib.Dec.{ltb}
 use lib.ListN.{length, take, drop}
 use Rattle.statements.specs.declared.Label.{Label}
+use Rattle.questions.specs.declared.Question.{Question}
 use Rattle.outcomes.specs.declared.Stepped.{Stepped}
 use Rattle.steps.specs.Left.{count_of, copied_of, slots_of}
 
@@ -21,10 +22,10 @@ count_none s n e = go (ltb s 64)
     go true = refl
     go false = omega arith
 
-pub kept : (old : List Label) (r : Stepped) → r.count ≡ 0 → slots_of old r ≡ old
+pub kept : (old : List Label) (r : Stepped Question) → r.count ≡ 0 → slots_of old r ≡ old
 unfolding copied_of
 kept old r e = none_written old r.labels _ (count_none (length old) r.count e)
 
-pub short_kept : (old : List Label) (r : Stepped) → length old < 64 → slots_of old r ≡ old
+pub short_kept : (old : List Label) (r : Stepped Question) → length old < 64 → slots_of old r ≡ old
 unfolding copied_of
 short_kept old r h = none_written old r.labels (count_of (length old) r.count) (simp (lt-ltb (length old) 64 h))

@@ -3,6 +3,7 @@ use mathlib.Core.Path.{sym, ap, ◌∙◌}
 use mathlib.Core.List.{List}
 use Prim.Native.Nat.{ℕ}
 use Rattle.contract.specs.Decode.{contract_of}
+use Rattle.questions.specs.declared.Question.{Question}
 use Rattle.outcomes.specs.declared.Stepped.{Stepped}
 use Rattle.contract.specs.Tree.{Contract}
 use Rattle.laws.specs.Lists.{repeated}
@@ -31,7 +32,7 @@ returns c =
     let a = c.args in
     let n = c.admit.ensures in
     let i : Invocation = record { caller = a.caller.now; function = a.function.now; values = a.values.now; assets = a.assets.now } in
-    let does : Contract → Stepped = λ x. called x a.s i in
+    let does : Contract → Stepped Question = λ x. called x a.s i in
     c.with_labels.ensures
     ∙ in_reply _ c.call_reply.ensures c.call_on-r.ensures
     ∙ ap (λ (w : List ℕ). called (contract_of w) a.s i) (same_table a.table.now a.room a.s _ n _ c.in-Ok.is)

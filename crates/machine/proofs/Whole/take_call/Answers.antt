@@ -7,6 +7,7 @@ use lib.ListN.{length, take, drop}
 use Rattle.std.proofs.Common.{rules}
 use Rattle.lines.specs.Lines.{asked}
 use Rattle.contract.specs.Decode.{contract_of}
+use Rattle.questions.specs.declared.Question.{Question}
 use Rattle.outcomes.specs.declared.Stepped.{Stepped}
 use Rattle.machine.specs.Private.{called_by, taken}
 use Rattle.machine.proofs.Replies.{in_reply}
@@ -20,7 +21,7 @@ returns c =
     let l : length zs ≡ 256 = search rules in
     let k = does_call (contract_of c.args.self.now.terms.table.now) c.args.s.now c.args.line.now (asked c.args.line.now) r zs c.requires.call c.requires.numbers in
     let w = contract_of c.args.self.now.terms.table.now in
-    let does : List ℕ → List ℕ → ℕ → Stepped =
+    let does : List ℕ → List ℕ → ℕ → Stepped Question =
     λ x y n. called_by w c.args.s.now x y (take r.values zs) (take n (drop r.values zs)) in
     let q : r.values + r.assets - r.values ≡ r.assets = omega arith in
     let e : does c.between-caller.result.now c.between-function.result.now (r.values + r.assets - r.values) ≡ taken w c.args.s.now c.args.line.now =

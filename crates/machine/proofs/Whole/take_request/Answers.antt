@@ -8,6 +8,7 @@ use Rattle.std.specs.Prelude.{Ok}
 use Rattle.contract.specs.Decode.{contract_of}
 use Rattle.lines.specs.Lines.{asked}
 use Rattle.lines.specs.declared.Request.{Request}
+use Rattle.questions.specs.declared.Question.{Question}
 use Rattle.outcomes.specs.declared.Outcome.{Outcome}
 use Rattle.outcomes.specs.Outcomes.{answered}
 use Rattle.machine.specs.Steps.{jumped}
@@ -20,7 +21,7 @@ pub returns-in-Tick : goal.returns-in-Tick
 returns-in-Tick c =
     let l = c.args.line.now in
     let e = sym c.requires.request ∙ ap (λ (r : Request). Ok r) c.in-Tick.is in
-    quiet_as _ c.silent.ensures c.requires.no_labels (ap (λ (o : Outcome). answered o c.tick_on.new.s) c.passage.ensures ∙ c.tick_on.ensures ∙ ticks_so (contract_of c.args.self.now.terms.table.now) c.args.s.now (sym c.requires.at_rest) ∙ does_tick (contract_of c.args.self.now.terms.table.now) c.args.s.now l (asked l) e)
+    quiet_as _ c.silent.ensures c.requires.no_labels (ap (λ (o : Outcome Question). answered o c.tick_on.new.s) c.passage.ensures ∙ c.tick_on.ensures ∙ ticks_so (contract_of c.args.self.now.terms.table.now) c.args.s.now (sym c.requires.at_rest) ∙ does_tick (contract_of c.args.self.now.terms.table.now) c.args.s.now l (asked l) e)
 
 pub returns-in-Jump : goal.returns-in-Jump
 returns-in-Jump c =
@@ -28,4 +29,4 @@ returns-in-Jump c =
     let l = c.args.line.now in
     let to : to_z w64 (of_z w64 c.in-Jump.to) ≡ c.in-Jump.to = search rules in
     let e = sym c.requires.request ∙ ap (λ (r : Request). Ok r) c.in-Jump.is in
-    quiet_as _ c.silent-in-Jump.ensures c.requires.no_labels (ap (λ (o : Outcome). answered o c.jump_on.new.s) c.passage-in-Jump.ensures ∙ c.jump_on.ensures ∙ ap (λ (y : ℤ). jumped w c.args.s.now y) to ∙ does_jump w c.args.s.now l (asked l) e)
+    quiet_as _ c.silent-in-Jump.ensures c.requires.no_labels (ap (λ (o : Outcome Question). answered o c.jump_on.new.s) c.passage-in-Jump.ensures ∙ c.jump_on.ensures ∙ ap (λ (y : ℤ). jumped w c.args.s.now y) to ∙ does_jump w c.args.s.now l (asked l) e)

@@ -3,10 +3,10 @@ use Rattle.step_reports.proofs.Reports.{ruled, failed, turned_down}
 use Rattle.step_reports.proofs.Done.first.Goals as goal
 
 pub returns-in-Accepted : goal.returns-in-Accepted
-returns-in-Accepted c = ruled c.args.self.outcome c.args.self.state c.args.self.clock _ _ c.in-Accepted.is c.rule_number.ensures
+returns-in-Accepted g c = ruled g.Q.Numbered.number c.args.self.outcome c.args.self.state c.args.self.clock _ _ c.in-Accepted.is c.rule_number.ensures
 
 pub returns-in-Failed : goal.returns-in-Failed
-returns-in-Failed c = failed c.args.self.outcome c.args.self.state c.args.self.clock _ _ c.in-Failed.is c.number.ensures
+returns-in-Failed g c = failed g.Q.Numbered.number c.args.self.outcome c.args.self.state c.args.self.clock _ _ c.in-Failed.is c.number.ensures
 
 pub returns-in-Refused : goal.returns-in-Refused
-returns-in-Refused c = turned_down c.args.self.outcome c.args.self.state c.args.self.clock _ _ c.in-Refused.is c.number-in-Refused.ensures
+returns-in-Refused g c = turned_down g.Q.Numbered.number c.args.self.outcome c.args.self.state c.args.self.clock _ _ c.in-Refused.is c.number-in-Refused.ensures
