@@ -260,9 +260,21 @@ module _ (s : List ℕ) (short : length s ≤ 512) where
         go no e h = cc
 
     module _ (c : call_line s 0 ≡ no) where
-      pub parts_told : {P : Unit → Request → Type 0} (r : Option Unit) (m : Option Request) (out : Agreement) → AgreementIs (parts s 0) r out → ((y : Unit) (z : Request) → P y z → z ≡ request.Agreement) → MatchOption r (m ≡ None) (λ y. IsSomeAnd m (P y)) → ok_or m ask.LineForm ≡ request_of (asked s)
+      pub parts_told : {P : Agreement → Request → Type 0} (r : Option Agreement) (m : Option Request) → r ≡ given agreement_of (parts s 0) → ((y : Agreement) (z : Request) → P y z → z ≡ request.Agreement) → MatchOption r (m ≡ None) (λ y. IsSomeAnd m (P y)) → ok_or m ask.LineForm ≡ request_of (asked s)
       unfolding request_of
-      parts_told {P} r m out q f w = go (parts s 0) refl r m q w
+      parts_told {P} r m q f w = go (parts s 0) refl r m q w
+        where
+          go : (p : Parsed (List Part)) → parts s 0 ≡ p → (t : Option Agreement) (n : Option Request) → t ≡ given agreement_of p → MatchOption t (n ≡ None) (λ y. IsSomeAnd n (P y)) → ok_or n ask.LineForm ≡ request_of (asked s)
+          go (done ps k) e (Some y) (Some z) h w = ap (λ (x : Request). Ok x) (f y z w) ∙ sym (ap request_of (asked_agreed s short t c e))
+          go (done ps k) e (Some y) None h w = absurd w
+          go (done ps k) e None n h w = cc
+          go no e (Some y) n h w = cc
+          go no e None n h w = ap (λ (o : Option Request). ok_or o ask.LineForm) w ∙ sym (ap request_of (asked_none s short t c e))
+
+      -- the same where the agreement is lent
+      pub parts_filled : {P : Unit → Request → Type 0} (r : Option Unit) (m : Option Request) (out : Agreement) → AgreementIs (parts s 0) r out → ((y : Unit) (z : Request) → P y z → z ≡ request.Agreement) → MatchOption r (m ≡ None) (λ y. IsSomeAnd m (P y)) → ok_or m ask.LineForm ≡ request_of (asked s)
+      unfolding request_of
+      parts_filled {P} r m out q f w = go (parts s 0) refl r m q w
         where
           go : (p : Parsed (List Part)) → parts s 0 ≡ p → (t : Option Unit) (n : Option Request) → AgreementIs p t out → MatchOption t (n ≡ None) (λ y. IsSomeAnd n (P y)) → ok_or n ask.LineForm ≡ request_of (asked s)
           go (done ps k) e (Some y) (Some z) h w = ap (λ (x : Request). Ok x) (f y z w) ∙ sym (ap request_of (asked_agreed s short t c e))

@@ -237,18 +237,22 @@ module _ {c : Contract} {ns : List ℕ} {zs : List ℤ} {from to : ℕ} {old : L
         ∙ ap (λ (m : ℕ). lines_of c (reports_from ns zs from m)) e
 
     -- one line more
-    pub turn : {r : Report} {n : ℕ} {line : List ℕ} → 128 * (to - from) ≤ length old → i < to → Some r ≡ report_at ns zs i
-        → PutLine (mid_of used (used + 128 - used) new) 0 (line_of c r) n line
-        → Going c ns zs from to old (i + 1) (used + n) (put_mid used (used + 128 - used) new line)
+    pub turn : {r : Report} {n : ℕ} {next : List ℕ} → i < to → Some r ≡ report_at ns zs i → PutLine new used (line_of c r) n next
+        → Going c ns zs from to old (i + 1) n next
     unfolding lines_of
-    turn {r} h l q line =
-        let p = part_line (omega arith) (next_room h l) line in
+    turn {r} l q p =
         record {
           first = omega (arith, g.first);
           few = omega (arith, g.first, l);
           short = omega (arith, g.short, g.first, p.put.place, p.short);
           lines = same (ap (λ (u : List ℕ). lines_of c (reports_from ns zs from (i - from)) ++ u) (sym (append-nil (line_of c r))) ∙ lines_next q) (then g.lines p.put);
         }
+
+    -- the same of a line in the part that is lent for it
+    pub turn_lent : {r : Report} {n : ℕ} {line : List ℕ} → 128 * (to - from) ≤ length old → i < to → Some r ≡ report_at ns zs i
+        → PutLine (mid_of used (used + 128 - used) new) 0 (line_of c r) n line
+        → Going c ns zs from to old (i + 1) (used + n) (put_mid used (used + 128 - used) new line)
+    turn_lent h l q line = turn l q (part_line (omega arith) (next_room h l) line)
 
     -- and none, where the numbers tell none
     pub turn_none : i < to → None ≡ report_at ns zs i → Going c ns zs from to old (i + 1) used new

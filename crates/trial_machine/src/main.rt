@@ -30,7 +30,7 @@ use std::alloc::{AllocError, Global};
 use std::io::Read;
 use std::{io, iter};
 use trial_states::{Part, Said};
-use trial_text::{first_word, integer, number, store_line};
+use trial_text::{integer, leading_number, leading_word, store_leading_line};
 
 // The bytes of standard input that are read.
 const INPUT: u64 = 65536;
@@ -55,11 +55,11 @@ struct Trial {
 
 // Numbers that rise by the last number of a text, at places so far apart; a place past the end is left out.
 fn repeat(numbers: &mut [u64], text: &[u8]) {
-    let (at, text) = number(text);
-    let (step, text) = number(text);
-    let (times, text) = number(text);
-    let (first, text) = number(text);
-    let (add, _) = number(text);
+    let (at, text) = leading_number(text);
+    let (step, text) = leading_number(text);
+    let (times, text) = leading_number(text);
+    let (first, text) = leading_number(text);
+    let (add, _) = leading_number(text);
     let places = iter::successors(Some(at), |place: &u64| Some(place.wrapping_add(step)));
     let values = iter::successors(Some(first), |value: &u64| Some(value.wrapping_add(add)));
     for (place, value) in places.zip(values).take(times as usize) {
@@ -105,8 +105,8 @@ impl Parts {
         end: usize,
         text: &'a [u8],
     ) -> Result<&'a [u8], AllocError> {
-        let (verb, text) = number(text);
-        let (fields, text) = number(text);
+        let (verb, text) = leading_number(text);
+        let (fields, text) = leading_number(text);
         for part in [start, end, verb as usize, fields as usize] {
             keep(&mut self.parts, part)?;
         }
@@ -120,7 +120,7 @@ impl Parts {
 
     // What a mark of the line opens, whose name starts at a place, and the text from there on. Answers what stands behind it.
     fn add<'a>(&mut self, mark: u8, start: usize, text: &'a [u8]) -> Result<&'a [u8], AllocError> {
-        let (name, text) = first_word(text);
+        let (name, text) = leading_word(text);
         let end = start.saturating_add(name.len());
         match mark {
             b'@' => self.add_party(start, end, text),
@@ -259,8 +259,8 @@ impl Trial {
 
     // The caller, the function and the values, and the assets behind a slash.
     fn call(&self, alloc: Global, room: usize, text: &[u8]) -> Result<Stepped, AllocError> {
-        let (caller, text) = first_word(text);
-        let (function, text) = first_word(text);
+        let (caller, text) = leading_word(text);
+        let (function, text) = leading_word(text);
         let (values, text) = integers(alloc, text)?;
         let (assets, _) = integers(alloc, text)?;
         Ok(machine::call(
@@ -282,7 +282,7 @@ impl Trial {
         text: &[u8],
         line: &[u8],
     ) -> Result<Option<Stepped>, AllocError> {
-        let (room, text) = number(text);
+        let (room, text) = leading_number(text);
         let room = room as usize;
         Ok(Some(match kind {
             b'a' => self.agree(alloc, room, line, text)?,
@@ -297,9 +297,9 @@ impl Trial {
     // What a line says of the table.
     fn set_table(&mut self, kind: u8, text: &[u8]) -> Result<(), AllocError> {
         match kind {
-            b'w' => store_line(&mut self.all, text),
+            b'w' => store_leading_line(&mut self.all, text),
             b'r' => repeat(&mut self.all, text),
-            b'l' => self.words = number(text).0 as usize,
+            b'l' => self.words = leading_number(text).0 as usize,
             b'k' => self.kept = self.all.clone()?,
             b'b' => self.all = self.kept.clone()?,
             _ => {}
@@ -310,8 +310,8 @@ impl Trial {
     // What a line says of the state.
     fn set_state(&mut self, kind: u8, text: &[u8]) {
         match kind {
-            b'f' => self.state = State::fresh(number(text).0),
-            b's' => self.state = Part::put_named(text, self.state),
+            b'f' => self.state = State::fresh(leading_number(text).0),
+            b's' => self.state = Part::put_read(text, self.state),
             _ => {}
         }
     }

@@ -22,7 +22,7 @@ use results::Report;
 use std::io;
 use std::io::Read;
 use std::rt::Files;
-use trial_text::{number, rest_word, store};
+use trial_text::{leading_number, rest_word, store_leading};
 
 // The bytes of standard input that are read.
 const INPUT: u64 = 65536;
@@ -134,7 +134,7 @@ impl Trial {
     // A result line, by its four numbers and its integer. As many payouts as there is room for are not given.
     fn gather(&mut self, rt: &impl Print, text: &[u8]) -> io::Result<()> {
         let mut report = [0; Report::WORDS + 1];
-        store(&mut report, 0, text);
+        store_leading(&mut report, 0, text);
         let integers = [0i64.saturating_add_unsigned(report[Report::WORDS])];
         self.gathered = self.gathered.gather(
             &report,
@@ -166,9 +166,9 @@ impl Trial {
 
     // A line with up to three numbers.
     fn take_numbers(&mut self, rt: &impl Print, kind: u8, text: &[u8]) -> io::Result<()> {
-        let (first, text) = number(text);
-        let (second, text) = number(text);
-        let (third, _) = number(text);
+        let (first, text) = leading_number(text);
+        let (second, text) = leading_number(text);
+        let (third, _) = leading_number(text);
         let place = first as usize;
         match kind {
             b'b' => self.size = place,

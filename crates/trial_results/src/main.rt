@@ -21,7 +21,7 @@ use questions::Question;
 use results::{Batch, Report};
 use std::io;
 use std::io::Read;
-use trial_text::{number, rest_word, store, store_line};
+use trial_text::{leading_number, rest_word, store_leading, store_leading_line};
 
 // The bytes of standard input that are read.
 const INPUT: u64 = 65536;
@@ -115,10 +115,10 @@ impl Trial {
     }
 
     fn write_batch(&self, rt: &impl Print, text: &[u8]) -> io::Result<()> {
-        let (many, reports) = number(text);
+        let (many, reports) = leading_number(text);
         let many = many as usize;
         let mut numbers = [0u64; MANY * Report::WORDS];
-        store(&mut numbers, 0, reports);
+        store_leading(&mut numbers, 0, reports);
         self.ask(
             MANY * Report::ROOM,
             |part| results::write_batch(&self.table, &numbers, &[3, -1250, 0, 7], 0, many, part),
@@ -128,8 +128,8 @@ impl Trial {
 
     // A report of up to four numbers, or many at once.
     fn report(&self, rt: &impl Print, kind: u8, text: &[u8]) -> io::Result<()> {
-        let (first, more) = number(text);
-        let (second, more) = number(more);
+        let (first, more) = leading_number(text);
+        let (second, more) = leading_number(more);
         match kind {
             b'q' => self.write(rt, Report::Refused(byte(first))),
             b'f' => self.write(rt, Report::Failed(byte(first))),
@@ -148,8 +148,8 @@ impl Trial {
         second: usize,
         text: &[u8],
     ) -> io::Result<()> {
-        let (third, more) = number(text);
-        let (group, _) = number(more);
+        let (third, more) = leading_number(text);
+        let (group, _) = leading_number(more);
         match kind {
             b'r' => self.write(rt, Report::Ruled(first, second, third)),
             b's' => {
@@ -171,12 +171,12 @@ impl Trial {
         };
         let text = rest.get(1..).unwrap_or(&[]);
         if *kind == b'w' {
-            store_line(&mut self.table, text);
+            store_leading_line(&mut self.table, text);
             return;
         }
         let _ = print_line(rt, line);
         if *kind == b'b' {
-            self.size = number(text).0 as usize;
+            self.size = leading_number(text).0 as usize;
         }
         let _ = self.report(rt, *kind, text);
     }

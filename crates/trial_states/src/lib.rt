@@ -4,5 +4,5 @@
 mod parts;
 mod said;
 
-pub use parts::Part;
+pub use parts::{NoPart, Part};
 pub use said::Said;

@@ -21,7 +21,7 @@ use std::io::Read;
 use std::{array, io};
 use steps::Left;
 use trial_states::{Part, Said};
-use trial_text::{integer, number, store_line};
+use trial_text::{integer, leading_number, store_leading_line};
 
 // The bytes of standard input that are read.
 const INPUT: u64 = 65536;
@@ -118,7 +118,7 @@ impl Trial {
     // Takes the state that a step left, if the number after it says that it is handed on.
     fn go_on(&mut self, rt: &impl Print, after: Option<State>, text: &[u8]) -> io::Result<()> {
         if let Some(state) = after
-            && number(text).0 != 0
+            && leading_number(text).0 != 0
         {
             print_state(rt, &state)?;
             self.state = state;
@@ -137,18 +137,18 @@ impl Trial {
                 rt.write_all(line)?;
                 println!(rt)?;
             }
-            b'w' => store_line(&mut self.table, text),
-            b'f' => self.state = State::fresh(number(text).0),
-            b's' => self.state = Part::put_named(text, self.state),
+            b'w' => store_leading_line(&mut self.table, text),
+            b'f' => self.state = State::fresh(leading_number(text).0),
+            b's' => self.state = Part::put_read(text, self.state),
             b'e' => {
                 rt.write_all(line)?;
-                let (slots, text) = number(text);
+                let (slots, text) = leading_number(text);
                 let after = self.fire(rt, slots as usize)?;
                 self.go_on(rt, after, text)?;
             }
             b'j' => {
                 rt.write_all(line)?;
-                let (slots, text) = number(text);
+                let (slots, text) = leading_number(text);
                 let (to, text) = integer(text);
                 let after = self.jump(rt, slots as usize, to)?;
                 self.go_on(rt, after, text)?;

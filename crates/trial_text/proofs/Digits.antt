@@ -3,7 +3,7 @@ use Rattle.std.proofs.Common.{◌≡◌, ◌∙◌, arith, ℕ, suc, ◌+◌, �
 use Rattle.std.specs.List.{prefix_len}
 use Rattle.laws.specs.Choice.{pick}
 use Rattle.tokens.proofs.Laws.{decimal_min}
-use Rattle.tokens.specs.Classes.{is_digit, run, decimal}
+use Rattle.tokens.specs.Classes.{is_digit, decimal}
 
 abbrev pub greatest : ℕ
 greatest = 18446744073709551615

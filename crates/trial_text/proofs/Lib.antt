@@ -1,3 +1,4 @@
 -- What the proofs of functions use.
 pub mod Digits
+pub mod Words
 pub mod Storing

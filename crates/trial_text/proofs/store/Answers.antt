@@ -1,22 +1,61 @@
--- `trial_text::store` meets its contract. Assumes nothing.
-use Rattle.std.proofs.Common.{rules, tests, refl, sym, ◌∙◌, ◌≡◌, ◌<◌, length, ◌-◌, arith}
-use Rattle.trial_text.proofs.Storing.{stored_one, stored_full, stored_end}
+-- Each turn writes the number of the next word. Assumes nothing.
+use Rattle.std.proofs.Common.{◌+◌, ◌-◌, ◌∙◌, sym, ap, rules, arith, lit<, length, map, drop, set, refl}
+use Rattle.std.proofs.lemmas.List.{length_push, length-set}
+use Rattle.trial_text.proofs.Words.{natural_read}
+use Rattle.std.specs.Iterator.Adapters.{zip_first, zip_second}
+use Rattle.std.specs.Str.Iter.{split_text, split_has_more, split_pattern}
+use Rattle.std.proofs.lemmas.Iterator.{YieldsList-from_range, YieldsList-from_zip}
+use Rattle.std.proofs.lemmas.Iterator.Splits.{YieldsList-from_str_split}
+use Rattle.std.proofs.lemmas.Iterator.Consumers.{YieldsList-turn, YieldsList-end}
+use Rattle.trial_text.specs.Numbers.{words, natural, overwritten}
+use Rattle.trial_text.proofs.Storing.{Turn, turn, written, all_written}
 use Rattle.trial_text.proofs.store.Goals as goal
 
-pub loop-place-init : goal.loop-place-init
-loop-place-init c = refl
+this_turn : (c : goal.After-number) → Turn c.args.from (length c.args.numbers.now - c.args.from) (length c.loop-place.yielded) (words c.args.text.now) c.in-Some.place c.in-Some.word.now
+this_turn c =
+    let at = c.into_iter-place-iterator.ensures.into_iter_gives in
+    let second = c.zip-place-items.ensures.second in
+    let n = length c.args.numbers.now - c.args.from in
+    let places = YieldsList-from_range c.args.from (length c.args.numbers.now) n (ap zip_first at ∙ c.zip-place-items.ensures.first) refl in
+    let text = ap (λ z. split_text (zip_second z)) at ∙ ap split_text second ∙ c.split.ensures.text in
+    let has_more = ap (λ z. split_has_more (zip_second z)) at ∙ ap split_has_more second ∙ c.split.ensures.has_more in
+    let pattern = ap (λ z. split_pattern (zip_second z)) at ∙ ap split_pattern second ∙ c.split.ensures.pattern in
+    let chain = YieldsList-from_zip places (YieldsList-from_str_split 32 c.args.text.now (lit< tt) text has_more pattern) in
+    let got = YieldsList-turn chain c.loop-place.yielded _ c.loop-place.yielded_by _ c.next.new.self (c.in-Some.place, c.in-Some.word) c.in-Some.is c.next.ensures.steps in
+    turn c.args.from n (length c.loop-place.yielded) (words c.args.text.now) (c.in-Some.place, c.in-Some.word.now) got.0 got.1
+
+pub bounds-numbers-place : goal.bounds-numbers-place
+bounds-numbers-place c = let t = this_turn c in omega (arith, t.at, t.room)
+
+pub offset_bounds-numbers-place : goal.offset_bounds-numbers-place
+offset_bounds-numbers-place c = let t = this_turn c in search rules
 
 pub loop-place-preserved : goal.loop-place-preserved
 loop-place-preserved c =
-    let more = c.loop-place.more.now in
-    let is : 0 < length more = search (rules, tests, arith) in
-    rw c.number-n.ensures.number (rw c.number-n.ensures.behind (stored_one (length c.args.numbers.now) c.loop-place.place more c.loop-place.numbers c.loop-place-test.true is ∙ c.loop-place.invariant))
+    let t = this_turn c in
+    let k = length c.loop-place.yielded in
+    let ws = words c.args.text.now in
+    let numbers = c.loop-place.numbers in
+    let read = c.number.ensures in
+    let m = natural_read 64 c.in-Some.word.now read.0 c.number.result read.1.0 read.2 in
+    let step = written c.args.from (length c.args.numbers.now - c.args.from) k ws c.in-Some.place c.in-Some.word.now numbers c.number.result t m in
+    let one = length_push c.loop-place.yielded (c.in-Some.place, c.in-Some.word) in
+    record {
+      can = (tt, tt);
+      ends = tt;
+      size = length-set numbers c.in-Some.place c.number.result ∙ c.loop-place.invariant.size;
+      rest = ap (λ j. overwritten (c.args.from + j) (drop j (map (natural 64) ws)) (set numbers c.in-Some.place c.number.result)) one ∙ step ∙ c.loop-place.invariant.rest;
+    }
 
-pub returns-after-loop-place : goal.returns-after-loop-place
-returns-after-loop-place c = sym (stored_full _ c.loop-place.place c.loop-place.more.now c.loop-place.numbers (c.loop-place-test.false)) ∙ c.loop-place.invariant
-
-pub returns-then-is_empty : goal.returns-then-is_empty
-returns-then-is_empty c =
-    let more = c.loop-place.more.now in
-    let none : length more ≡ 0 = search (rules, tests, arith) in
-    sym (stored_end (length c.args.numbers.now - c.loop-place.place) c.loop-place.place more c.loop-place.numbers none) ∙ c.loop-place.invariant
+pub returns : goal.returns
+returns c =
+    let at = c.into_iter-place-iterator.ensures.into_iter_gives in
+    let second = c.zip-place-items.ensures.second in
+    let n = length c.args.numbers.now - c.args.from in
+    let places = YieldsList-from_range c.args.from (length c.args.numbers.now) n (ap zip_first at ∙ c.zip-place-items.ensures.first) refl in
+    let text = ap (λ z. split_text (zip_second z)) at ∙ ap split_text second ∙ c.split.ensures.text in
+    let has_more = ap (λ z. split_has_more (zip_second z)) at ∙ ap split_has_more second ∙ c.split.ensures.has_more in
+    let pattern = ap (λ z. split_pattern (zip_second z)) at ∙ ap split_pattern second ∙ c.split.ensures.pattern in
+    let chain = YieldsList-from_zip places (YieldsList-from_str_split 32 c.args.text.now (lit< tt) text has_more pattern) in
+    let got = YieldsList-end chain c.loop-place.yielded _ c.loop-place.yielded_by _ c.next.new.self c.in-None.is c.next.ensures.steps in
+    sym (all_written c.args.from n (length c.loop-place.yielded) (words c.args.text.now) c.loop-place.numbers got.1 (omega (arith, c.loop-place.invariant.size))) ∙ c.loop-place.invariant.rest

@@ -2,7 +2,7 @@
 use mathlib.Core.Path.{refl, sym, ◌∙◌}
 use native.Mathlib.Omega.{arith}
 use Rattle.printing.proofs.Puts.{kept}
-use Rattle.results.proofs.Turns.{ready_at, start, next_room, part_room, turn, turn_none, all_put}
+use Rattle.results.proofs.Turns.{ready_at, start, next_room, part_room, turn_lent, turn_none, all_put}
 use Rattle.results.proofs.many.Coded.put_lines.Goals.{in-Some, in_default}
 use Rattle.results.proofs.many.Coded.put_lines.Goals as goal
 
@@ -29,7 +29,7 @@ pub loop-i-preserved : goal.loop-i-preserved
 loop-i-preserved c =
     let g = c.loop-i.invariant in
     let l = c.loop-i-test.true in
-    elim c.match-report_at.branch [ in-Some w ↦ (rw (w.used-is, w.buffer-is) (turn g c.requires.room l (sym w.in-Some.is ∙ c.report_at.ensures) w.write_line-used.ensures)) | in_default w ↦ (rw (w.used-is, w.buffer-is) (turn_none g l (sym w.in_default.is ∙ c.report_at.ensures))) ]
+    elim c.match-report_at.branch [ in-Some w ↦ (rw (w.used-is, w.buffer-is) (turn_lent g c.requires.room l (sym w.in-Some.is ∙ c.report_at.ensures) w.write_line-used.ensures)) | in_default w ↦ (rw (w.used-is, w.buffer-is) (turn_none g l (sym w.in_default.is ∙ c.report_at.ensures))) ]
 
 pub returns : goal.returns
 returns c = all_put c.loop-i.invariant c.loop-i-test.false
