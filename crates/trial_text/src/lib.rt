@@ -1,9 +1,9 @@
 //! What the trials have alike: the numbers that a line of a case says, numbers stored in a table, and whether a buffer of dots is as it
 //! was.
 //!
-//! A line may be read in two ways. As a text, its words stand between its spaces, and each is a number or stands for 0: `number`, `number_at`,
-//! `first_word`, `store`, `store_line`. As any bytes, as the trials read it, a number is digits and the byte behind them, whatever that is;
-//! where no digit stands it is 0: `leading_number`, `integer`, `leading_word`, `store_leading`, `store_leading_line`.
+//! A line may be read in two ways. In a text words stand between spaces, and each is a number or stands for 0: `number`, `number_at`,
+//! `first_word`, `store`, `store_line`. In any bytes, which is what the trials read, a number is digits and the byte behind them, whatever
+//! that is, and 0 where no digit stands: `leading_number`, `integer`, `leading_word`, `store_leading`, `store_leading_line`.
 #![tactic(auto)]
 
 ghost use Rattle.std.specs.Prelude.{◌≡◌, ◌↔◌, ◌-◌, ◌+◌, ◌*◌, ◌^◌, IsTrue, MatchOption, min, nat_eq, length, drop, map, slice_get, codes};
